@@ -2,7 +2,7 @@
 use Rattle.ag_value.specs.declared.value.Value.{Value, Fault, List, Num, Table, Text}
 use Rattle.ag_carried.specs.declared.carried.Form.{Form}
 
--- the value
+-- the value that is stored in a form
 abbrev pub form_value : Form → Value
 form_value (Form.Number n) = Num n
 form_value (Form.Fault code) = Fault code

@@ -5,7 +5,7 @@ use Rattle.ag_value.specs.declared.value.Value.{Table, Text}
 use Rattle.ag_value.specs.declared.value.Value.{List as ListValue}
 use Rattle.ag_carried.specs.declared.encoded.Source.{Source}
 
--- the encoding of the value
+-- the encoding of the value that a source stores
 abbrev pub source_encoding : Source → List ℕ
 source_encoding (Source.Spelled shared) = spelling_of shared.value
 source_encoding (Source.Text text) = spelling_of (Text text)

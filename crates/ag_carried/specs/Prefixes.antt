@@ -4,7 +4,7 @@ use Rattle.ag_value.specs.Spelling.{spelling_of}
 use Rattle.ag_value.specs.Well.{IsWell}
 use Rattle.ag_value.specs.declared.value.Value.{Value}
 
--- the first bytes of an input, as many as this length says, are the encoding of a well value
+-- the first `len` bytes of `input` are the encoding of `value`, which is well
 pub record IsPrefix (value : Value) (input : List ℕ) (len : ℕ) : Type 0 where
   pub within : len ≤ length input
   pub encoded : take len input ≡ spelling_of value

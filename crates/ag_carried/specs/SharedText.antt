@@ -3,7 +3,7 @@ use Rattle.std.specs.Prelude.{◌≡◌, ◌≤◌, ◌+◌, ℕ, List, length, 
 use Rattle.std.specs.Str.{is_utf8}
 use Rattle.ag_value.specs.Measure.{max_weight}
 
--- a text within the limits: UTF-8, and not too long for the five bytes before it in its encoding
+-- a text within the limits: UTF-8, and with an encoding of at most `max_weight` bytes (five bytes and the text)
 pub record IsTextWithinLimits (bytes : List ℕ) : Type 0 where
   pub utf8 : is_utf8 bytes ≡ true
   pub short : 5 + length bytes ≤ max_weight

@@ -23,8 +23,8 @@ use std::mem::replace;
 use std::rc::Rc;
 use table_tree::TableTree;
 
-/// The greatest weight, in bytes, of a `Value` that is stored without its encoding. A heavier one takes
-/// one more allocation.
+/// The greatest weight, in bytes, of a `Value` that is stored without its encoding. A heavier one
+/// takes one more allocation.
 const MAX_SMALL_WEIGHT: u64 = 24;
 
 /// The greatest length in bytes of a text that is not weighed, since it is always small.
@@ -50,8 +50,8 @@ enum Form {
 }
 
 /// A value that is passed from node to node. Contracts see the value. Numbers and errors are stored
-/// inline, and every other value is shared by its owners: `share` neither copies nor walks it. A large
-/// value is stored beside its encoding, so `encode` copies bytes. A `Carried` has 24 bytes.
+/// inline, and every other value is shared by its owners: `share` neither copies nor walks it. A
+/// large value is stored beside its encoding, so `encode` copies bytes. A `Carried` has 24 bytes.
 #[derive(Debug, Drop)]
 pub struct Carried {
     form: Form,
@@ -71,8 +71,8 @@ impl Model for Carried {
     ghost view = { λ c. form_value c.form };
 }
 
-/// Returns whether a value is small and need not be weighed: a number, an error, a short text, an empty
-/// list or table.
+/// Returns whether a value is small and need not be weighed: a number, an error, a text of at most
+/// `MAX_SMALL_TEXT` bytes, an empty list or table.
 fn is_light(value: &Value) -> bool {
     match value {
         Value::Num(_) => true,
@@ -137,7 +137,7 @@ fn shared_value(alloc: Global, spelled: Spelled) -> Result<Carried, NoMemory>
     })
 }
 
-/// Returns a value as a carried one, as `Carried::new` does. Not inlined. Fails with NoMemory.
+/// Returns a value as a carried one, as `Carried::new` does. Fails with NoMemory.
 #[inline(never)]
 fn store(alloc: Global, value: Value) -> Result<Carried, NoMemory>
     requires { IsWell value }
@@ -150,8 +150,8 @@ fn store(alloc: Global, value: Value) -> Result<Carried, NoMemory>
     store_by_weight(alloc, value, weight)
 }
 
-/// Returns a value as a carried one, stored beside its encoding or not, as `weight` decides. Fails with
-/// NoMemory.
+/// Returns a value as a carried one, stored beside its encoding if `weight` exceeds
+/// `MAX_SMALL_WEIGHT`. Fails with NoMemory.
 fn store_by_weight(alloc: Global, value: Value, weight: u64) -> Result<Carried, NoMemory>
     requires { IsWell value }
     ensures { IfOk result (λ c. c ≡ value) }
@@ -189,8 +189,8 @@ impl Carried {
         }
     }
 
-    /// Returns a well value as a carried one. Takes memory unless it is a number or an error, and encodes
-    /// a large one. Fails with NoMemory.
+    /// Returns a well value as a carried one. Takes memory unless it is a number or an error, and
+    /// encodes a large one. Fails with NoMemory.
     #[inline(always)]
     pub fn new(alloc: Global, value: Value) -> Result<Carried, NoMemory>
         requires { IsWell value }
@@ -203,7 +203,8 @@ impl Carried {
         }
     }
 
-    /// Returns a well value whose weight is known, as `new` does.
+    /// Returns a well value as a carried one, as `new` does, but does not weigh it: `weight` is its
+    /// weight in bytes. Fails with NoMemory.
     pub fn with_weight(alloc: Global, value: Value, weight: u64) -> Result<Carried, NoMemory>
         requires well { IsWell value }
         requires weight { weight ≡ weight_of value }
@@ -272,8 +273,8 @@ impl Carried {
         }
     }
 
-    /// Returns the value, or `None` if it is a number, an error, a shared text or a tree, which are not
-    /// stored as a `Value`; `to_value` returns those.
+    /// Returns the value, or `None` if it is a number, an error, a shared text or a tree, which are
+    /// not stored as a `Value`; `to_value` returns those.
     #[inline(always)]
     pub fn as_value(&self) -> Option<&Value>
         ensures { IfSome result (λ v. v.now ≡ self.now) }
@@ -286,7 +287,8 @@ impl Carried {
         }
     }
 
-    /// Returns the number, or `None` for a value of another kind.
+    /// Returns the number, or `None` for a value of another kind. Looks also at a stored `Value`:
+    /// no invariant says that a number is always stored as `Form::Number`.
     #[inline(always)]
     pub fn as_number(&self) -> Option<i64>
         ensures { MatchOption result ((n : ℤ) → self.now ≡ Num n → ⊥) (λ n. self.now ≡ Num n) }
@@ -297,7 +299,7 @@ impl Carried {
         }
     }
 
-    /// Returns the number, as `as_number` does. Not inlined.
+    /// Returns the number, as `as_number` does.
     #[inline(never)]
     fn number_in_value(&self) -> Option<i64>
         ensures { MatchOption result ((n : ℤ) → self.now ≡ Num n → ⊥) (λ n. self.now ≡ Num n) }
@@ -310,7 +312,8 @@ impl Carried {
         }
     }
 
-    /// Returns the error, or `None` for a value of another kind.
+    /// Returns the error, or `None` for a value of another kind. Looks also at a stored `Value`, as
+    /// `as_number` does.
     #[inline(always)]
     pub fn as_fault(&self) -> Option<ErrorCode>
         ensures { MatchOption result ((e : ErrorCode) → self.now ≡ Fault e → ⊥) (λ e. self.now ≡ Fault e) }
@@ -323,7 +326,8 @@ impl Carried {
         }
     }
 
-    /// Replaces the value by a number: a number is overwritten in one step.
+    /// Replaces the value by a number. Overwrites the old value if it is a number, and drops it
+    /// otherwise.
     #[inline(always)]
     pub fn set_number(&mut self, number: i64)
         ensures { self.new ≡ Num number }
@@ -344,8 +348,8 @@ impl Carried {
         }
     }
 
-    /// Returns the same value for one more owner. Takes no memory. Fails with NoMemory if the value has
-    /// 2^64 - 1 owners.
+    /// Returns the same value for one more owner. Takes no memory, and does not use the allocator.
+    /// Fails with NoMemory if the value has 2^64 - 1 owners.
     #[inline(always)]
     pub fn share(&self, _alloc: Global) -> Result<Carried, NoMemory>
         ensures { IfOk result (λ c. c ≡ self.now) }
@@ -357,7 +361,7 @@ impl Carried {
         }
     }
 
-    /// Returns the same value for one more owner, as `share` does. Not inlined.
+    /// Returns the same value for one more owner, as `share` does.
     #[inline(never)]
     fn share_any(&self) -> Result<Carried, NoMemory>
         ensures { IfOk result (λ c. c ≡ self.now) }
@@ -383,8 +387,8 @@ impl Carried {
         }
     }
 
-    /// Returns whether the value is a large one, a shared text or a tree. If it is, `encoded` returns the
-    /// encoding.
+    /// Returns whether the value is a large one, a shared text or a tree. If it is, `encoded`
+    /// returns the encoding.
     #[inline(always)]
     pub fn is_shared(&self) -> bool {
         matches!(
@@ -393,8 +397,9 @@ impl Carried {
         )
     }
 
-    /// Returns the encoding of a large value, of a shared text or of a tree, for one more owner, or `None`
-    /// for another value. Takes no memory, and fails with NoMemory if the value has 2^64 - 1 owners.
+    /// Returns the encoding of a large value, of a shared text or of a tree, for one more owner, or
+    /// `None` for another value. Takes no memory, and fails with NoMemory if the value has 2^64 - 1
+    /// owners.
     #[inline(always)]
     pub fn encoded(&self) -> Result<Option<Encoded>, NoMemory>
         ensures { IfOk result (λ found. IfSome found (λ e. e ≡ spelling_of self.now)) }
@@ -423,8 +428,8 @@ impl Carried {
         }
     }
 
-    /// Returns the value. Takes memory, for a copy, only if the value has other owners, is a shared text
-    /// or is a tree. Fails with NoMemory.
+    /// Returns the value. Takes memory, for a copy, only if the value has other owners, is a shared
+    /// text or is a tree. Fails with NoMemory.
     pub fn into_value(self, alloc: Global) -> Result<Value, NoMemory>
         ensures { IfOk result (λ v. v ≡ self) }
     {
@@ -457,7 +462,7 @@ impl Carried {
         self.same_of_any_kind(other)
     }
 
-    /// Returns whether two values are equal, as `same` does. Not inlined.
+    /// Returns whether two values are equal, as `same` does.
     #[inline(never)]
     fn same_of_any_kind(&self, other: &Carried) -> bool
         ensures { IsTrue result ↔ (self.now ≡ other.now) }
@@ -551,8 +556,8 @@ impl Carried {
         Ok((with_encoding(alloc, value, &input[..len])?, len))
     }
 
-    /// Reads a value as `read` does. If the input begins with the encoding of `self`, and `self` is a large
-    /// value, a text or a tree, returns `self` for one more owner, and decodes nothing.
+    /// Reads a value as `read` does. If the input begins with the encoding of `self`, and `self` is
+    /// a large value, a text or a tree, returns `self` for one more owner, and decodes nothing.
     #[tactic(auto, using(crate::proofs::Encodings::encodings))]
     pub fn read_beside(&self, alloc: Global, input: &[u8]) -> Result<(Carried, usize), ValueFault>
         ensures well { IfOk result (λ found. IsWell found.0) }
@@ -570,8 +575,8 @@ impl Carried {
         }
     }
 
-    /// Returns the length of the encoding in bytes, if the value is a large one, a text or a tree, and the
-    /// input begins with its encoding. Takes no memory.
+    /// Returns the length of the encoding in bytes, if the value is a large one, a text or a tree,
+    /// and the input begins with its encoding, and otherwise `None`. Takes no memory.
     fn prefix_of(&self, input: &[u8]) -> Option<usize>
         ensures { IfSome result (IsPrefix self.now input.now) }
     {
@@ -586,8 +591,9 @@ impl Carried {
     }
 }
 
-/// Returns the length of the encoding of a short text in bytes, if the input begins with it. Returns `None`
-/// for any other value. Takes no memory.
+/// Returns the length in bytes of the encoding of a value, if it is a text of at most
+/// `MAX_FLAT_TEXT` bytes and the input begins with its encoding, and otherwise `None`. Takes no
+/// memory.
 fn prefix_of_small(value: &Value, input: &[u8]) -> Option<usize>
     ensures { IfSome result (IsPrefix value.now input.now) }
 {

@@ -22,7 +22,7 @@ use table_tree::TableTree;
 enum Source {
     /// A large value, which is stored beside its encoding.
     Spelled(Rc<Spelled>),
-    /// A shared text. The bytes of the encoding before it are computed from its length.
+    /// A shared text. The five bytes before the text in its encoding are computed from its length.
     Text(SharedText),
     /// A table that is a tree, whose pairs are stored beside their encodings.
     Table(TableTree),
@@ -30,8 +30,8 @@ enum Source {
     List(ListTree),
 }
 
-/// The encoding of a large value, a shared text or a tree. An `Encoded` is one more owner of that value.
-/// Contracts see the bytes.
+/// The encoding of a large value, a shared text or a tree. An `Encoded` is one more owner of that
+/// value. Contracts see the bytes.
 #[derive(Debug, Drop)]
 pub struct Encoded {
     source: Source,
@@ -117,8 +117,8 @@ impl Encoded {
         }
     }
 
-    /// Appends a copy of the bytes to a vector. Fails with AllocError if memory runs out; the vector
-    /// is then unchanged.
+    /// Appends a copy of the bytes to a vector. Fails with AllocError if memory runs out; the
+    /// vector is then unchanged.
     pub fn append_to(&self, out: &mut Vec<u8>) -> Result<(), AllocError>
         ensures ok { OnOk result (out.new.items ≡ out.old.items ++ self.now) }
         ensures err { OnErr result (out.new.items ≡ out.old.items) }
@@ -167,22 +167,22 @@ impl Encoded {
     {
         match &self.source {
             Source::Spelled(spelled) => {
-                // for the prover: the value is well
+                // This call shows the prover that the value is well, as the clause `well` says.
                 let _well = spelled.value();
                 Ok(Carried::of_spelled(spelled.clone()?))
             }
             Source::Text(text) => {
-                // for the prover: the text is well
+                // The same for the text.
                 let _well = text.len();
                 Ok(Carried::from_text(text.share()?))
             }
             Source::Table(table) => {
-                // for the prover: the table is well
+                // The same for the table.
                 let _well = table.weight();
                 Ok(Carried::from_table(table.share()?))
             }
             Source::List(list) => {
-                // for the prover: the list is well
+                // The same for the list.
                 let _well = list.weight();
                 Ok(Carried::from_list(list.share()?))
             }

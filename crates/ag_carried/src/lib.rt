@@ -1,5 +1,5 @@
-//! Attribute values that are passed from node to node: owners share values, and the encodings of large
-//! ones.
+//! Attribute values that are passed from node to node: owners share values, and the encodings of
+//! large ones.
 #![tactic(auto)]
 
 mod carried;

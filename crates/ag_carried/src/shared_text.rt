@@ -14,7 +14,8 @@ use rope::Rope;
 use std::alloc::{AllocError, Global};
 use std::marker::Model;
 
-/// The greatest length in bytes of a text that `++` makes flat. A longer one is a `SharedText`.
+/// The greatest length in bytes of a text that `++` (the operator of expressions) is to make flat,
+/// that is, in one string. It is to make a longer one a `SharedText`.
 pub const MAX_FLAT_TEXT: usize = 256;
 
 /// The number of bytes before those of a text in its encoding: the kind and the length.
@@ -23,8 +24,8 @@ const HEADER_LENGTH: usize = 5;
 /// The greatest length in bytes of a text within the limits.
 const MAX_LENGTH: usize = MAX_WEIGHT as usize - HEADER_LENGTH;
 
-/// A well text that may have several owners, and whose pieces other texts may share. Contracts see the
-/// bytes.
+/// A well text that may have several owners, and whose pieces other texts may share. Contracts see
+/// the bytes.
 #[derive(Debug, Drop)]
 pub struct SharedText {
     rope: Rope,
@@ -42,8 +43,8 @@ impl Model for SharedText {
 }
 
 impl SharedText {
-    /// Makes a shared text of one piece from a well text. The bytes of a text of more than 16 bytes are
-    /// moved and not copied. Fails with NoMemory.
+    /// Makes a shared text of one piece from a well text. The bytes of a text of more than 16 bytes
+    /// are moved and not copied. Fails with NoMemory.
     pub fn new(alloc: Global, text: Text) -> Result<SharedText, NoMemory>
         requires { IsWell (TextValue text) }
         ensures { IfOk result (λ shared. shared ≡ text) }
@@ -121,7 +122,8 @@ impl SharedText {
         }
     }
 
-    /// Returns the bytes of the encoding that come before those of the text.
+    /// Returns the bytes of the encoding that come before those of the text: 1, the kind of a text,
+    /// and the number of the text's bytes, big-endian.
     #[tactic(auto, using(crate::proofs::Texts::header_is))]
     fn header(&self) -> [u8; HEADER_LENGTH]
         ensures { spelling_of (TextValue self.now) ≡ result ++ self.now }
@@ -169,7 +171,8 @@ impl SharedText {
         Ok(())
     }
 
-    /// Returns the length of the encoding in bytes, if the input begins with it. Takes no memory.
+    /// Returns the length in bytes of the encoding, if the input begins with this encoding, and
+    /// otherwise `None`. Takes no memory.
     pub(crate) fn prefix_of(&self, input: &[u8]) -> Option<usize>
         ensures { IfSome result (IsPrefix (TextValue self.now) input.now) }
     {
@@ -186,7 +189,8 @@ impl SharedText {
     }
 }
 
-/// Returns the bytes that come before those of the text in the encoding of a short text.
+/// Returns the bytes that come before those of the text in the encoding of a text of at most
+/// `MAX_FLAT_TEXT` bytes, as `SharedText::header` does.
 #[tactic(auto, using(crate::proofs::Texts::header_is))]
 fn header_of(text: &str) -> [u8; HEADER_LENGTH]
     requires { length text.now ≤ 256 }
@@ -196,7 +200,7 @@ fn header_of(text: &str) -> [u8; HEADER_LENGTH]
     [1, len[0], len[1], len[2], len[3]]
 }
 
-/// Returns whether a text has at most `MAX_FLAT_TEXT` bytes. Such a text is within the limits.
+/// Returns whether a text has at most `MAX_FLAT_TEXT` bytes. Such a text is well.
 fn is_flat(text: &str) -> bool
     ensures len { IsTrue result → length text.now ≤ 256 }
     ensures well { IsTrue result → IsWell (TextValue text.now) }
@@ -204,7 +208,7 @@ fn is_flat(text: &str) -> bool
     text.len() <= MAX_FLAT_TEXT
 }
 
-/// Returns whether the input begins with the encoding of a short text.
+/// Returns whether the input begins with the encoding of a text of at most `MAX_FLAT_TEXT` bytes.
 fn begins_with(input: &[u8], text: &str) -> bool
     requires { length text.now ≤ 256 }
     ensures within { IsTrue result → 5 + length text.now ≤ length input.now }
@@ -220,8 +224,8 @@ fn begins_with(input: &[u8], text: &str) -> bool
     prefix == &header[..] && rest == text.as_bytes()
 }
 
-/// Returns the length of the encoding of a text in bytes, if the text has at most `MAX_FLAT_TEXT` bytes and
-/// the input begins with its encoding. Takes no memory.
+/// Returns the length in bytes of the encoding of a text, if the text has at most `MAX_FLAT_TEXT`
+/// bytes and the input begins with its encoding, and otherwise `None`. Takes no memory.
 pub(crate) fn prefix_of_text(text: &str, input: &[u8]) -> Option<usize>
     ensures { IfSome result (IsPrefix (TextValue text.now) input.now) }
 {

@@ -32,8 +32,8 @@ impl Model for Spelled {
 }
 
 impl Spelled {
-    /// Encodes a value. `weight` is the number of bytes that is reserved for the encoding; the result
-    /// is right for any number. Fails with NoMemory.
+    /// Encodes a value. `weight` is the number of bytes that is reserved for the encoding; the
+    /// result is right for any number. Fails with NoMemory.
     pub fn new(alloc: Global, value: Value, weight: u64) -> Result<Spelled, NoMemory>
         requires { IsWell value }
         ensures { IfOk result (λ s. s ≡ value) }
@@ -85,7 +85,8 @@ impl Spelled {
         self.bytes.as_slice() == other.bytes.as_slice()
     }
 
-    /// Returns the length of the encoding in bytes, if the input begins with it.
+    /// Returns the length in bytes of the encoding, if the input begins with this encoding, and
+    /// otherwise `None`.
     pub fn prefix_of(&self, input: &[u8]) -> Option<usize>
         ensures { IfSome result (IsPrefix self.now input.now) }
     {

@@ -1,4 +1,5 @@
-//! Tables and lists that are trees: versions share their nodes.
+//! Tables and lists that are trees: from which size on they are to be made, and whether an input
+//! begins with the encoding of one.
 
 ghost use Rattle.std.specs.Prelude.{IfSome};
 ghost use Rattle.ag_value.specs.declared.value.Value.{List as ListValue, Table as TableValue};
@@ -7,14 +8,16 @@ ghost use Rattle.ag_carried.specs.Prefixes.{IsPrefix};
 use list_tree::ListTree;
 use table_tree::TableTree;
 
-/// The greatest number of pairs of a flat table that `put` leaves flat. Of a larger one `put` makes a
-/// tree.
+/// The greatest number of pairs of a flat table (a `Value`) that `put`, the function of
+/// expressions, is to leave flat. Of a larger one `put` is to make a tree.
 pub const MAX_FLAT_TABLE: usize = 16;
 
-/// The greatest number of items of a list that `append` or `++` makes flat. A longer one is a tree.
+/// The greatest number of items of a list that `append` or `++` of expressions is to make flat (as
+/// a `Value`). It is to make a longer one a tree.
 pub const MAX_FLAT_LIST: usize = 16;
 
-/// Returns the length of a table's encoding in bytes, if the input begins with it. Takes no memory.
+/// Returns the length in bytes of a table's encoding, if the input begins with this encoding, and
+/// otherwise `None`. Takes no memory.
 pub(crate) fn prefix_of_table(table: &TableTree, input: &[u8]) -> Option<usize>
     ensures { IfSome result (IsPrefix (TableValue table.now) input.now) }
 {
@@ -25,7 +28,8 @@ pub(crate) fn prefix_of_table(table: &TableTree, input: &[u8]) -> Option<usize>
     None
 }
 
-/// Returns the length of a list's encoding in bytes, if the input begins with it. Takes no memory.
+/// Returns the length in bytes of a list's encoding, if the input begins with this encoding, and
+/// otherwise `None`. Takes no memory.
 pub(crate) fn prefix_of_list(list: &ListTree, input: &[u8]) -> Option<usize>
     ensures { IfSome result (IsPrefix (ListValue list.now) input.now) }
 {

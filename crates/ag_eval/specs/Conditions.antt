@@ -5,7 +5,7 @@ use Rattle.ag_value.specs.declared.value.ErrorCode.TheVariants.{Kind}
 use Rattle.ag_value.specs.declared.value.Value.{Value, out-Value}
 use Rattle.ag_value.specs.declared.value.Value.TheOpen.{Value-F}
 
--- a number decides by whether it is not 0; an error fails with that error, and any other value with the error `kind`
+-- a number decides true unless it is 0; an error fails with that error, and any other value with the error `kind`
 abbrev pub decision_at : Value-F Value → Result Bool ErrorCode
 decision_at (Value-F.Num (pos zero)) = Ok false
 decision_at (Value-F.Num (pos (suc n))) = Ok true
@@ -13,5 +13,6 @@ decision_at (Value-F.Num (negsuc n)) = Ok true
 decision_at (Value-F.Fault code) = Err code
 decision_at c = Err Kind
 
+-- the decision of a value as a condition, as above
 abbrev pub decision : Value → Result Bool ErrorCode
 decision c = decision_at (out-Value c)

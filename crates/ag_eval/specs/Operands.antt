@@ -65,7 +65,7 @@ abbrev pub operand_value : List Value → Operand → Value
 operand_value bound (operand.Held h) = held_value h
 operand_value bound (operand.Bound k) = bound_value (slice_get bound k)
 
--- the value of an operand is that of a function for the values of two others
+-- the value of the operand `result` is that of the function f for the values of the operands `first` and `second`
 abbrev pub Gives : List Value → (Value → Value → Value) → (first second : Operand) → Operand → Type 0
 Gives bound f first second result = operand_value bound result ≡ f (operand_value bound first) (operand_value bound second)
 
@@ -74,7 +74,7 @@ abbrev pub IsIn : List Value → Operand → Type 0
 IsIn bound (operand.Held h) = Unit {0}
 IsIn bound (operand.Bound k) = k < length bound
 
--- in every item of a list the number of every occurrence is below n, and that of every bound name below the
--- number of bindings around it
+-- in every item of a list around which `bound` names are bound, the number of each occurrence is below n, and the number of each
+-- bound name is below the number of names that are bound around it
 abbrev pub each_within : ℕ → ℕ → List Node → Bool
 each_within n bound items = each_holds bound (map (is_within n) items)

@@ -27,7 +27,8 @@ use std::alloc::Global;
 
 impl<'e, V: Lender> Evaluation<'e, V> {
     /// Computes the value of an operator for the value so far and the next operand, if both are
-    /// scalars and the next one is available without making an operand.
+    /// scalars and the next one is available without making an operand. Returns `None` otherwise,
+    /// and for `++` of two numbers.
     #[inline(always)]
     pub fn next_scalar(
         &self,
@@ -49,7 +50,8 @@ impl<'e, V: Lender> Evaluation<'e, V> {
     }
 
     /// Computes the value of a literal, an occurrence, a bound name or a chain of these, if each of
-    /// them is a scalar, without making operands. Takes no memory.
+    /// them is a scalar, without making operands. Returns `None` otherwise, and for `++` of two
+    /// numbers. Takes no memory.
     #[cycle(scalars)]
     #[inline(always)]
     pub fn scalar(&self, node: &Node, bindings: &Bindings<'_>) -> Option<Scalar>
@@ -63,7 +65,8 @@ impl<'e, V: Lender> Evaluation<'e, V> {
         self.leaf_scalar(node, bindings)
     }
 
-    /// Computes the value of a chain of scalars. Returns `None` for another node.
+    /// Computes the value of a chain of scalars. Returns `None` for another node, and for `++` of
+    /// two numbers.
     #[cycle(scalars)]
     #[tactic(auto, using(ag_grammar::proofs::expressions::Trees::parts))]
     fn scalar_of_chain(&self, node: &Node, bindings: &Bindings<'_>) -> Option<Scalar>

@@ -38,7 +38,7 @@ impl<'e> Bindings<'e> {
         }
     }
 
-    /// Lends the value of the binding with this number.
+    /// Lends the value of the binding with this number. The outermost one has the number 0.
     pub fn get(&self, k: usize) -> &Held<'e>
         requires { k < length self.now }
         ensures { slice_get self.now k ≡ Some (held_value result.now) }

@@ -1,5 +1,5 @@
-//! The table of the builtins: the value of each operator and call for operands, lent if possible. The
-//! functions that return a `Result` fail with `NoMemory` if memory is refused.
+//! Applies operators and calls to operands. The value is lent if possible. The functions that
+//! return a `Result` fail with `NoMemory` if memory is refused.
 
 ghost use Rattle.std.specs.Prelude.{◌≡◌, ◌≢◌, ◌∷◌, [], IfOk, IfSome, None};
 ghost use Rattle.ag_value.specs.Well.{IsWell};
@@ -172,7 +172,8 @@ fn apply_to_numbers(operator: Operator, m: i64, n: i64) -> Option<Scalar>
     }
 }
 
-/// Computes the value of a call of one operand. Takes memory for a value that it makes.
+/// Computes the value of a call of one operand. Takes memory for a value that it makes, and
+/// `number` for a copy of a shared text.
 pub fn call_unary<'e>(
     alloc: Global,
     call: UnaryCall,
@@ -379,7 +380,8 @@ fn reading_result<'a>(
     }
 }
 
-/// Computes the value of such a call whose first argument is a table that is a tree.
+/// Computes the value of `nth`, `join`, `get` or `has`, whose first argument is a table that is a
+/// tree.
 fn read_table<'a>(call: BinaryCall, table: &'a TableTree, second: &Value) -> Held<'a>
     requires no_append { call ≢ BinaryCall.Append }
     requires no_orelse { call ≢ BinaryCall.OrElse }
@@ -394,8 +396,8 @@ fn read_table<'a>(call: BinaryCall, table: &'a TableTree, second: &Value) -> Hel
     }
 }
 
-/// Computes the value of such a call whose first argument is a list that is a tree. Only `join` takes
-/// memory.
+/// Computes the value of `nth`, `join`, `get` or `has`, whose first argument is a list that is a
+/// tree. Only `join` takes memory.
 fn read_list<'a>(
     alloc: Global,
     call: BinaryCall,
@@ -418,7 +420,8 @@ fn read_list<'a>(
     }
 }
 
-/// Computes the value of such a call whose first argument is a plain value.
+/// Computes the value of `nth`, `join`, `get` or `has`, whose first argument is a plain value.
+/// Only `join` takes memory.
 fn read_plain<'a>(
     alloc: Global,
     call: BinaryCall,

@@ -24,13 +24,18 @@ use ag_grammar::Operator;
 use ag_value::{ErrorCode, MAX_WEIGHT, NoMemory};
 use std::alloc::Global;
 
-/// The greatest length of a text in bytes.
+/// The greatest length of a text in bytes. The encoding of a text has 5 bytes more than the text.
 const MAX_TEXT: usize = MAX_WEIGHT as usize - 5;
 
-/// Computes `a ++ b`, or the leftmost error of the two. A text of up to `MAX_FLAT_TEXT` bytes and a list
-/// of up to `MAX_FLAT_LIST` items are the first operand, copied if it is lent or bound, and extended by
-/// the second. A longer text shares the bytes of both operands, and a longer list their nodes. An operand
-/// that has no such form yet is moved into it, or copied if it is lent or bound.
+/// Computes `a ++ b`. The value is the leftmost error of the two operands, if one is an error; the
+/// error `kind` unless both are texts or both are lists; and the error `big` if the result is
+/// beyond the limit of weight.
+///
+/// To make a text of at most `MAX_FLAT_TEXT` bytes or a list of at most `MAX_FLAT_LIST` items, the
+/// first operand is extended by the second, and copied first if it is lent, bound, shared or a
+/// tree. A longer text shares the bytes of operands that are shared texts, and a longer list the
+/// nodes of operands that are trees. Any other operand is moved into such a text or tree, or copied
+/// if it is lent or bound.
 pub fn concatenate<'e>(
     alloc: Global,
     left: Operand<'e>,
@@ -94,7 +99,7 @@ fn flat_text<'e>(
     extend_text(alloc, left, bytes_of(right.get()))
 }
 
-/// Concatenates two operands that are not both texts.
+/// Concatenates two operands that are not both texts: the error `kind` unless both are lists.
 fn list_of_both<'e>(
     alloc: Global,
     left: Operand<'e>,
@@ -147,7 +152,8 @@ fn joined_count(left: &Operand<'_>, right: &Operand<'_>, bindings: &Bindings<'_>
     Some(first + second)
 }
 
-/// Extends the first operand by the contents of the second, unless both are texts.
+/// Extends the first of two operands that are not both texts by the contents of the second: the
+/// error `kind` unless both are lists.
 fn extended_list<'e>(
     alloc: Global,
     left: Operand<'e>,

@@ -92,8 +92,8 @@ impl<'e, V: Lender> Evaluation<'e, V> {
         self.env.loan(k).scalar()
     }
 
-    /// Returns the value of the occurrence with this number: lent, or shared if it is a shared text, or
-    /// a copy if it is a number or an error that is not stored as a `Value`.
+    /// Returns the value of the occurrence with this number. A shared text is shared, a number or
+    /// an error that is not stored as a `Value` is copied, and every other value is lent.
     #[inline(always)]
     fn held_occurrence(&self, k: usize) -> Result<Held<'e>, NoMemory>
         requires { k < length self.now.expr.now.1 }
@@ -298,7 +298,8 @@ impl<'e, V: Lender> Evaluation<'e, V> {
         Ok(operand.into_owned(self.alloc, &bindings)?.into_value())
     }
 
-    /// Returns the value of the expression as a carried one: that of an occurrence is shared.
+    /// Returns the value of the expression as a carried one. If it is the value of an occurrence,
+    /// it is shared.
     #[inline(never)]
     pub fn carried(&self) -> Result<Carried, NoMemory>
         ensures value { IfOk result (λ v. v
@@ -314,7 +315,8 @@ impl<'e, V: Lender> Evaluation<'e, V> {
     }
 }
 
-/// Returns whether the value of a call is that of its first argument, for any second one.
+/// Returns true only if the value of a call is that of its first argument, for any second one.
+/// Returns true for `orelse` if the first argument is not an error, and false otherwise.
 fn is_first_result(call: BinaryCall, first: &Operand<'_>, bindings: &Bindings<'_>) -> bool
     requires { IsIn bindings.now first.now }
     ensures { IsTrue result → (second : AttributeValue)
@@ -363,13 +365,19 @@ fn decided(condition: ValueRef<'_>) -> Result<bool, ErrorCode>
 /// each value that they compute. Fails with `NoMemory` if memory is refused. Requires that `env` lends a
 /// well value for each occurrence of the expression, and that the meter is not full.
 ///
-/// Takes memory for values that it makes, and for copies: of a value that is lent or bound, if it
-/// is the result, an item of a list or table, or extended; of the part that `nth` or `get` takes of
-/// a value that the expression made; and of a value that it made and bound, if another name is
-/// bound to it too. A text of more than 256 bytes that `++` makes shares the bytes of its operands. A
-/// table of more than 16 pairs that `put` extends becomes a tree, and a list of more than 16 items that
-/// `append` or `++` makes is one; trees share nodes. Such a text or tree is copied if it is the result or
-/// an item of a list or table, and by some operators and calls, as README.md says.
+/// Takes memory for values that it makes, and for copies. It copies:
+///
+/// - a value that the environment or the expression lends, if it is the result;
+/// - a value that is lent or bound, if it becomes an item of a list or table, or is extended;
+/// - the part that `nth` or `get` takes of a value that the expression made;
+/// - a value that the expression made and bound, if another name is bound to it too.
+///
+/// A text of more than 256 bytes that `++` makes shares the bytes of operands that are shared
+/// texts; other operands become shared texts, and are copied for that if they are lent or bound. A
+/// table of more than 16 pairs that `put` gets becomes a tree, and a list of more than 16 items
+/// that `append` or `++` makes is a tree. Trees share nodes. Such a text or tree is copied if it is
+/// the result or an item of a list or table, and by some operators and calls (README.md, "How large
+/// values are evaluated").
 #[inline(always)]
 pub fn eval<V: Environment>(
     alloc: Global,

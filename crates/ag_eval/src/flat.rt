@@ -1,5 +1,5 @@
 //! Flat expressions: literals, occurrences and chains of these. If each of them is a number or an
-//! error, the value is computed without an operand.
+//! error, and no `++` joins two numbers, the value is computed without an operand.
 
 ghost use Rattle.std.specs.Prelude.{◌≡◌, length, map, true, [], IfSome};
 ghost use Rattle.ag_eval.specs.Operands.{scalar_value};
@@ -14,7 +14,8 @@ use ag_grammar::{Node, Operator};
 use ag_value::Value;
 
 impl<'e, V: Lender> Evaluation<'e, V> {
-    /// Returns the value of a number literal, or of an occurrence that is a scalar.
+    /// Returns the value of a number literal, or of an occurrence that is a scalar. Returns `None`
+    /// for another node.
     #[inline(always)]
     fn flat_operand(&self, node: &Node) -> Option<Scalar>
         requires { is_within (length self.now.expr.now.1) node.now 0 ≡ true }
@@ -33,7 +34,8 @@ impl<'e, V: Lender> Evaluation<'e, V> {
         }
     }
 
-    /// Computes the value of a chain of flat operands.
+    /// Computes the value of a chain of flat operands. Returns `None` if `flat_operand` does
+    /// for one of them, and for `++` of two numbers.
     #[inline(always)]
     fn flat_chain(&self, first: &Node, others: &[(Operator, Node)]) -> Option<Scalar>
         requires first { is_within (length self.now.expr.now.1) first.now 0 ≡ true }
@@ -52,6 +54,7 @@ impl<'e, V: Lender> Evaluation<'e, V> {
     }
 
     /// Computes the value of the expression, if it is flat and each of its operands is a scalar.
+    /// Returns `None` otherwise, and for `++` of two numbers.
     #[inline(always)]
     #[tactic(auto, using(ag_grammar::proofs::expressions::Trees::parts))]
     pub fn flat_scalar(&self) -> Option<Scalar>

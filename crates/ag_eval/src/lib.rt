@@ -1,10 +1,11 @@
-//! Evaluates expressions: computes the values of operators and calls for the values of attributes,
-//! within the limits of weight and depth.
+//! Evaluates expressions: applies operators and calls to the values of attributes, within the
+//! limits of weight and depth.
 //!
-//! During an evaluation the value of a part of the expression is an *operand*: lent by the environment or
-//! by the expression, owned, a shared text, a table or list that is a tree, or the value of a name that a
-//! `let` binds (a *binding*). A function that returns a `Result` with `NoMemory` fails only if memory is
-//! refused, or if a shared value has 2^64 - 1 owners.
+//! During an evaluation the value of a part of the expression is an *operand*. It may be lent by
+//! the environment or by the expression, or owned. A long text may be a shared text, and a large
+//! table or list a tree. It may also be the value of a name that a `let` binds (a *binding*). A
+//! function that returns a `Result` with `NoMemory` fails only if memory is refused, or if a shared
+//! value has 2^64 - 1 owners.
 #![tactic(auto)]
 
 mod available;

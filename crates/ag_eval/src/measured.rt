@@ -35,7 +35,7 @@ impl Model for Measured {
 }
 
 impl Measured {
-    /// Measures a well value.
+    /// Returns a well value with its weight and its depth.
     pub fn new(value: Value) -> Measured
         requires { IsWell value }
         ensures { result ≡ value }
@@ -56,9 +56,9 @@ impl Measured {
         }
     }
 
-    /// Makes a value with its weight and its depth, or the error `deep` or `big` if it is beyond
-    /// the limits. Both numbers are the exact ones, or the greatest of their types if those are
-    /// greater.
+    /// Makes a value with the given weight and depth, or the error `deep` or `big` if they are
+    /// beyond the limits (`deep` if both are). Each of the two is the exact one, or the greatest
+    /// number of its type if the exact one is greater.
     pub fn fit(value: Value, weight: u64, depth: u32) -> Measured
         requires item { is_item value ≡ true }
         requires weighed { weight ≡ min (weight_of value) (2 ^ 64 - 1) }
@@ -105,7 +105,7 @@ impl Measured {
         value
     }
 
-    /// Returns its weight.
+    /// Returns the weight of the value, in bytes.
     pub fn weight(&self) -> u64
         ensures value { result ≡ weight_of self.now }
         ensures light { result ≤ max_weight }
@@ -113,7 +113,7 @@ impl Measured {
         self.weight
     }
 
-    /// Returns its depth.
+    /// Returns the depth of the value.
     pub fn depth(&self) -> u32
         ensures value { result ≡ depth_of self.now }
         ensures shallow { result ≤ max_value_depth }

@@ -4,9 +4,9 @@ ghost use Rattle.std.specs.Prelude.{◌≡◌, ◌+◌, ◌-◌, ◌^◌, ◌<�
 
 use std::marker::Model;
 
-/// Counts evaluations. Every public call of this crate that takes a meter computes an expression's
-/// value and raises the meter by one: `eval` and `eval_carried` in each case, `eval_number` and
-/// `eval_scalar` if they return a value. If these two return `None`, the meter keeps its count.
+/// Counts evaluations. `eval` and `eval_carried` raise the meter by one, even if they fail.
+/// `eval_number` and `eval_scalar` raise it by one if they return a value, and leave it unchanged
+/// if they return `None`.
 #[derive(Debug, Drop)]
 pub struct Meter {
     count: u64,
@@ -28,14 +28,15 @@ impl Meter {
         Meter { count: 0 }
     }
 
-    /// Returns the number of evaluations that it has counted.
+    /// Returns the number of evaluations that the meter has counted.
     pub fn count(&self) -> u64
         ensures { result ≡ self.now }
     {
         self.count
     }
 
-    /// Returns whether it can count no more, which is exactly at 2^64 - 1.
+    /// Returns whether the count is 2^64 - 1, the greatest one. A full meter can't count one more
+    /// evaluation.
     pub fn is_full(&self) -> bool
         ensures exact { result ≡ nat_eq self.now (2 ^ 64 - 1) }
         ensures fits { self.now < 2 ^ 64 }

@@ -79,7 +79,7 @@ impl<'e> Lent<'e> {
         }
     }
 
-    /// Lends the value, for as long as it is lent.
+    /// Returns the reference to the value, with the lifetime of the loan.
     pub fn get(&self) -> &'e Value
         ensures value { result.now ≡ self.now }
         ensures well { IsWell result.now }
@@ -117,8 +117,8 @@ impl<'e> Held<'e> {
         Held::Lent(Lent::new(value))
     }
 
-    /// Lends a carried value, or shares it if it is a shared text, or copies it if it is a number or an
-    /// error.
+    /// Makes a held value of a carried one. A shared text is shared, a number or an error is
+    /// copied, and every other value is lent.
     #[inline(always)]
     pub fn from_carried(alloc: Global, carried: &'e Carried) -> Result<Held<'e>, NoMemory>
         requires { IsWell carried.now }
@@ -206,7 +206,8 @@ impl<'e> Held<'e> {
         }
     }
 
-    /// Returns a text as a shared one: a copy if it is lent.
+    /// Returns a text as a shared one. A text that is not shared yet is moved into the shared one,
+    /// or copied if it is lent.
     pub fn into_shared(self, alloc: Global) -> Result<SharedText, NoMemory>
         requires { is_text (held_value self) ≡ true }
         ensures { IfOk result (λ text. held_value self.entry ≡ value.Text text) }
@@ -249,7 +250,7 @@ impl<'e> Held<'e> {
                 Carried::with_weight(alloc, owned.into_value(), weight)
             }
             Held::Shared(text) => {
-                // for the prover: the text is within the limits
+                // the contract of `len` shows the prover that the text is within the limits
                 let _len = text.len();
                 Ok(Carried::from_text(text))
             }
@@ -266,7 +267,7 @@ fn carried_table(table: TableTree) -> Carried
     ensures value { result ≡ value.Table table }
     ensures well { IsWell result }
 {
-    // for the prover: the table is within the limits
+    // the contract of `weight` shows the prover that the table is within the limits
     let _weight = table.weight();
     Carried::from_table(table)
 }
@@ -276,13 +277,13 @@ fn carried_list(list: ListTree) -> Carried
     ensures value { result ≡ value.List list }
     ensures well { IsWell result }
 {
-    // for the prover: the list is within the limits
+    // the contract of `weight` shows the prover that the list is within the limits
     let _weight = list.weight();
     Carried::from_list(list)
 }
 
-/// The value of a part of an expression: a held value, or that of a binding by its number from the
-/// outermost.
+/// The value of a part of an expression: a held value, or the number of the binding that has the
+/// value. The outermost binding has the number 0.
 #[derive(Debug, Drop)]
 pub enum Operand<'e> {
     Held(Held<'e>),
@@ -304,7 +305,7 @@ impl<'e> Operand<'e> {
         other
     }
 
-    /// Lends the value; that of a bound operand from `bindings`.
+    /// Lends the value. The value of a bound operand is lent by `bindings`.
     pub fn get<'a>(&'a self, bindings: &'a Bindings<'e>) -> ValueRef<'a>
         requires { IsIn bindings.now self.now }
         ensures value { ref_value result ≡ operand_value bindings.now self.now }
@@ -338,8 +339,8 @@ impl<'e> Operand<'e> {
         }
     }
 
-    /// Returns the value for a new binding or as a result. That of an existing binding is returned a second
-    /// time, as `Held::again` does.
+    /// Returns the value for a new binding or as a result. The value of an existing binding is
+    /// returned a second time, as `Held::again` does.
     pub fn into_held(self, alloc: Global, bindings: &Bindings<'e>) -> Result<Held<'e>, NoMemory>
         requires { IsIn bindings.now self }
         ensures { IfOk result (λ h. held_value h ≡ operand_value bindings.now self.entry) }
@@ -358,8 +359,8 @@ impl<'e> Operand<'e> {
         self.into_held(alloc, bindings)?.into_owned(alloc)
     }
 
-    /// Returns a text as a shared one. A text that is not shared yet is copied if it is lent, or if a
-    /// binding owns it.
+    /// Returns a text as a shared one. A text that is not shared yet is copied if it is lent, or if
+    /// a binding has it, and moved otherwise.
     pub fn into_shared(self, alloc: Global, bindings: &Bindings<'e>) -> Result<SharedText, NoMemory>
         requires within { IsIn bindings.now self }
         requires text { is_text (operand_value bindings.now self) ≡ true }

@@ -32,7 +32,7 @@ impl<'a> ValueRef<'a> {
         ensures value { ref_value result ≡ value.Text text.entry.now }
         ensures well { IsWell (ref_value result) }
     {
-        // for the prover: the text is within the limits
+        // the contract of `len` shows the prover that the text is within the limits
         let _len = text.len();
         ValueRef::Shared(text)
     }
@@ -42,7 +42,7 @@ impl<'a> ValueRef<'a> {
         ensures value { ref_value result ≡ value.Table table.entry.now }
         ensures well { IsWell (ref_value result) }
     {
-        // for the prover: the table is within the limits
+        // the contract of `weight` shows the prover that the table is within the limits
         let _weight = table.weight();
         ValueRef::Table(table)
     }
@@ -52,7 +52,7 @@ impl<'a> ValueRef<'a> {
         ensures value { ref_value result ≡ value.List list.entry.now }
         ensures well { IsWell (ref_value result) }
     {
-        // for the prover: the list is within the limits
+        // the contract of `weight` shows the prover that the list is within the limits
         let _weight = list.weight();
         ValueRef::List(list)
     }
@@ -138,7 +138,7 @@ impl<'a> Plain<'a> {
 pub fn copied_text(alloc: Global, text: &SharedText) -> Result<Measured, NoMemory>
     ensures { IfOk result (λ m. m ≡ value.Text text.now) }
 {
-    // for the prover: the text is within the limits
+    // the contract of `len` shows the prover that the text is within the limits
     let _len = text.len();
     Ok(Measured::new(Value::Text(text.to_text(alloc)?)))
 }
@@ -147,7 +147,7 @@ pub fn copied_text(alloc: Global, text: &SharedText) -> Result<Measured, NoMemor
 pub fn copied_table(alloc: Global, table: &TableTree) -> Result<Measured, NoMemory>
     ensures { IfOk result (λ m. m ≡ value.Table table.now) }
 {
-    // for the prover: the table is within the limits
+    // the contract of `weight` shows the prover that the table is within the limits
     let _weight = table.weight();
     Ok(Measured::new(Value::Table(table.to_table(alloc)?)))
 }
@@ -156,7 +156,7 @@ pub fn copied_table(alloc: Global, table: &TableTree) -> Result<Measured, NoMemo
 pub fn copied_list(alloc: Global, list: &ListTree) -> Result<Measured, NoMemory>
     ensures { IfOk result (λ m. m ≡ value.List list.now) }
 {
-    // for the prover: the list is within the limits
+    // the contract of `weight` shows the prover that the list is within the limits
     let _weight = list.weight();
     Ok(Measured::new(Value::List(list.to_list(alloc)?)))
 }

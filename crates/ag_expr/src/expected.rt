@@ -1,5 +1,5 @@
-//! The tokens that the parser would accept at the offset where it rejects a text, found by trying
-//! each of them.
+//! What the parser would accept at the offset where it rejects a text, for messages. This is found
+//! by parsing the text before the offset with one candidate after it, for each candidate.
 
 use crate::expression::read_expr;
 use crate::fault::ExprFault;
@@ -32,11 +32,11 @@ pub enum ExpectedPart {
 /// The signs, other than operators, that `gather_signs` tries.
 const SIGNS: [&str; 9] = ["=", "(", ")", "]", "}", ",", "in", "then", "else"];
 
-/// Returns what could be at the byte offset `at` instead of the token there, if the text is
-/// rejected there with X2. Tries each candidate after the text before the offset, so it parses that
-/// up to 14 times. If an expression there would be of level 65, the list contains none, but it can have
-/// a `]`, which ends an empty list. The result is empty if `at` is not a character boundary of the text.
-/// Fails with `NoMemory` if memory runs out.
+/// Returns what could be at the byte offset `at` instead of the token there, for a text that is
+/// refused there with X2. Tries each candidate after the text before the offset, so this text is
+/// parsed up to 14 times. If an expression at the offset would be of level 65, the list contains no
+/// expression or operand, but it can contain a `]`, which ends an empty list. The result is empty
+/// if `at` is not a character boundary of the text. Fails with `NoMemory` if memory runs out.
 pub fn expected_at(alloc: Global, text: &str, at: usize) -> Result<Vec<ExpectedPart>, NoMemory> {
     let mut found = Vec::new(alloc);
     if let Some(before) = text.get(..at) {
@@ -45,7 +45,8 @@ pub fn expected_at(alloc: Global, text: &str, at: usize) -> Result<Vec<ExpectedP
     Ok(found)
 }
 
-/// Collects in `found` what could follow `before`, which is a prefix of `text`.
+/// Collects in `found` what could follow `before`, which is a prefix of `text`. `1` is tried for
+/// any operand, `_` for any new name, and one operator for all of its kind. Fails with `NoMemory`.
 fn gather(
     alloc: Global,
     text: &str,
@@ -68,8 +69,8 @@ fn gather(
     Ok(())
 }
 
-/// Collects in `found` the signs that could follow `before`. Omits `(` if an operand could follow,
-/// since it begins one.
+/// Collects in `found` the signs that could follow `before`. Omits `(` if `operand` is true: then
+/// an operand could follow, and `(` begins one. Fails with `NoMemory`.
 fn gather_signs(
     alloc: Global,
     before: &str,
@@ -84,7 +85,8 @@ fn gather_signs(
     Ok(())
 }
 
-/// Appends `expected` to `found` if `token` could follow `before`; returns whether it could.
+/// Appends `expected` to `found` if `token` could follow `before`, and returns whether it could.
+/// Fails with `NoMemory`.
 fn note(
     alloc: Global,
     before: &str,
@@ -99,7 +101,9 @@ fn note(
     Ok(occurs)
 }
 
-/// Returns the description of an operand that could follow `before`.
+/// Returns the description of an operand that could follow `before`, a prefix of `text`: a bound
+/// name if a name that is not reserved is there, else an expression if `if` could follow, else an
+/// operand. Fails with `NoMemory`.
 fn operand_at(alloc: Global, text: &str, before: &str) -> Result<ExpectedPart, NoMemory> {
     if let Some(rest) = text.get(before.len()..) {
         if let Some(GrammarToken::Name(name)) = Cursor::new(rest).peek() {
@@ -114,8 +118,8 @@ fn operand_at(alloc: Global, text: &str, before: &str) -> Result<ExpectedPart, N
     Ok(ExpectedPart::Operand)
 }
 
-/// Returns whether `token` could follow `before`: whether the parser does not reject the token
-/// itself.
+/// Returns whether `token` could follow `before`: whether `before`, a space and `token` are an
+/// expression, or are rejected only after the offset of `token`. Fails with `NoMemory`.
 fn can_follow(alloc: Global, before: &str, token: &str) -> Result<bool, NoMemory> {
     let tried = format!(in alloc; "{before} {token}")?;
     match refused_at(alloc, tried.as_str())? {
@@ -124,7 +128,8 @@ fn can_follow(alloc: Global, before: &str, token: &str) -> Result<bool, NoMemory
     }
 }
 
-/// Returns the byte offset at which the text is rejected, or `None` if it is an expression.
+/// Returns the byte offset at which the text is refused, or `None` if it is an expression. Fails
+/// with `NoMemory`.
 fn refused_at(alloc: Global, text: &str) -> Result<Option<usize>, NoMemory> {
     match read_expr(alloc, text) {
         Ok(_) => Ok(None),

@@ -20,10 +20,11 @@ use std::alloc::Global;
 /// Parses a text as an expression: its tree, and the distinct occurrences in it.
 ///
 /// Fails at the first token that cannot be accepted: with X1 if no token begins there; with X3 if
-/// its number is above the limit; with X2 if no expression continues with it, or if the text ends
-/// there; with X4 if it begins an expression of level 65. If several apply, the first in this order
-/// is returned. Fails with `NoMemory` if memory runs out. With any other fault, the text is proved
-/// not to be an expression.
+/// its number or place is above the limit; with X2 if no expression continues with it, or if the
+/// text ends there; with X4 if it begins an expression of level 65. If several of these hold, the
+/// first in this order is returned: X3, and not X2, for a number above the limit at which no
+/// expression continues. Fails with `NoMemory` if memory runs out. With any other fault, the text
+/// is proved not to be an expression.
 pub fn read_expr(alloc: Global, text: &str) -> Result<Expr, ExprFault>
     ensures exact { IsRead text.now result }
     ensures first { IfErr result (λ e. IsFirstOf text.now e) }
@@ -69,8 +70,8 @@ pub fn read_ended<'t>(alloc: Global, cursor: &mut Cursor<'t>) -> Result<(Expr, u
     Ok((Expr::new(tree, occurrences), at))
 }
 
-/// Parses the expression at a reader that has read nothing yet, up to its `;`. Fails as
-/// `read_until` does.
+/// Parses the expression at a reader that has read nothing yet, up to its `;`, which is not read.
+/// Fails as `read_until` does.
 fn statement(reader: &mut Reader<'_>) -> Result<Node, ExprFault>
     requires { reader.old ≡ start true reader.old.tokens }
     ensures read { IfOk result (λ tree. IsReadEnded reader.old.tokens

@@ -22,7 +22,8 @@ pub fn reading_agrees_with_the_syntax()
     ensures { ReadingAgrees }
 {}
 
-/// States that the reading function of expressions fails at the first token that cannot be accepted.
+/// States that the reading function of expressions, if it fails, reports the first token that
+/// cannot be accepted.
 #[tactic(auto, using(crate::proofs::language::Offsets::refuses_at_the_first))]
 pub fn the_first_wrong_token_is_reported()
     ensures { RefusesAtTheFirst }
@@ -33,7 +34,7 @@ pub fn a_text_reads_as_one_expression()
     ensures { OneExpression }
 {}
 
-/// States the tokens of `$1.a + 2`, with their offsets.
+/// States what the tokens of `$1.a + 2` are, with their offsets.
 #[tactic(auto, using(crate::proofs::language::Examples::occurrence_and_number))]
 pub fn worked_tokens()
     ensures { AreTokens 0 (codes "$1.a + 2") occurrence_and_number 8 [] }
@@ -45,14 +46,15 @@ pub fn worked_expression()
     ensures { ReadsAsExpr (codes "2 + 3 * 4") (sum_and_product, []) }
 {}
 
-/// States the tree that `let x = 1 in x < 2` spells, with two levels.
+/// States which tree the tokens of `let x = 1 in x < 2` spell, as an expression of at most two
+/// levels.
 #[tactic(auto, using(crate::proofs::language::Examples::let_is_spelled))]
 pub fn worked_scope()
     ensures { IsExpr [] 2 (tokens let_and_compare) bound_and_compared }
 {}
 
-/// States that a name refers to its innermost binding, if it has one, and that `len`, the name of a
-/// call, is reserved, but `lens` is not.
+/// States that `x` refers to the innermost of the bindings `x`, `y`, `x`, and `y` to none if only
+/// `x` is bound; and that `len`, the name of a call, is reserved, but `lens` is not.
 pub fn worked_names()
     ensures hidden { binding_in (codes "x" ∷ codes "y" ∷ codes "x" ∷ []) (codes "x") ≡ Some 2 }
     ensures unbound { binding_in (codes "x" ∷ []) (codes "y") ≡ None }

@@ -14,7 +14,8 @@ use std::marker::Model;
 /// The distinct occurrences so far, and the index of each by its place and name.
 #[derive(Drop)]
 pub struct OccurrenceTable<'t> {
-    /// The occurrences, in order of their first appearance.
+    /// The occurrences, in order of their first appearance. Up to four need no allocation of a
+    /// list.
     listed: SmallVec<Occ, 4>,
     /// The index in `listed` of each place and name.
     indexes: HashMap<(u16, &'t str), usize>,
@@ -54,9 +55,9 @@ impl<'t> OccurrenceTable<'t> {
         self.indexes.get(&(place, attr)).copied()
     }
 
-    /// Appends an occurrence whose `$` is at the byte offset `at`, unless one with the same place and
-    /// name is listed already. Returns the index of the listed one. Fails with `NoMemory` if the table
-    /// cannot grow; the list is then unchanged.
+    /// Appends an occurrence whose `$` is at the byte offset `at`, unless one with the same place
+    /// and name is listed already. Returns the index, from 0, of the occurrence with this place and
+    /// name. Fails with `NoMemory` if the table cannot grow; the list is then unchanged.
     pub fn intern(
         &mut self,
         alloc: Global,

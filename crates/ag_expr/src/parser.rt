@@ -95,7 +95,7 @@ fn operator_of(precedence: Precedence, token: GrammarToken<'_>) -> Option<Operat
     }
 }
 
-/// Returns whether `other` binds more strongly than `precedence`.
+/// Returns whether `other` is *closer*: whether it binds more strongly than `precedence`.
 #[tactic(auto, using(crate::proofs::language::Chains::others_closer))]
 fn is_closer(precedence: Precedence, other: Precedence) -> bool
     ensures { result ≡ chains.is_among (closer precedence) other }
@@ -127,14 +127,15 @@ fn is_operator(token: GrammarToken<'_>) -> bool
     binary_operator(token).is_some()
 }
 
-/// The form of an atom, which is an operand that contains no operator outside of brackets.
+/// The form of an atom, which is an operand that contains no operator outside of brackets and
+/// parentheses.
 #[derive(Clone, Copy, Debug, PartialEq, Eq)]
 enum Atom {
     /// An expression in parentheses.
     Parenthesized,
     /// A list.
     List,
-    /// An empty table.
+    /// An empty table, `{}`.
     Table,
     /// A call.
     Call,
@@ -275,11 +276,12 @@ impl<'t> Reader<'t> {
     }
 
     /// Parses an expression of at most `levels` levels. An expression has one level more than the
-    /// deepest one inside it (in brackets, a call, a `let` or an `if`), and one level if none is inside
-    /// it.
+    /// deepest one inside it (in brackets, a call, a `let` or an `if`), and one level if none is
+    /// inside it.
     ///
     /// Fails with `level_fault` if `levels` is 0, with `refusal` at the first token that cannot be
-    /// accepted, and with `NoMemory`; so do the other parsing functions of this file.
+    /// accepted, and with `NoMemory`. The other parsing functions of this file fail with `refusal`
+    /// and `NoMemory` too, and if an expression inside fails.
     #[cycle(parsing)]
     #[tactic(auto, using(crate::proofs::language::Parts::one_level), unfolding(crate::specs::language::Reading::expr_in, crate::specs::language::Reading::whole_from))]
     pub fn expression(&mut self, levels: usize) -> Result<Node, ExprFault>
@@ -398,10 +400,11 @@ impl<'t> Reader<'t> {
         }
     }
 
-    /// Parses an operand of a chain of this precedence: a chain of the next precedence, or an atom
-    /// after the last one.
+    /// Parses an operand of a chain of this precedence: a chain of the next stronger precedence or,
+    /// for the strongest one, an atom.
     ///
-    /// If no operator that binds more strongly follows its first atom, the atom is the operand.
+    /// If no operator that binds more strongly follows the operand's first atom, the atom is the
+    /// operand.
     #[cycle(parsing)]
     #[tactic(auto, using(crate::proofs::language::Chains::atom_alone, crate::proofs::language::Chains::by_atom))]
     fn operand(&mut self, levels: usize, precedence: Precedence) -> Result<Node, ExprFault>

@@ -24,10 +24,11 @@ use smallvec::SmallVec;
 use std::alloc::Global;
 use std::marker::Model;
 
-/// A reader of the tokens of an expression: those of its cursor, or, in a statement, those before
-/// the first `;`.
+/// A reader of the tokens of an expression. These are all tokens of the reader's cursor or, for a
+/// *statement* (an expression followed by a `;`), those before the first `;`.
 ///
-/// Its methods fail with `refusal` if the next token cannot be accepted.
+/// The methods of a reader that read a given kind of token fail with `refusal` if the next token is
+/// another one.
 #[derive(Drop)]
 pub struct Reader<'t> {
     alloc: Global,
@@ -132,7 +133,8 @@ impl<'t> Reader<'t> {
         next_token
     }
 
-    /// Returns the fault for the next token, if that cannot be accepted.
+    /// Returns the fault for the case that the next token cannot be accepted: that of `refusal` for
+    /// the cursor.
     #[tactic(auto, using(crate::proofs::language::States::refusal_is))]
     pub fn refusal(&self) -> ExprFault
         ensures { result ≡ reading.refusal (input self.now) }
@@ -141,7 +143,7 @@ impl<'t> Reader<'t> {
     }
 
     /// Returns the fault for an expression that would begin here with no level left: X4 if the next
-    /// token can begin one, else `refusal`.
+    /// token can begin an expression, else `refusal`.
     #[tactic(auto, using(crate::proofs::language::States::too_deep, crate::proofs::language::States::not_begun, crate::proofs::language::States::none_begun))]
     pub fn level_fault(&self) -> ExprFault
         ensures { result ≡ state.level_fault self.now }
@@ -154,7 +156,8 @@ impl<'t> Reader<'t> {
         }
     }
 
-    /// Advances past the next token. Does not list an occurrence.
+    /// Advances past the next token, which must be there. Does not list the token if it is an
+    /// occurrence.
     pub fn bump(&mut self)
         requires { is_some (next_token (input self.old)) ≡ true }
         ensures exact { self.new ≡ state.after_token self.old }

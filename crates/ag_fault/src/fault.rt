@@ -23,8 +23,8 @@ use std::alloc::AllocError;
 use treefile::{DeviceFault, FileFault, FrameFault};
 
 /// Why the program, or a call of its library, failed. Each fault except `Usage` and `NoMemory` has a
-/// number such as D1, which is printed first. What a variant never contains is said of the faults that
-/// calls return.
+/// number such as D1, which is printed first. Where a variant is said never to contain NoMemory, this
+/// holds for the faults that calls return.
 #[derive(Debug, Drop)]
 pub enum Fault {
     /// The command line is wrong.

@@ -14,7 +14,7 @@ pub record AreRelated {A B : Type 0} (R : A → B → Type 0) (xs : List A) (ys 
   pub equally_long : length xs ≡ length ys
   pub each : (i : ℕ) (x : A) (y : B) → slice_get xs i ≡ Some x → slice_get ys i ≡ Some y → R x y
 
--- f has different values at the members of different indexes
+-- f has different values for any two members at different indexes
 abbrev pub DifferIn : {A B : Type 0} → (A → B) → List A → Type 0
 DifferIn {A} {B} f xs = (i j : ℕ) (x y : A) → slice_get xs i ≡ Some x → slice_get xs j ≡ Some y → f x ≡ f y → i ≡ j
 

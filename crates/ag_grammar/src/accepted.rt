@@ -10,9 +10,11 @@ use crate::grammar::{Production, Symbol};
 use ag_value::{Items, Text};
 use std::marker::Model;
 
-/// An accepted grammar. In contracts it is the record `Grammar` of plain lists over which attribute
-/// grammars are defined. Its invariant: the grammar is accepted (`IsAccepted`), its classes ascend,
-/// and its literals are numbered in the order of their first appearance (`IsInOrder`).
+/// An accepted grammar. In contracts its value is the record `Grammar` of
+/// `specs/grammars/AttributeGrammar.antt`, which has the same parts as plain lists. Two facts hold
+/// of every value of this type: the grammar is accepted (`IsAccepted`), and it is in order
+/// (`IsInOrder`), which means that its classes ascend, and that its literals are numbered in the
+/// order of their first appearance.
 #[derive(Drop)]
 pub struct Grammar {
     symbols: Items<Symbol>,

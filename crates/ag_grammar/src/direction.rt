@@ -1,5 +1,5 @@
-//! The direction in which a pass visits the children of a node. Only this file derives it from the
-//! number of the pass.
+//! The direction in which a pass visits the children of a node. `Direction::of_pass` is the only
+//! function that computes a direction from the number of a pass.
 
 ghost use Rattle.std.specs.Prelude.{◌≡◌, ◌<◌, ◌↔◌, IsTrue};
 ghost use Rattle.ag_grammar.specs.grammars.Passes.{IsBefore, direction_name, direction_of, nth, other};
@@ -37,8 +37,8 @@ impl Direction {
         }
     }
 
-    /// Returns whether a pass in this direction visits place `first` before place `second`. The
-    /// places of a right side are numbered from 1.
+    /// Returns whether a pass in this direction visits the child at place `first` before the child
+    /// at place `second`. Children have places from 1 on.
     pub fn is_before(self, first: u16, second: u16) -> bool
         ensures { IsTrue result ↔ IsBefore self first second }
     {
@@ -48,8 +48,9 @@ impl Direction {
         }
     }
 
-    /// Returns the index, from 0 at the left, of the child that is visited after `turn` others, of
-    /// `count` children.
+    /// Returns the index, from 0 at the left, of the child that a pass in this direction visits
+    /// after `turn` other children of the same node, which has `count` children. `turn` must be
+    /// below `count`.
     pub fn nth(self, count: usize, turn: usize) -> usize
         requires { turn < count }
         ensures nth { result ≡ nth self count turn }

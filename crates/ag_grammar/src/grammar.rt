@@ -26,8 +26,8 @@ pub enum Terminal {
     Class(u16),
 }
 
-/// An item of the right side of a production (the textbook). The symbol of the left side is also given as one,
-/// as the item at place 0.
+/// An item of the right side of a production (the textbook). The item at place 0 is the symbol of
+/// the left side.
 #[derive(Clone, Copy, Debug, PartialEq, Eq)]
 pub enum Item {
     /// A declared symbol, by its number from 0.
@@ -36,9 +36,9 @@ pub enum Item {
     Terminal(Terminal),
 }
 
-/// An attribute at a place of a production, which Knuth (1968) calls an attribute occurrence: the
-/// target of a rule, or, in spite of the name of this type, one of its arguments. An occurrence in an
-/// expression, such as `$1.sum`, refers to one.
+/// An attribute at a place of a production (Knuth 1968; often called an attribute occurrence): the
+/// target of a rule, or, in spite of the name of this type, one of the rule's arguments. An `Occ`
+/// in an expression, such as `$1.sum`, refers to a `Target`.
 #[derive(Clone, Copy, Debug, PartialEq, Eq)]
 pub struct Target {
     /// The place: 0 is the left side; 1, 2, .. are the children, which are the items of the right

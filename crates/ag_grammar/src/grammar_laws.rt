@@ -1,4 +1,5 @@
-//! Laws about the definitions alone: each is a function with an empty body, whose contract is the fact.
+//! Laws about the definitions alone: each is a function with an empty body, whose contract is the
+//! fact.
 
 ghost use Rattle.ag_grammar.specs.grammars.Laws.{ProductiveByTrees, OneSolution, OneTranslation};
 ghost use Rattle.ag_grammar.specs.grammars.Laws.{EquationsKept, PassesSolve, PassesHaveAllRules};
@@ -37,8 +38,8 @@ pub fn passes_solve()
 {}
 
 /// States which values consecutive passes leave. Before the first of them the values are any that
-/// give each leaf its text. One more pass has run if it keeps the values of the passes before it and
-/// satisfies its own equations. After the last pass every equation from the first pass on is
+/// give each leaf its text. One more pass has run if it keeps the values of the passes before it
+/// and satisfies its own equations. After the last pass every equation from the first pass on is
 /// satisfied. If the first was pass 1, the values are the solution, for an accepted grammar with a
 /// legal assignment.
 pub fn runs_compose()

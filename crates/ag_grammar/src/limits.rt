@@ -47,7 +47,8 @@ pub const CLASS_COUNT: u16 = 3;
 pub const MAX_TOKEN_BYTES: usize = 65_535;
 
 /// The maximum number of levels of an expression. An expression has one level more than the deepest
-/// expression inside it (in brackets, a call, a `let` or an `if`), and one level if none is inside it.
+/// expression inside it (in parentheses, a list, a call, a `let` or an `if`), and one level if
+/// there is none inside it.
 pub const MAX_EXPR_LEVELS: usize = 64;
 
 /// The greatest place that an occurrence in a text may name.
@@ -63,8 +64,9 @@ pub const MAX_DEPTH: usize = 65_536;
 pub const MAX_NODES: u32 = 1_048_576;
 
 /// The maximum depth of a tree whose file is reversed, or converted from version 1. Both operations
-/// recurse over the depth, and no file of version 1 has a deeper tree.
+/// recurse over the depth, and fail if the tree is deeper.
 pub const MAX_REVERSED_DEPTH: usize = 256;
 
-/// The maximum number of stored nodes of such a tree.
+/// The maximum number of stored nodes of a tree whose file is reversed, or converted from
+/// version 1.
 pub const MAX_REVERSED_NODES: u32 = 65_536;

@@ -12,8 +12,8 @@ use ag_value::NoMemory;
 use std::alloc::Global;
 
 impl Item {
-    /// Returns whether the item is a child, which has a place and is stored in a tree: declared symbols
-    /// and token classes are, literals are not (this project's).
+    /// Returns whether the item is a child, which has a place and is stored in a tree: declared
+    /// symbols and token classes are, literals are not (this project's).
     pub fn is_stored_child(self) -> bool
         ensures { (xs : List TheItem) → stored_items (self ∷ xs)
             ≡ cond result (self ∷ stored_items xs) (stored_items xs) }
@@ -26,8 +26,8 @@ impl Item {
     }
 }
 
-/// Returns the child with this index, counted from 0 among the children alone, or `None` if there is
-/// none.
+/// Returns the child with this index, counted from 0 among the children alone, or `None` if there
+/// is none.
 fn child_at(items: &[Item], index: usize) -> Option<Item>
     ensures { result ≡ slice_get (stored_items items.now) index }
 {
@@ -73,7 +73,8 @@ impl Production {
 }
 
 impl Symbol {
-    /// Returns the number of attributes of the symbol.
+    /// Returns the number of attributes of the symbol, which must have at most `MAX_ATTRIBUTES`
+    /// (16).
     pub fn attribute_count(&self) -> usize
         requires { length (attribute_names self.now) ≤ max_attributes }
         ensures { result ≡ length (attribute_names self.now) }

@@ -1,5 +1,5 @@
-//! Worked examples of the definitions; each is a law. The first grammar is `sample` of `Sample.antt`, whose one
-//! sentence is `x x`; the second one, `token_sample`, has a NAME.
+//! Worked examples of the definitions; each is a law. The first grammar is `sample` of
+//! `Sample.antt`, whose one sentence is `x x`; the second one, `token_sample`, has a NAME.
 
 ghost use Rattle.std.specs.Prelude.{ℕ, ◌≡◌, [], ◌∷◌, pos, true, false};
 ghost use Rattle.ag_value.specs.declared.value.Value.{Num, Text, Value as AttributeValue};
@@ -30,8 +30,8 @@ pub fn sample_accepted()
     ensures { IsAccepted sample }
 {}
 
-/// States that the first production of the first grammar is not complete without the rule for `out` of
-/// the left side.
+/// States that the first production of the first grammar is not complete without the rule for `out`
+/// of the left side.
 #[tactic(auto, using(crate::proofs::grammars::samples::NumberSample::missing))]
 pub fn rule_missing()
     ensures { IsComplete without_out (production_r (rule_first ∷ rule_second ∷ [])) → ⊥ }
@@ -49,8 +49,8 @@ pub fn doubled_refused()
     ensures { IsAccepted doubled → ⊥ }
 {}
 
-/// States that the first grammar is not accepted if a rule's expression has an occurrence but the rule
-/// has no argument for it.
+/// States that the first grammar is not accepted if a rule's expression has an occurrence but the
+/// rule has no argument for it.
 #[tactic(auto, using(crate::proofs::grammars::samples::NumberSample::bare_refused))]
 pub fn bare_refused()
     ensures { IsAccepted bare → ⊥ }
@@ -80,13 +80,14 @@ pub fn sample_solved()
     ensures { Solves AnyRule sample sample_tree (sample_values 2) }
 {}
 
-/// States that the same values with 1 for `out` do not solve the first grammar on the tree of `x x`.
+/// States that the same values with 1 for `out` do not solve the first grammar on the tree of
+/// `x x`.
 #[tactic(auto, using(crate::proofs::grammars::samples::NumberSample::unsolved))]
 pub fn sample_unsolved()
     ensures { Solves AnyRule sample sample_tree (sample_values 1) → ⊥ }
 {}
 
-/// States that the translation by the values with 2 for `out`, those of the tree of `x x`, is 2.
+/// States that the translation is 2 if the values of the tree of `x x` have 2 for `out`.
 #[tactic(auto, using(crate::proofs::grammars::samples::NumberSample::translation))]
 pub fn sample_translation()
     ensures { IsTranslation sample (sample_values 2) (Num (pos 2)) }
@@ -105,8 +106,9 @@ pub fn sample_counts()
     ensures second { rules_of_pass sample_passes 2 sample sample_tree ≡ 0 }
 {}
 
-/// States that no attribute has a later pass than 1 if all have pass 1. That pass leaves the values with 2
-/// for `out`, whatever values it began with, and these are the solution.
+/// States three facts of the first grammar if all attributes have pass 1: no attribute has a later
+/// pass; on the tree of `x x`, pass 1 leaves the values with 2 for `out`, whatever values it begins
+/// with; and these values are the solution.
 #[tactic(auto, using(crate::proofs::grammars::Running::sample_settled))]
 pub fn sample_ran()
     ensures last { IsLastPass 1 sample_passes }
@@ -139,8 +141,8 @@ pub fn child_missing()
     ensures { IsTreeOf sample (node 0 (more (node 1 none) none)) → ⊥ }
 {}
 
-/// States that pass 2 for all attributes of the first grammar is not legal: going from left to right,
-/// it visits the first child before the value that this child's `i` uses is computed.
+/// States that pass 2 for all attributes of the first grammar is not legal: going from left to
+/// right, it visits the first child before the value that this child's `i` uses is computed.
 #[tactic(auto, using(crate::proofs::grammars::samples::Refused::not_legal))]
 pub fn not_legal()
     ensures { IsLegal sample later_passes → ⊥ }
@@ -154,17 +156,18 @@ pub fn samples_in_order()
     ensures classes { IsInOrder token_sample }
 {}
 
-/// States that two grammars are not in order: the first grammar with the added production first, where
-/// literal 1 appears before literal 0; and the second grammar with the classes 1, 0, which do not ascend.
+/// States that two grammars are not in order: the first grammar with the added production first,
+/// where literal 1 appears before literal 0; and the second grammar with the classes 1, 0, which do
+/// not ascend.
 #[tactic(auto, using(crate::proofs::grammars::samples::Ordered::exchanged))]
 pub fn not_in_order()
     ensures literals { IsInOrder back_first → ⊥ }
     ensures classes { IsInOrder descending → ⊥ }
 {}
 
-/// States that no assignment is legal, for any number of passes, for the first grammar with one more
-/// production, in which the second child's `i` uses the first child's `s`: each direction is wrong for
-/// one of the two productions of `R`.
+/// States that no assignment is legal, for any number of passes, for the first grammar with one
+/// more production, in which the second child's `i` uses the first child's `s`: each direction is
+/// wrong for one of the two productions of `R`.
 pub fn none_legal()
     ensures { (m : Passes) → IsLegal both_ways m → ⊥ }
 {}
@@ -175,8 +178,8 @@ pub fn not_productive()
     ensures { IsProductive endless 0 → ⊥ }
 {}
 
-/// States that the third symbol of a grammar is not reached: it occurs on no right side, and is not the
-/// start symbol.
+/// States that the third symbol of a grammar is not reached: it occurs on no right side, and is not
+/// the start symbol.
 #[tactic(auto, using(crate::proofs::grammars::samples::Refused::not_reached))]
 pub fn not_reached()
     ensures { IsReached with_unreached 2 → ⊥ }
@@ -194,8 +197,8 @@ pub fn token_fits()
     ensures { IsTreeOf token_sample token_tree }
 {}
 
-/// States that the tree of `iffy if` has depth 2 and 2 nodes: the NAME counts as a node, and the literal
-/// does not.
+/// States that the tree of `iffy if` has depth 2 and 2 nodes: the NAME counts as a node, and the
+/// literal does not.
 pub fn token_size()
     ensures depth { depth_of token_tree ≡ 2 }
     ensures nodes { node_count token_tree ≡ 2 }
@@ -207,21 +210,22 @@ pub fn token_yield()
         ≡ (Class 0, iffy) ∷ (Literal 0, 105 ∷ 102 ∷ []) ∷ [] }
 {}
 
-/// States that the values with the name for `out` solve the second grammar on the tree of `iffy if`.
+/// States that the values with the name for `out` solve the second grammar on the tree of
+/// `iffy if`.
 #[tactic(auto, using(crate::proofs::grammars::samples::TokenSample::solved))]
 pub fn token_solved()
     ensures { Solves AnyRule token_sample token_tree (token_values iffy) }
 {}
 
-/// States that the values with the empty text for `out` do not solve the second grammar on the tree of
-/// `iffy if`.
+/// States that the values with the empty text for `out` do not solve the second grammar on the tree
+/// of `iffy if`.
 #[tactic(auto, using(crate::proofs::grammars::samples::TokenSample::unsolved))]
 pub fn token_unsolved()
     ensures { Solves AnyRule token_sample token_tree (token_values []) → ⊥ }
 {}
 
-/// States that the translation by the values with the name for `out`, those of the tree of `iffy if`, is
-/// the name.
+/// States that the translation is the name if the values of the tree of `iffy if` have the name for
+/// `out`.
 #[tactic(auto, using(crate::proofs::grammars::samples::TokenSample::translation))]
 pub fn token_translation()
     ensures { IsTranslation token_sample (token_values iffy) (Text iffy) }

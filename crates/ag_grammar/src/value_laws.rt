@@ -1,5 +1,5 @@
-//! Laws of the values of expressions, each a function with an empty body whose contract is the fact,
-//! and worked examples.
+//! Laws of the values of expressions, each a function with an empty body whose contract is the
+//! fact, and worked examples.
 
 ghost use Rattle.std.specs.Prelude.{◌≡◌, ◌∷◌, [], ℕ, neg_ℤ, negsuc, pos, codes};
 ghost use Rattle.ag_value.specs.declared.value.ErrorCode.TheVariants as code;
@@ -27,8 +27,8 @@ pub fn a_value_beyond_the_limits_is_an_error()
     ensures fits { WhatFitsStays }
 {}
 
-/// States that the comparison that `==` makes of operands that are not errors is 1 for two well values if
-/// and only if they are the same.
+/// States that `comparison_result`, the result of `==` for operands that are not errors, is 1 for
+/// two well values if and only if they are the same.
 pub fn equality_distinguishes_values()
     ensures { SameIsOne }
 {}
@@ -53,10 +53,10 @@ pub fn a_rule_has_one_value()
     ensures holds { RuleHoldsByOne }
 {}
 
-/// States, in examples, which error an operation returns: the leftmost error among its arguments, else
-/// the error `kind`, else the operation's own error. Further examples: `orelse` replaces an error; an
-/// `if` whose condition is a text is the error `kind`; a name can be bound to an error; and an error in
-/// the branch that is not chosen has no effect.
+/// States, in examples, which error an operation returns: the leftmost error among its arguments,
+/// else the error `kind`, else the operation's own error. Further examples: `orelse` replaces an
+/// error; an `if` whose condition is a text is the error `kind`; a name can be bound to an error;
+/// and an error in the branch that is not chosen has no effect.
 pub fn worked_errors()
     ensures leftmost { operation_result operator.Add (value.Fault code.Index) (value.Fault code.Key)
         ≡ value.Fault code.Index }
@@ -101,8 +101,8 @@ pub fn worked_numbers()
         ≡ value.Fault code.Number }
 {}
 
-/// States, in examples, that texts are measured and compared in bytes, values of different kinds are
-/// not equal, lists are indexed from 0, and tables are sorted by key.
+/// States, in examples, that texts are measured and compared in bytes, values of different kinds
+/// are not equal, lists are indexed from 0, and tables are sorted by key.
 pub fn worked_parts()
     // an `ä` in UTF-8
     ensures bytes { unary_call_result unary.Len (value.Text (195 ∷ 164 ∷ [])) ≡ number 2 }

@@ -7,7 +7,7 @@ use Rattle.ag_job.specs.declared.reading.ReadFault.{ReadFault}
 use Rattle.ag_job.specs.declared.reading.ReadFault.TheVariants as read
 use Rattle.ag_job.specs.declared.job.TheConstants.{MAX_JOB_BYTES}
 
--- the maximal number of bytes of a job: that of a grammar's text, that of a sentence, and that of the longest separator
+-- the maximal number of bytes of a job: 1,048,576 for the grammar, as many for the sentence, and 4 for the longest separator
 abbrev pub max_job_bytes : ℕ
 max_job_bytes = MAX_JOB_BYTES
 
@@ -15,7 +15,8 @@ max_job_bytes = MAX_JOB_BYTES
 abbrev pub AreWholeLines : List ℕ → Type 0
 AreWholeLines text = (text ≡ []) ⊎ ((prefix : List ℕ) × (text ≡ prefix ++ codes "\n"))
 
--- The line `%%` with its end. A CR directly before its LF is ignored. If it is the last line, it may have neither LF nor CR.
+-- The separator is the line `%%` with its end: an LF, or a CR and an LF. If no byte comes after it (`rest` is empty), it may end
+-- without them.
 abbrev pub IsSeparator : (separator rest : List ℕ) → Type 0
 IsSeparator separator rest =
     (separator ≡ codes "%%\n") ⊎ ((separator ≡ codes "%%\r\n") ⊎ ((separator ≡ codes "%%") × (rest ≡ [])))
@@ -32,7 +33,7 @@ pub record AreParts (bytes text sentence : List ℕ) : Type 0 where
   pub cut : IsCut bytes text sentence
   pub first : (before following : List ℕ) → IsCut bytes before following → length text ≤ length before
 
--- The bytes are at most `max_job_bytes`, and these are their parts.
+-- There are at most `max_job_bytes` bytes, and `text` and `sentence` are their parts.
 pub record IsJob (bytes text sentence : List ℕ) : Type 0 where
   pub within : length bytes ≤ max_job_bytes
   pub parts : AreParts bytes text sentence

@@ -10,7 +10,7 @@ CrAndLfEnd = AreParts (codes "a\n%%\r\nb") (codes "a\n") (codes "b")
 abbrev pub TheLastEnds : Type 0
 TheLastEnds = AreParts (codes "a\n%%") (codes "a\n") []
 
--- A CR with no LF after it doesn't end a line.
+-- A CR with no LF after it doesn't end a line: it belongs to the line, which is not `%%` then.
 abbrev pub CrAloneIsNone : Type 0
 CrAloneIsNone = HasNoSeparator (codes "a\n%%\r")
 

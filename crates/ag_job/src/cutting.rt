@@ -49,7 +49,7 @@ fn cut_at(bytes: &[u8], at: usize) -> Option<Cut>
     })
 }
 
-/// Returns whether a line begins at offset `at`: whether it is 0, or follows an LF.
+/// Returns whether a line begins at offset `at`: whether `at` is 0, or the byte before it is an LF.
 fn begins_a_line(bytes: &[u8], at: usize) -> bool
     requires { at ≤ length bytes.now }
     ensures { IsTrue result ↔ AreWholeLines (take at bytes.now) }
@@ -57,7 +57,9 @@ fn begins_a_line(bytes: &[u8], at: usize) -> bool
     at == 0 || bytes[at - 1] == b'\n'
 }
 
-/// Returns the length in bytes of the line `%%` with its end, or `None` if the bytes don't begin with one.
+/// Returns the length in bytes of a line `%%` at the beginning of the bytes, with its LF or CR and
+/// LF, or `None` if they don't begin with such a line. The line may lack its LF only if no byte
+/// comes after `%%`.
 fn separator_length(bytes: &[u8]) -> Option<usize>
     ensures within { IfSome result (λ n. n ≤ length bytes.now) }
     ensures separator { IfSome result

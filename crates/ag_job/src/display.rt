@@ -1,4 +1,4 @@
-//! Printing the faults of a job.
+//! Prints the faults of a job.
 
 use crate::fault::JobFault;
 use std::error::Error;

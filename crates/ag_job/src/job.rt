@@ -11,8 +11,8 @@ use std::alloc::Global;
 use std::io::Read;
 use std::marker::Model;
 
-/// The maximal number of bytes of a job: that of a grammar's text, that of a sentence, and the 4 bytes of
-/// the longest separator.
+/// The maximal number of bytes of a job: the maximal text of a grammar, a sentence of as many
+/// bytes, and 4 bytes for the line `%%` with a CR and an LF.
 pub const MAX_JOB_BYTES: usize = 2 * MAX_TEXT_BYTES + 4;
 
 /// A job that was read. In contracts it is the pair of its grammar's text and its sentence.
@@ -37,9 +37,10 @@ impl Job {
     /// Reads a job to the reader's end: a grammar, the first line that is exactly `%%`, and a sentence. A CR
     /// directly before the LF of that line is ignored, and if it is the last line, its LF may be missing.
     ///
-    /// Fails with J2 `Read` if the reader fails, J3 `TooLong` if it has more than 2,097,156 bytes, J1
-    /// `NoSeparator` if no line is exactly `%%`, and `NoMemory` if a request for memory is refused, its own or
-    /// the reader's.
+    /// Reads at most 2,097,157 bytes, one more than a job may have. Fails with J3 `TooLong` if
+    /// there are that many, with J2 `Read` if the reader fails before, with J1 `NoSeparator` if no
+    /// line is exactly `%%`, and with `NoMemory` if a request for memory is refused, in this call
+    /// or in the reader.
     pub fn read<R: Read + Drop>(alloc: Global, reader: R) -> Result<Job, JobFault>
         ensures job { IfOk result (λ job. IfSome (R.remaining reader)
             (λ bytes. IsJob bytes job.0 job.1)) }

@@ -9,9 +9,11 @@ pub fn a_job_has_one_grammar_and_one_sentence()
     ensures { OnePairOfParts }
 {}
 
-/// Worked examples. In four jobs, the line `%%` ends with CR and LF, is the last line and has no LF, is
-/// the first of two, or is the first line of the job. In three texts no line is exactly `%%`: the line that
-/// has `%%` ends with a CR without an LF, begins with a space, or has a third `%`.
+/// Worked examples: four jobs and their parts, and three texts in which no line is exactly `%%`. In
+/// the jobs, the line `%%` ends with CR and LF (`cr_and_lf`), is the last line, without an LF
+/// (`last`), comes before a second such line (`first`), and is the first line (`empty`). In the
+/// texts, the line with `%%` ends with a CR without an LF (`cr_alone`), begins with a space
+/// (`spaced`), and has a third `%` (`longer`).
 pub fn worked_jobs()
     ensures cr_and_lf { CrAndLfEnd }
     ensures last { TheLastEnds }

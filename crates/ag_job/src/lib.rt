@@ -1,5 +1,5 @@
-//! Jobs: a text with a grammar, a line `%%` and a sentence. Also reads a limited number of bytes from a
-//! reader.
+//! Reads jobs. A job is a text with a grammar, a line `%%` and a sentence. `read_prefix` reads a
+//! limited number of bytes from a reader.
 #![tactic(auto)]
 
 mod cutting;

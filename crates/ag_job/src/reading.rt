@@ -14,8 +14,9 @@ pub enum ReadFault {
     NoMemory,
 }
 
-/// Returns the first bytes of a reader: all up to its end, but at most `most` bytes. Fails with `Read` if
-/// the reader fails, and with `NoMemory` if a request for memory is refused, its own or the reader's.
+/// Returns the first bytes of a reader: all up to its end, but at most `most` bytes. Fails with
+/// `Read` if the reader fails, and with `NoMemory` if a request for memory is refused, in this call
+/// or in the reader.
 pub fn read_prefix<R: Read + Drop>(
     alloc: Global,
     reader: R,

@@ -21,7 +21,7 @@ pub record IsNotAfter (xs ys : List ℕ) : Type 0 where
 pub record AreNotAfter (entries : List LiteralEntry) (bound : ℕ) (text : List ℕ) : Type 0 where
   pub each : (i : ℕ) (w : LiteralEntry) → i < bound → slice_get entries i ≡ Some w → IsNotAfter w.text.now text
 
--- no entry with an index from `low` up to, but not including, `high` is a prefix of the text
+-- no entry with an index from `low` up to, but not including, `high` has a text that is a prefix of the text
 pub record NoPrefix (entries : List LiteralEntry) (low high : ℕ) (text : List ℕ) : Type 0 where
   pub none : (i : ℕ) (w : LiteralEntry) → low ≤ i → i < high → slice_get entries i ≡ Some w → IsPrefix w.text.now text → ⊥
 
@@ -84,13 +84,13 @@ with_one Nothing index = Sole index
 with_one (Sole other) index = Several
 with_one Several index = Several
 
--- the entries that begin with a byte, as stored, include the one with index k
+-- the entry with index k may begin with the byte for which this value is stored; `Several` excludes no entry
 abbrev pub Covers : ℕ → StartingLiterals → Type 0
 Covers k Nothing = ⊥
 Covers k (Sole index) = index ≡ k
 Covers k Several = Unit {0}
 
--- Each of the first `count` entries begins with a byte, and what is stored for this byte includes the entry.
+-- Each of the first `count` entries begins with a byte, and the value stored for this byte does not exclude the entry.
 pub record AreCovered (entries : List LiteralEntry) (starts : List StartingLiterals) (count : ℕ) : Type 0 where
   pub whole : length starts ≡ 256
   pub each : (k : ℕ) (w : LiteralEntry) → k < count → slice_get entries k ≡ Some w

@@ -42,8 +42,8 @@ pub record Reaches (v : Vocabulary) (cs : List ℕ) (ts : List Token) (at : ℕ)
   pub are : AreTokens v 0 cs ts at rest
   pub short : AreShort ts
 
--- At the offset `at`, which such tokens reach, there is a character that is not a separator and begins no
--- word.
+-- Tokens and separators extend up to the offset `at`, as in `Reaches`. There is a character there that is not a separator and
+-- begins no word.
 pub record NoTokenAt (v : Vocabulary) (cs : List ℕ) (at : ℕ) : Type 0 where
   pub before : List Token
   pub first : ℕ
@@ -52,7 +52,7 @@ pub record NoTokenAt (v : Vocabulary) (cs : List ℕ) (at : ℕ) : Type 0 where
   pub no_separator : is_separator first ≡ false
   pub no_word : BeginsNone (IsAnyWord v) (first ∷ rest)
 
--- At the offset `at`, which such tokens reach, there is a token whose text has more than 65,535 bytes.
+-- Tokens and separators extend up to the offset `at`, as in `Reaches`. A token begins there whose text is too long.
 pub record LongTokenAt (v : Vocabulary) (cs : List ℕ) (at : ℕ) : Type 0 where
   pub before : List Token
   pub kind : Terminal

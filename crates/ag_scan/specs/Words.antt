@@ -24,7 +24,7 @@ abbrev pub vocabulary_of : Grammar → Vocabulary
 vocabulary_of g = vocabulary g.literals g.classes
 
 -- The characters are a word of the class (0 is NAME, 1 is NUMBER, 2 is TEXT), and `lex` is its text: for a
--- TEXT what is between its quotes, else the word itself.
+-- TEXT what is between its quotes (34 is the quote), else the word itself.
 abbrev pub IsWordOfClass : ℕ → List ℕ → List ℕ → Type 0
 IsWordOfClass zero word lex = IsName word × (lex ≡ encode_utf8_all word)
 IsWordOfClass (suc zero) word lex = IsDigits word × (lex ≡ encode_utf8_all word)
@@ -61,7 +61,7 @@ IsLongest P word rest = (longer more : List ℕ) → word ++ rest ≡ longer ++ 
 abbrev pub BeginsNone : (List ℕ → Type 0) → List ℕ → Type 0
 BeginsNone P cs = (word more : List ℕ) → cs ≡ word ++ more → P word → ⊥
 
--- the word is not a literal, if the terminal is a class
+-- if the terminal is a class, the word is not the text of a literal
 abbrev pub LiteralWins : Vocabulary → Terminal → List ℕ → Type 0
 LiteralWins v (Literal l) word = Unit {0}
 LiteralWins v (Class c) word = IsLiteral v.literals word → ⊥

@@ -3,14 +3,15 @@
 ghost use Rattle.ag_scan.specs.Laws.{AnAnswer, AtMostOneAnswer};
 ghost use Rattle.ag_scan.specs.Worked.{LongestWins, UnusedIsNone};
 
-/// States that a sentence has at most one answer over an accepted grammar: one list of tokens or
-/// one fault.
+/// States that a sentence has at most one answer over an accepted grammar. An answer is the list of
+/// its tokens, or the fault (S1 to S4) that says why it has none.
 #[tactic(auto, using(crate::proofs::OneAnswer::at_most_one))]
 pub fn a_sentence_has_at_most_one_answer()
     ensures { AtMostOneAnswer }
 {}
 
-/// States that each sentence has an answer over an accepted grammar: a list of tokens or a fault.
+/// States that each sentence has an answer over an accepted grammar: a list of tokens, or a fault
+/// other than `NoMemory`.
 #[tactic(auto, using(crate::proofs::Answered::an_answer))]
 pub fn each_sentence_has_an_answer()
     ensures { AnAnswer }
@@ -23,8 +24,8 @@ pub fn the_longest_word_wins()
     ensures { LongestWins }
 {}
 
-/// States a worked example: if the only word is the literal `1`, no token begins at the offset 1 of
-/// `12`.
+/// States a worked example: if the only word is the literal `1`, since no class is in use, no token
+/// begins at the offset 1 of `12`.
 #[tactic(auto, using(crate::proofs::Examples::unused_is_none))]
 pub fn a_class_that_is_not_in_use_has_no_words()
     ensures { UnusedIsNone }

@@ -1,5 +1,5 @@
 //! The literals of a grammar, sorted by their texts, and the search for the longest one at the
-//! beginning of a text.
+//! beginning of a text. The order of texts is by bytes, and a prefix comes first.
 
 ghost use Rattle.std.specs.Prelude.{◌≡◌, ◌≤◌, length, slice_get, Some, IfNone, IfOk, IfSome};
 ghost use Rattle.std.specs.Prelude.{MatchBool, MatchOption};
@@ -22,10 +22,10 @@ pub struct LiteralEntry<'g> {
 }
 
 /// The table of a grammar's literals. Its `entries` are sorted by their texts. For each entry,
-/// `shorter` has the index of the last entry before it whose text is a prefix of its own, or `None`.
-/// For each byte, `starts` has the index of the entry whose text begins with it if there is exactly
-/// one, and else whether there are several. In contracts the table is the list of the texts, indexed
-/// by the literals' numbers.
+/// `shorter` has the index of the last entry before it whose text is a prefix of its own, or
+/// `None`. For each byte, `starts` says whether no entry, one entry or several have a text that
+/// begins with the byte, and has the index of a sole one. In contracts the table is the list of the
+/// texts, indexed by the literals' numbers.
 #[derive(Drop)]
 pub struct Literals<'g> {
     texts: &'g [Text],
@@ -80,7 +80,12 @@ fn index_after(last: Option<u16>) -> usize
 }
 
 /// Returns the index of the last of the first `bound` entries whose text is a prefix of `text`, or
-/// `None`. None of these entries is after `text` in the order of texts.
+/// `None`. Requires that each of these `bound` entries is before or equal to `text` in the order of
+/// texts.
+///
+/// If the last entry is not a prefix of `text`, the search goes on with its `shorter` entry: an
+/// earlier entry that is a prefix of `text` is also a prefix of the last one, which is between the
+/// two in order.
 fn last_prefix(
     entries: &[LiteralEntry<'_>],
     shorter: &[Option<u16>],
@@ -136,9 +141,9 @@ fn ordered<'g>(alloc: Global, literals: &'g [Text]) -> Result<Vec<LiteralEntry<'
     Ok(entries)
 }
 
-/// Returns for each entry the index of the last entry before it whose text is a prefix of its own, or
-/// `None`: for `+`, `++`, `-` these are `None`, 0 and `None`. Fails with `NoMemory` if the list cannot
-/// be allocated.
+/// Returns for each entry the index of the last entry before it whose text is a prefix of its own,
+/// or `None`: for `+`, `++`, `-` these are `None`, 0 and `None`. Fails with `NoMemory` if the list
+/// cannot be allocated.
 fn linked(alloc: Global, entries: &[LiteralEntry<'_>]) -> Result<Vec<Option<u16>>, NoMemory>
     requires many { length entries.now ≤ max_literals }
     requires ordered { AreOrdered entries.now }
@@ -153,7 +158,8 @@ fn linked(alloc: Global, entries: &[LiteralEntry<'_>]) -> Result<Vec<Option<u16>
     Ok(shorter)
 }
 
-/// Returns the longest literal that is a prefix of the text, or `None`. Searches the sorted table.
+/// Returns the longest literal that is a prefix of the text, or `None`. Searches the sorted table
+/// for the last prefix, which is the longest one.
 fn longest_of<'w, 'g>(
     texts: &[Text],
     entries: &'w [LiteralEntry<'g>],
@@ -187,8 +193,9 @@ fn prefix_at<'w, 'g>(
     }
 }
 
-/// Returns the longest literal that is a prefix of the text, or `None`. Searches the sorted table
-/// only if several literals begin with the first byte of the text.
+/// Returns the longest literal that is a prefix of the text, or `None`; for an empty text `None`,
+/// since no literal is empty. Searches the sorted table only if several literals begin with the
+/// first byte of the text.
 #[inline(always)]
 fn longest_by_start<'w, 'g>(
     texts: &[Text],

@@ -49,8 +49,8 @@ fn leading_text(text: &str) -> Option<LeadingWord<'_>>
     }
 }
 
-/// Returns the word of one of these classes at the beginning of `text`, given its first character
-/// `c` and the text after that; `None` if no such word begins there.
+/// Returns the word of one of these classes at the beginning of `text`, or `None` if there is none.
+/// `c` is the first character of `text`, and `following` is the text after that character.
 #[inline(never)]
 #[tactic(auto, unfolding(crate::specs::Cutting::class_from))]
 fn class_begun<'t>(

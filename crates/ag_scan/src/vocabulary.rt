@@ -15,8 +15,8 @@ use ag_value::{NoMemory, Text};
 use std::alloc::Global;
 use std::marker::Model;
 
-/// The words of a language: the table of a grammar's literals, and the numbers of the token classes in
-/// use. In contracts it is the texts of the literals and the classes.
+/// The words of a language: the table of a grammar's literals, and the numbers of the token classes
+/// in use. In contracts it is the texts of the literals and the classes.
 #[derive(Drop)]
 pub struct Vocabulary<'g> {
     literals: Literals<'g>,
@@ -32,8 +32,8 @@ impl<'g> Model for Vocabulary<'g> {
 }
 
 impl<'g> Vocabulary<'g> {
-    /// Makes the vocabulary of the texts of literals, indexed by their numbers, and of token classes.
-    /// Fails with `NoMemory` if the table of the literals cannot be allocated.
+    /// Makes the vocabulary of the texts of literals, indexed by their numbers, and of token
+    /// classes. Fails with `NoMemory` if the table of the literals cannot be allocated.
     pub fn new(
         alloc: Global,
         literals: &'g [Text],
@@ -47,8 +47,8 @@ impl<'g> Vocabulary<'g> {
         Ok(Vocabulary { literals, classes })
     }
 
-    /// Returns the longest word at the beginning of a text, or `None`; a literal wins a tie. Does not
-    /// allocate.
+    /// Returns the longest word at the beginning of a text, or `None`; a literal wins a tie. Does
+    /// not allocate.
     #[inline(always)]
     pub fn leading_word<'t>(&self, text: &'t str) -> Option<LeadingWord<'t>>
         ensures { MatchOption result
@@ -59,9 +59,9 @@ impl<'g> Vocabulary<'g> {
         longer_of(literal, leading_class(self.classes, text))
     }
 
-    /// Returns the rest of `text` after its first token; `at` is the offset of `text` in the sentence.
-    /// Fails with S2 at `at` if no word begins there, and with S3 at `at` if the text of the token has
-    /// more than 65,535 bytes.
+    /// Returns the rest of `text` after the token with which it begins. Skips no separators. `at`
+    /// is the offset of `text` in the sentence, in bytes. Fails with S2 at `at` if no word begins
+    /// there, and with S3 at `at` if the text of the token has more than 65,535 bytes.
     #[inline(always)]
     pub fn after_token<'t>(&self, text: &'t str, at: usize) -> Result<&'t str, ScanFault>
         ensures took { IfOk result (λ rest.

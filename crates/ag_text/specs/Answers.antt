@@ -17,10 +17,11 @@ use Rattle.ag_text.specs.Grammar.{ReadsAsNone}
 use Rattle.ag_text.specs.Offsets.{IsFirstWrong}
 use Rattle.ag_text.specs.Reading.{Outcome, grammar_of}
 
+-- the number of line feeds (bytes 10)
 abbrev pub line_feeds : List ℕ → ℕ
 line_feeds bytes = count_by (λ c. c == 10) bytes
 
--- the number of the line at an offset: one more than the number of line feeds before it
+-- the number of the line at an offset in bytes, from 1: one more than the number of line feeds before it
 abbrev pub line_of : List ℕ → ℕ → ℕ
 line_of text at = 1 + line_feeds (take at text)
 
@@ -35,7 +36,7 @@ fault_of text (stop.WrongAt at) = fault.Unexpected (line_of text at) at
 fault_of text (stop.InExpr f) = expr_fault f
 fault_of text stop.NoMemory = fault.NoMemory
 
--- the answer for a text: the value of the parser's result, or the fault of the text
+-- the result for a text, by the outcome of the parser: the grammar without the remaining input, or the fault of the text
 abbrev pub answer_of : List ℕ → Outcome RawGrammar → Result RawGrammar TextFault
 answer_of text (Ok p) = Ok p.0
 answer_of text (Err s) = Err (fault_of text s)
@@ -46,7 +47,7 @@ read_text text i =
     cond (nat_lt max_text_bytes (length text)) (Err fault.TooLong)
     (cond (is_utf8 text) (answer_of text (grammar_of i)) (Err (fault.BadUtf8 (utf8_valid_len text))))
 
--- The answer is the result of parsing the text, or memory ran out.
+-- The answer is the result of parsing the text, whose tokens and ending are i; or memory ran out.
 abbrev pub IsRead : List ℕ → Result RawGrammar TextFault → Type 0
 IsRead text answer = (i : Input) → Lexes 0 (chars text) i → answer ≢ Err fault.NoMemory → read_text text i ≡ answer
 

@@ -7,8 +7,8 @@ use Rattle.ag_grammar.specs.declared.raw.RawGrammar.{RawGrammar}
 use Rattle.ag_grammar.specs.grammars.Accepted.{max_text_bytes}
 use Rattle.ag_text.specs.Syntax.{IsGrammar}
 
--- The text reads as the grammar: it is short enough and UTF-8; it is separators and longest tokens, with each
--- number within its limit; and the tokens spell the grammar.
+-- The text reads as the grammar: it has at most 1,048,576 bytes and is UTF-8; it is separators and longest tokens, with each
+-- number and place within its limit; and the tokens spell the grammar.
 pub record ReadsAsGrammar (text : List ℕ) (raw : RawGrammar) : Type 0 where
   pub short : length text ≤ max_text_bytes
   pub utf8 : IsUtf8 text

@@ -16,8 +16,9 @@ ReadingAgrees = (at : ℕ) (placed : List PlacedToken) (raw : RawGrammar)
     → (grammar_of (record { left = placed; ending = ending.EndsAt at }) ≡ Ok
     (raw, record { left = []; ending = ending.EndsAt at })) ↔ IsGrammar placed raw
 
--- Outside of expressions, the reading function of grammars rejects tokens at the first one with which no grammar
--- continues, or where they end: because the text does and they are not a grammar, or because no token begins there.
+-- Outside of expressions, the reading function of grammars rejects tokens at the first one with which no grammar continues, or
+-- where the tokens end. They end because the text ends and they are not a grammar, or because no token begins there, or because
+-- the token there has a number or place above its limit.
 abbrev pub RefusesAtTheFirst : Type 0
 RefusesAtTheFirst = (i : Input) (at : ℕ) → grammar_of i ≡ Err (WrongAt at) → IsFirstWrong i at
 

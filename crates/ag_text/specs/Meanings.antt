@@ -31,7 +31,7 @@ is_mark m = is_sign (mark m)
 abbrev pub is_word : List ℕ → GrammarToken → Bool
 is_word w = is_sign (word w)
 
--- the meaning of this punctuation, or of this reserved name, which is the only member of `Unit`
+-- the meaning of a token that is this punctuation, or this reserved name: `tt`, the only value of `Unit`; other tokens have none
 abbrev pub mark_in : Punctuation → ℕ → GrammarToken → Option (Unit {0})
 mark_in m at t = some_if (is_mark m t) tt
 
@@ -50,6 +50,7 @@ name_in at _ = None
 abbrev pub is_literal : List ℕ → Bool
 is_literal bytes = not (length bytes == 0) && not (list_any is_separator bytes)
 
+-- the item of a literal, if the bytes can be one
 abbrev pub literal_of : List ℕ → Option RawItem
 literal_of bytes = some_if (is_literal bytes) (item.Literal bytes)
 
@@ -59,6 +60,7 @@ class_of name =
     cond (bytes_eq name (codes "NAME")) (Some name_class)
     (cond (bytes_eq name (codes "NUMBER")) (Some number_class) (cond (bytes_eq name (codes "TEXT")) (Some text_class) None))
 
+-- the item of a class, if there is one, else that of a name, if there is one
 abbrev pub class_or_name : Option ℕ → Option Named → Option RawItem
 class_or_name (Some class) name = Some (item.Class class)
 class_or_name None (Some name) = Some (item.Name name)

@@ -13,12 +13,12 @@ Begins ps = (more : List PlacedToken) × (raw : RawGrammar) × IsGrammar (ps ++ 
 
 -- No grammar's text begins with the tokens `ps` and then the next token. If there is no next token because the
 -- text ends, `ps` alone are not a grammar. If there is none for another reason (a character that begins no token, or
--- a number above its limit), nothing is stated.
+-- a token with a number or place above its limit), nothing is stated.
 abbrev pub NoneGoesOn : List PlacedToken → Ending → List PlacedToken → Type 0
 NoneGoesOn ps e [] = (at : ℕ) → e ≡ ending.EndsAt at → (raw : RawGrammar) → IsGrammar ps raw → ⊥
 NoneGoesOn ps e (p ∷ rest) = Begins (ps ++ p ∷ []) → ⊥
 
--- The offset is that of the first token of `rest`, or the one where the tokens end if `rest` is empty. The tokens
+-- The offset is that of the first token of `rest`, or the offset where the tokens end if `rest` is empty. The tokens
 -- before it are a prefix of the text of a grammar. If `rest` has a token, no grammar continues with it; if the text
 -- ends there, the tokens before are not a grammar.
 pub record IsFirstWrong (i : Input) (at : ℕ) : Type 0 where

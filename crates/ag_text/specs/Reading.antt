@@ -33,11 +33,11 @@ Parser = parsing.Parser Stop
 abbrev pub refusal : Input → Stop
 refusal i = WrongAt (offset i)
 
--- reads one token, and returns its meaning at its offset
+-- reads one token, and returns its meaning at its offset; fails with `refusal` without a token, or if it has no meaning
 abbrev pub one_from : {A : Type 0} → (ℕ → GrammarToken → Option A) → Parser A
 one_from = parsing.one_from refusal
 
--- as many parts as there are
+-- Reads as many parts as there are: as long as the next token passes the test. Returns the given parts and these.
 abbrev pub many : {A : Type 0} → (GrammarToken → Bool) → Parser A → List A → Parser (List A)
 many = further_from false
 
@@ -48,6 +48,7 @@ abbrev pub ended : Input → Result Ended ExprFault → Outcome (Node × List Oc
 ended i (Ok x) = Ok (x.0, record i { left = after_semicolon i.left })
 ended i (Err f) = Err (InExpr f)
 
+-- an expression and the `;` after it
 unfoldable pub ended_expr_from : Parser (Node × List Occ)
 ended_expr_from = λ i. ended i (read_until_from i)
 
@@ -99,9 +100,11 @@ rule_from = do
   expr ← ended_expr_from
   pure (record { target = target; expr = expr })
 
+-- a test: the token is not this punctuation
 abbrev pub is_other_than : Punctuation → GrammarToken → Bool
 is_other_than m t = not (is_mark m t)
 
+-- a test that every token passes
 abbrev pub is_any : GrammarToken → Bool
 is_any t = true
 

@@ -23,9 +23,11 @@ use Rattle.ag_text.specs.Meanings.{mark_in, word_in, name_in, item_in, target_in
 abbrev pub one : {A : Type 0} → (ℕ → GrammarToken → Option A) → List PlacedToken → A → Type 0
 one sign = languages.one (λ p. sign p.at p.token)
 
+-- one token, which is this punctuation
 abbrev pub mark : Punctuation → List PlacedToken → Unit {0} → Type 0
 mark m = one (mark_in m)
 
+-- one token, which is this name
 abbrev pub word : List ℕ → List PlacedToken → Unit {0} → Type 0
 word w = one (word_in w)
 
@@ -47,7 +49,7 @@ IsSection w = do
   word w
   IsNames
 
--- such a section, or nothing and so no names
+-- such a section, or no token, which means no names
 abbrev pub IsAttributes : List ℕ → List PlacedToken → List Named → Type 0
 IsAttributes w = IsSection w or gives []
 

@@ -11,7 +11,7 @@ use Rattle.ag_grammar.specs.declared.raw.RawGrammar.{RawGrammar}
 use Rattle.ag_grammar.specs.declared.raw.RawItem.TheVariants as item
 use Rattle.ag_grammar.specs.declared.raw.RawRule.{RawRule}
 
--- a name and punctuation at an offset, as tokens
+-- a name at an offset, as a token; below it punctuation at an offset, and a name of a raw grammar
 abbrev pub name_at : ℕ → List ℕ → PlacedToken
 name_at at name = record { at = at; token = token.Name name }
 
@@ -25,6 +25,7 @@ named at name = record { name = name; at = at }
 abbrev pub start_tokens : List PlacedToken
 start_tokens = name_at 0 (codes "start") ∷ name_at 6 (codes "S") ∷ mark_at 7 punctuation.Semicolon ∷ []
 
+-- the grammar of `start S;`
 abbrev pub start_alone : RawGrammar
 start_alone = record { start = named 6 (codes "S"); symbols = []; productions = [] }
 
@@ -40,10 +41,12 @@ constant_tokens =
     { at = 53; token = token.Number (pos 7) } ∷ mark_at 54 punctuation.Semicolon ∷
     mark_at 56 punctuation.CloseTable ∷ []
 
+-- the rule `$0.out = 7;`
 abbrev pub constant_rule : RawRule
 constant_rule =
     record { target = record { place = 0; attr = codes "out"; at = 44 }; expr = (node.Literal (value.Num (pos 7)), []) }
 
+-- the grammar of the tokens `constant_tokens`; class 0 is NAME
 abbrev pub constant : RawGrammar
 constant = record {
   start = named 6 (codes "S");

@@ -1,5 +1,5 @@
-//! The tokens that the parser would accept where it rejects the text of a grammar, found by trying
-//! each of them.
+//! What the parser would accept where it rejects the text of a grammar, for messages. This is found
+//! by parsing the text before the offset with one candidate after it, for each candidate.
 
 use crate::fault::TextFault;
 use crate::grammar::read_grammar;
@@ -28,11 +28,11 @@ pub enum Expected {
 /// The signs and reserved names that `gather_outside` tries, besides names, items and rules.
 const SIGNS: [&str; 9] = ["=", "{", "}", ",", ";", "start", "symbol", "syn", "inh"];
 
-/// Returns what could be at the offset of this fault instead of the token there. For each of about 13
-/// candidates it parses the text before the offset with that candidate at its end: from the beginning
-/// of the text for G2, and from that of the expression for G3. Returns an empty list for any fault but
-/// G2, and G3 with X2. If an expression at the offset would be of level 65, the list contains none, but
-/// it can have a `]`, which ends an empty list. Fails with `NoMemory` if memory runs out.
+/// Returns what could be at the offset of this fault instead of the token there. Parses the text
+/// before the offset, for G3 only its last expression, up to 14 times, each time with another
+/// candidate after it. Returns an empty list for any fault but G2, and G3 with X2. If an expression
+/// at the offset would be of level 65, the list contains no expression or operand, but it can
+/// contain a `]`, which ends an empty list. Fails with `NoMemory` if memory runs out.
 pub fn expected_at(alloc: Global, text: &str, fault: TextFault) -> Result<Vec<Expected>, NoMemory> {
     match fault {
         TextFault::Unexpected(_, at) => expected_outside(alloc, text, at),
@@ -41,7 +41,7 @@ pub fn expected_at(alloc: Global, text: &str, fault: TextFault) -> Result<Vec<Ex
     }
 }
 
-/// Returns what could be at a byte offset outside of expressions.
+/// Returns what could be at a byte offset outside of expressions. Fails with `NoMemory`.
 fn expected_outside(alloc: Global, text: &str, at: usize) -> Result<Vec<Expected>, NoMemory> {
     let mut found = Vec::new(alloc);
     if let Some(before) = text.get(..at) {
@@ -50,7 +50,9 @@ fn expected_outside(alloc: Global, text: &str, at: usize) -> Result<Vec<Expected
     Ok(found)
 }
 
-/// Collects in `found` what could follow `before`, which ends outside of expressions.
+/// Collects in `found` what could follow `before`, which ends outside of expressions. The literal
+/// `"a"` is tried for any item, which can be a name too, `_` for any name, and `$0._` for any rule.
+/// Fails with `NoMemory`.
 fn gather_outside(alloc: Global, before: &str, found: &mut Vec<Expected>) -> Result<(), NoMemory> {
     if can_follow(alloc, before, "\"a\"")? {
         found.push(Expected::Item)?;
@@ -71,7 +73,7 @@ fn gather_outside(alloc: Global, before: &str, found: &mut Vec<Expected>) -> Res
     Ok(())
 }
 
-/// Returns what could be at a byte offset inside an expression.
+/// Returns what could be at a byte offset inside an expression. Fails with `NoMemory`.
 fn expected_inside(alloc: Global, text: &str, at: usize) -> Result<Vec<Expected>, NoMemory> {
     let mut found = Vec::new(alloc);
     let from = expression_start(text, at);
@@ -88,13 +90,15 @@ fn expected_inside(alloc: Global, text: &str, at: usize) -> Result<Vec<Expected>
     Ok(found)
 }
 
-/// Returns the byte offset at which the expression around the offset `at` begins: after the last
-/// `=` before `at` that follows an occurrence; 0 if there is none. Inside an expression no `=` follows
-/// an occurrence.
+/// Returns the byte offset at which the expression around the offset `at` begins: that of the first
+/// token after the last `=` before `at` that follows an occurrence; 0 if there is none. Such an `=`
+/// is that of a rule: in the part of an expression before its fault, `=` follows only a name, in a
+/// `let`.
 fn expression_start(text: &str, at: usize) -> usize {
     let mut cursor = Cursor::new(text);
     let mut start = 0usize;
     let mut after_occurrence = false;
+    // a text has at most as many tokens as bytes
     for _ in 0..text.len() {
         if cursor.offset() >= at {
             break;
@@ -111,8 +115,8 @@ fn expression_start(text: &str, at: usize) -> usize {
     start
 }
 
-/// Returns whether `token` could follow `before`: whether the parser does not reject the token
-/// itself.
+/// Returns whether `token` could follow `before`: whether `before`, a space and `token` are a
+/// grammar, or are rejected only after the offset of `token`. Fails with `NoMemory`.
 fn can_follow(alloc: Global, before: &str, token: &str) -> Result<bool, NoMemory> {
     let tried = format!(in alloc; "{before} {token}")?;
     match refused_at(alloc, tried.as_str())? {
@@ -122,7 +126,7 @@ fn can_follow(alloc: Global, before: &str, token: &str) -> Result<bool, NoMemory
 }
 
 /// Returns the byte offset at which the text is rejected, or `None` if it is a grammar. Returns 0
-/// for any fault but G2, and G3 with X2.
+/// for any fault but G2, G3 with X2, and NoMemory. Fails with `NoMemory`.
 fn refused_at(alloc: Global, text: &str) -> Result<Option<usize>, NoMemory> {
     match read_grammar(alloc, text.as_bytes()) {
         Ok(_) => Ok(None),

@@ -29,7 +29,8 @@ fn line_feeds(bytes: &[u8]) -> usize
     count
 }
 
-/// Returns the number, from 1, of the line that contains a byte offset.
+/// Returns the number, from 1, of the line that contains a byte offset, or of the last line if the
+/// offset is that of the end or greater.
 fn line_of(text: &str, at: usize) -> usize
     ensures { result ≡ answers.line_of text.now at }
 {
@@ -65,10 +66,11 @@ fn read_characters(alloc: Global, text: &str) -> Result<RawGrammar, TextFault>
 
 /// Parses a text as a grammar.
 ///
-/// Fails with the first of these faults: G4 if the text has more than 1,048,576 bytes; G1 if it is
-/// not UTF-8; then, at the first token that cannot be accepted, G3 inside the expression of a rule
-/// (up to its `;`), and G2 with the line elsewhere. Fails with `NoMemory` if memory runs out. With
-/// any other fault, the text is proved not to be a grammar.
+/// Fails with G4 if the text has more than 1,048,576 bytes, and otherwise with G1 if it is not
+/// UTF-8. Otherwise the fault is at the first token that cannot be accepted: G3 after the `=` of a
+/// rule, up to the next `;` (also at this `;`, and at the end of a text without one), and G2, with
+/// the line, elsewhere. Fails with `NoMemory` if memory runs out. With any other fault, the text is
+/// proved not to be a grammar.
 pub fn read_grammar(alloc: Global, text: &[u8]) -> Result<RawGrammar, TextFault>
     ensures exact { IsRead text.now result }
     ensures first { IfErr result (λ e. IsFirstOf text.now e) }

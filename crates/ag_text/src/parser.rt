@@ -1,5 +1,6 @@
-//! The parser of grammars: one function for each rule of the syntax. All fail with `Stop::WrongAt` at the
-//! first token that cannot be accepted, with `Stop::InExpr` in an expression, and with `NoMemory`.
+//! The parser of grammars, which follows the productions of the syntax in LANGUAGE.md. All
+//! functions fail with `Stop::WrongAt` at the first token that cannot be accepted, with
+//! `Stop::InExpr` in an expression, and with `NoMemory`.
 
 ghost use Rattle.std.specs.Prelude.{◌≡◌, [], Bool, codes};
 ghost use Rattle.ag_tokens.specs.Parsing.{sees};
@@ -43,8 +44,8 @@ fn names(alloc: Global, cursor: &mut Cursor<'_>) -> Result<Items<Named>, Stop>
     Ok(Items::from_vec(names))
 }
 
-/// Parses the reserved name `word` and the names after it; returns no names if the next token is
-/// another one.
+/// Parses the reserved name `word` (`syn` or `inh`) and the names after it. Returns no names if the
+/// next token is not `word`.
 #[tactic(auto, unfolding(crate::specs::Reading::attributes_from, crate::specs::Reading::section_from))]
 fn attributes(alloc: Global, cursor: &mut Cursor<'_>, word: &str) -> Result<Items<Named>, Stop>
     ensures { Reads (reading.attributes_from word.now) cursor.old result cursor.new }
@@ -61,7 +62,7 @@ trait Repeated: Sized {
     ghost use Rattle.ag_text.specs.Reading.{Parser};
     ghost use Rattle.ag_tokens.specs.GrammarToken.{GrammarToken};
 
-    /// The tokens that begin another part.
+    /// A test: the token begins another part.
     ghost begins: { GrammarToken → Bool };
 
     /// The specification's parser of one part.
@@ -79,7 +80,7 @@ trait Repeated: Sized {
 /// Parses parts as long as the next token begins another one.
 #[tactic(auto, using(crate::proofs::Turns::looped))]
 fn parts<P: Repeated + Drop>(alloc: Global, cursor: &mut Cursor<'_>) -> Result<Items<P>, Stop>
-    // each part has at least one token
+    // each part has at least one token, so the loop ends
     requires { Shortens P.part }
     ensures { Reads (reading.many P.begins P.part []) cursor.old result cursor.new }
 {

@@ -9,7 +9,8 @@ use ag_grammar::Expr;
 use ag_tokens::Cursor;
 use std::alloc::Global;
 
-/// Parses an expression and the `;` after it. Fails with the fault of the expression, or `NoMemory`.
+/// Parses an expression and the `;` after it. Fails with `InExpr` and the fault of the expression,
+/// or with `NoMemory`.
 #[tactic(auto, using(crate::proofs::Expressions::read_refused), unfolding(crate::specs::Reading::ended_expr_from))]
 pub fn ended_expr(alloc: Global, cursor: &mut Cursor<'_>) -> Result<Expr, Stop>
     ensures { Reads ended_expr_from cursor.old result cursor.new }

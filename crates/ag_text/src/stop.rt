@@ -10,8 +10,9 @@ use ag_value::OutOfMemory;
 /// Why the parser of grammars fails. Offsets are in bytes from the beginning of the text.
 #[derive(Clone, Copy, Debug, PartialEq, Eq)]
 pub enum Stop {
-    /// The token at this offset cannot be accepted; or the text ends there; or no token begins there; or
-    /// the number there is above its limit. `TextFault::Unexpected` is the same fault with its line.
+    /// The token at this offset cannot be accepted; or the text ends there; or no token begins
+    /// there; or the number or place of the token there is above its limit. `TextFault::Unexpected`
+    /// is the same fault with its line.
     WrongAt(usize),
     /// The expression of a rule has this fault.
     InExpr(ExprFault),
@@ -19,7 +20,8 @@ pub enum Stop {
     NoMemory,
 }
 
-/// Returns the fault of the parser of grammars for a fault of an expression.
+/// Returns the fault of the parser of grammars for a fault of an expression; `NoMemory` stays
+/// itself.
 pub fn in_expr(fault: ExprFault) -> Stop
     ensures { result ≡ stop_of fault }
 {

@@ -31,7 +31,8 @@ fn is_reserved(name: &str) -> bool
         || name == "TEXT"
 }
 
-/// Returns `WrongAt` with the offset of the next token, or with that where the tokens end.
+/// Returns `WrongAt` with the byte offset of the next token, or with the offset where the tokens
+/// end.
 pub fn refusal(cursor: &Cursor<'_>) -> Stop
     ensures { result ≡ stop.WrongAt (offset cursor.now) }
 {

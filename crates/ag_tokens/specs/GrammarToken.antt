@@ -1,4 +1,5 @@
--- The tokens of the language, by what they denote (this project's language).
+-- The tokens of the language, by what they denote (this project's language). The Rust type `GrammarToken` has the same cases,
+-- but contains a text literal as it is written.
 use Rattle.std.specs.Prelude.{ℕ, ℤ, List}
 use Rattle.ag_tokens.specs.declared.token.Punctuation as punctuation
 
@@ -13,7 +14,7 @@ pub data GrammarToken : Type 0 where
   Occurrence : ℕ → List ℕ → GrammarToken
   Punctuation : punctuation.Punctuation → GrammarToken
 
--- A token with a fixed text: punctuation, or a name, such as a reserved one.
+-- A token with a fixed text: punctuation, or a name, such as a reserved word.
 pub data Sign : Type 0 where
   mark : punctuation.Punctuation → Sign
   word : List ℕ → Sign

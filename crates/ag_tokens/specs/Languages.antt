@@ -7,6 +7,7 @@ infixl 10 ◌>>=◌
 abbrev pub ◌>>=◌ : {T A B : Type 0} → (List T → A → Type 0) → (A → List T → B → Type 0) → List T → B → Type 0
 ◌>>=◌ {T} {A} first more ts b = (us : List T) × (vs : List T) × (a : A) × (ts ≡ us ++ vs) × first us a × more a vs b
 
+-- a part, followed by a part that doesn't depend on the first one's meaning
 infixl 10 ◌>>◌
 abbrev pub ◌>>◌ : {T A B : Type 0} → (List T → A → Type 0) → (List T → B → Type 0) → List T → B → Type 0
 first >> more = first >>= (λ _. more)
@@ -29,7 +30,7 @@ pub data Many {T A : Type 0} (item : List T → A → Type 0) : List T → List 
   none : Many item [] []
   more : (us vs : List T) (x : A) (xs : List A) → item us x → Many item vs xs → Many item (us ++ vs) (x ∷ xs)
 
--- n is at most 1, if the flag is set
+-- n is at most 1, if the first argument is true
 abbrev pub IsFew : Bool → ℕ → Type 0
 IsFew true n = n ≤ 1
 IsFew false n = Unit {0}

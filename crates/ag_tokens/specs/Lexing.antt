@@ -1,4 +1,6 @@
--- The lexer as a plain function. It agrees with the definition of tokens.
+-- The lexer as a plain function, `token_from`, which agrees with the definition of tokens (see the laws). A text is the list of
+-- its characters, and a character is its code point: 34 is a double quote, 36 `$`, 46 a dot and 92 a backslash. To *cut* a text
+-- is to read its tokens. `lent.GrammarToken` is the Rust type, whose tokens borrow their texts.
 use Rattle.std.specs.Option.{option_and_then}
 use Rattle.std.specs.Prelude.{◌≡◌, ℕ, zero, suc, pos, Bool, true, false, cond, ◌==◌, List, [], ◌∷◌, ◌++◌, length, take, drop}
 use Rattle.std.specs.Prelude.{Option, Some, None, Result, Ok, Err, encode_utf8, encode_utf8_all, chars, is_some, option_map}
@@ -43,8 +45,8 @@ abbrev pub escape_from : List ℕ → Option (ℕ × List ℕ)
 escape_from [] = None
 escape_from (c ∷ cs) = option_and_then (λ d. Some (d, cs)) (escaped c)
 
--- the character that the first characters of a body denote, and the characters after it: an escape denotes one, and any other
--- character itself, also a quote
+-- the character that the beginning of a body denotes, and the characters after it: an escape denotes one character, and any other
+-- character denotes itself, also a quote
 abbrev pub piece_from : List ℕ → Option (ℕ × List ℕ)
 piece_from [] = None
 piece_from (c ∷ cs) = cond (c == 92) (escape_from cs) (Some (c, cs))
@@ -60,7 +62,7 @@ abbrev mutual
   after_backslash [] = []
   after_backslash (c ∷ cs) = match_option (escaped c) [] (λ d. encode_utf8 d ++ unescaped cs)
 
--- the specification token of a token of the code
+-- the token of the specification that corresponds to a token of the code
 abbrev pub token_of : lent.GrammarToken → GrammarToken
 token_of (lent_token.Number n) = token.Number n
 token_of (lent_token.Text body) = token.Text (unescaped (chars body.now))
@@ -81,7 +83,7 @@ name_from (c ∷ cs) =
     cond (starts_name c)
     (Some (take (prefix_len is_xid_continue (c ∷ cs)) (c ∷ cs), drop (prefix_len is_xid_continue (c ∷ cs)) (c ∷ cs))) None
 
--- the punctuation that consists of this character alone and begins no longer one
+-- the punctuation that consists of this character alone, if no punctuation of two characters begins with it
 abbrev pub single_punctuation : ℕ → Option Punctuation
 single_punctuation c =
     cond (c == 45) (Some punctuation.Minus)
@@ -93,7 +95,7 @@ single_punctuation c =
     (cond (c == 123) (Some punctuation.OpenTable) (cond (c == 125) (Some punctuation.CloseTable)
     (cond (c == 44) (Some punctuation.Comma) (cond (c == 59) (Some punctuation.Semicolon) None))))))))))
 
--- `two` if the character `twice` follows, else `one`
+-- after a first `twice`: `two` and the characters after the second one, if `twice` follows, else `one` and all these characters
 abbrev pub double_mark : ℕ → Punctuation → Punctuation → List ℕ → Punctuation × List ℕ
 double_mark twice two one [] = (one, [])
 double_mark twice two one (c ∷ cs) = cond (c == twice) (two, cs) (one, c ∷ cs)
@@ -106,7 +108,7 @@ punctuation_from (c ∷ cs) =
     (cond (c == 61) (Some (double_mark 61 punctuation.EqualEqual punctuation.Equal cs))
     (option_and_then (λ s. Some (s, cs)) (single_punctuation c)))
 
--- the character that the first characters of a body denote, and the characters after it; none at a quote
+-- the character that the beginning of a body denotes, and the characters after it; none at a quote, which ends a body
 abbrev pub character_from : List ℕ → Option (ℕ × List ℕ)
 character_from [] = None
 character_from (c ∷ cs) = cond (c == 34) None (cond (c == 92) (escape_from cs) (Some (c, cs)))
@@ -116,7 +118,8 @@ abbrev pub after_quote : List ℕ → Option (List ℕ)
 after_quote [] = None
 after_quote (c ∷ cs) = cond (c == 34) (Some cs) None
 
--- the text literal whose bytes so far are `prefix`, if fewer than `turns` further characters come before its closing quote
+-- the text literal whose bytes so far are `prefix`, and the characters after it, if fewer than `turns` further characters come
+-- before its closing quote
 unfoldable pub text_from : ℕ → List ℕ → List ℕ → Option (GrammarToken × List ℕ)
 text_from zero prefix cs = None
 text_from (suc turns) prefix cs =
@@ -128,7 +131,7 @@ abbrev pub after_dot : List ℕ → Option (List ℕ)
 after_dot [] = None
 after_dot (c ∷ cs) = cond (c == 46) (Some cs) None
 
--- the occurrence whose `$` has been read
+-- the occurrence whose `$` has been read, and the characters after it
 abbrev pub occurrence_from : List ℕ → Option (GrammarToken × List ℕ)
 occurrence_from cs =
     option_and_then
@@ -137,11 +140,11 @@ occurrence_from cs =
     (λ rest. option_and_then (λ n. Some (token.Occurrence (digits_value 10 d.0) (encode_utf8_all n.0), n.1))
     (name_from rest)) (after_dot d.1)) (digits_from cs)
 
--- a number literal of any size
+-- a number literal of any size, and the characters after it
 abbrev pub number_from : List ℕ → Option (GrammarToken × List ℕ)
 number_from cs = option_and_then (λ d. Some (token.Number (pos (digits_value 10 d.0)), d.1)) (digits_from cs)
 
--- a token other than a text literal and an occurrence: a number, a name or punctuation
+-- a token other than a text literal and an occurrence (a number, a name or punctuation), and the characters after it
 abbrev pub plain_from : List ℕ → Option (GrammarToken × List ℕ)
 plain_from cs =
     match_option (digits_from cs)
@@ -154,18 +157,18 @@ unfoldable pub token_from : List ℕ → Option (GrammarToken × List ℕ)
 token_from [] = None
 token_from (c ∷ cs) = cond (c == 34) (text_from (length cs) [] cs) (cond (c == 36) (occurrence_from cs) (plain_from (c ∷ cs)))
 
--- a token was read whose number is above its limit
+-- a token was read whose number or place is above its limit
 abbrev pub IsTooLarge : Option (GrammarToken × List ℕ) → Type 0
 IsTooLarge None = ⊥
 IsTooLarge (Some x) = is_within x.0 ≡ false
 
 -- A token of the code, with the text after it, is the token that the specification reads, with the characters
--- after it, and its number is within the limit.
+-- after it, and its number or place, if it has one, is within the limit.
 abbrev pub IsSameToken : lent.GrammarToken × Bor (List ℕ) → Option (GrammarToken × List ℕ) → Type 0
 IsSameToken x read = (read ≡ Some (token_of x.0, chars x.1.now)) × (is_within (token_of x.0) ≡ true)
 
--- The same for a result: `Nothing` means that no token is read, `TooLarge` that its number is above its
--- limit.
+-- A result of the code agrees with what the specification reads: Ok as in `IsSameToken`; `Nothing` if it reads no token;
+-- `TooLarge` if it reads one whose number or place is above its limit.
 abbrev pub AgreesOnToken : Result (lent.GrammarToken × Bor (List ℕ)) TokenFault → Option (GrammarToken × List ℕ) → Type 0
 AgreesOnToken (Ok x) read = IsSameToken x read
 AgreesOnToken (Err fault.Nothing) read = read ≡ None

@@ -55,7 +55,7 @@ abbrev pub fault_of : Ending → List PlacedToken → Option TokenFault
 fault_of e [] = ending_fault e
 fault_of e (p ∷ ps) = None
 
--- whether there is a next token and it satisfies the test
+-- whether there is a next token and it satisfies the test; `sees` is the same for the next token of an input
 abbrev pub next_satisfies : (GrammarToken → Bool) → Option GrammarToken → Bool
 next_satisfies test None = false
 next_satisfies test (Some t) = test t
@@ -75,14 +75,14 @@ is_sign s t = false
 
 -- ---- parsers
 
--- the result of a parser: a value and the remaining input, or a fault
+-- the result of a parser, which is a function of an input: a value and the remaining input, or a fault
 abbrev pub Outcome : Type 0 → Type 0 → Type 0
 Outcome Fault A = Result (A × Input) Fault
 
 abbrev pub Parser : Type 0 → Type 0 → Type 0
 Parser Fault A = Input → Outcome Fault A
 
--- one parser and then another, which depends on the first one's value; the first fault is the result
+-- one outcome and then a parser, which depends on its value; a fault is the result. `>>=` is the same for two parsers.
 abbrev pub and_then : {Fault A B : Type 0} → Outcome Fault A → (A → Parser Fault B) → Outcome Fault B
 and_then (Ok p) f = f p.0 p.1
 and_then (Err e) f = Err e
@@ -91,6 +91,7 @@ infixl 10 ◌>>=◌
 abbrev pub ◌>>=◌ : {Fault A B : Type 0} → Parser Fault A → (A → Parser Fault B) → Parser Fault B
 p >>= f = λ i. and_then (p i) f
 
+-- the same if the second parser doesn't depend on the first one's value
 infixl 10 ◌>>◌
 abbrev pub ◌>>◌ : {Fault A B : Type 0} → Parser Fault A → Parser Fault B → Parser Fault B
 p >> q = p >>= (λ _. q)
@@ -99,7 +100,8 @@ p >> q = p >>= (λ _. q)
 abbrev pub pure : {Fault A : Type 0} → A → Parser Fault A
 pure a = λ i. Ok (a, i)
 
--- accepts the next token with the meaning a, if it has one, and else fails
+-- the parser that accepts the next token, if its meaning is some a, and returns a; else it fails with the fault that `wrong`
+-- gives
 abbrev pub accept_as : {Fault A : Type 0} → (Input → Fault) → Option A → Parser Fault A
 accept_as wrong None = λ i. Err (wrong i)
 accept_as wrong (Some a) = λ i. Ok (a, next i)
@@ -109,7 +111,8 @@ abbrev pub meaning_of : {A : Type 0} → (ℕ → GrammarToken → Option A) →
 meaning_of meaning at None = None
 meaning_of meaning at (Some t) = meaning at t
 
--- the parser of one token with a meaning; fails with `wrong` if the next token has none
+-- the parser of one token that has a meaning, which it returns. Without a next token, or if that has no meaning, the parser fails
+-- with the fault that `wrong` gives.
 abbrev pub one_from : {Fault A : Type 0} → (Input → Fault) → (ℕ → GrammarToken → Option A) → Parser Fault A
 one_from wrong meaning = λ i. accept_as wrong (meaning_of meaning (offset i) (next_token i)) i
 
@@ -117,7 +120,8 @@ one_from wrong meaning = λ i. accept_as wrong (meaning_of meaning (offset i) (n
 abbrev pub choose : {Fault A : Type 0} → (GrammarToken → Bool) → Parser Fault A → Parser Fault A → Parser Fault A
 choose test one other = λ i. if sees test i then one i else other i
 
--- repeats a parser as long as the next token begins another item, at most n times; `found` has the items so far
+-- repeats a parser as long as the next token begins another item, at most n times; `found` has the items so far, and is returned
+-- with the others after it
 unfoldable pub many_from : {Fault A : Type 0} → (GrammarToken → Bool) → Parser Fault A → ℕ → List A → Parser Fault (List A)
 many_from begins item zero found = pure found
 many_from begins item (suc n) found = choose begins (item >>= λ x. many_from begins item n (found ++ x ∷ [])) (pure found)
@@ -127,10 +131,10 @@ abbrev pub item_bound : Bool → List PlacedToken → ℕ
 item_bound true ps = 1
 item_bound false ps = length ps
 
--- parses further items after `found`: at most one if `one` holds, else as many as there are
+-- parses further items after `found`: at most one if `one` is true, else as many as there are; returns `found` and these
 abbrev pub further_from : {Fault A : Type 0} → Bool → (GrammarToken → Bool) → Parser Fault A → List A → Parser Fault (List A)
 further_from one begins item found = λ i. many_from begins item (item_bound one i.left) found i
 
--- the end of the text, or a fault
+-- reads nothing if the text ends here, and else fails with the fault that `wrong` gives
 abbrev pub end_from : {Fault : Type 0} → (Input → Fault) → Parser Fault (Unit {0})
 end_from wrong = λ i. if is_end i.ending i.left then Ok (tt, i) else Err (wrong i)

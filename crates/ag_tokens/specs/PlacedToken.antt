@@ -1,5 +1,4 @@
--- The tokens of a text with their offsets, and their ending. A reader of tokens depends on the text only
--- through these.
+-- The tokens of a text with their offsets, and their ending. What a parser of tokens returns depends on nothing else of the text.
 use Rattle.std.specs.Prelude.{ℕ, List, map}
 use Rattle.ag_tokens.specs.Ending.{Ending}
 use Rattle.ag_tokens.specs.GrammarToken.{GrammarToken}

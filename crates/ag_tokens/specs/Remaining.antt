@@ -31,7 +31,7 @@ without_tokens e = record { left = []; ending = e }
 abbrev pub with_token : ℕ → GrammarToken → Input → Input
 with_token at t i = record i { left = record { at = at; token = t } ∷ i.left }
 
--- the ending at the offset `at` if the characters `cs` from there on do not begin with a token
+-- the ending at the offset `at`, for characters `cs` from there on that begin with no token and no separator
 abbrev pub ending_at : ℕ → List ℕ → Ending
 ending_at at [] = ending.EndsAt at
 ending_at at (c ∷ cs) = ending.NoTokenAt at
@@ -41,15 +41,15 @@ abbrev pub ending_by : TokenFault → ℕ → List ℕ → Ending
 ending_by token_fault.Nothing at cs = ending_at at cs
 ending_by token_fault.TooLarge at cs = ending.TooLargeAt at
 
--- the input from the offset `at` on, given the token that the lexer reads at the beginning of `cs` and the
--- input after it
+-- The input from the offset `at` on, where the characters `cs` begin. The last argument is what the lexer reads there: a token
+-- and the characters after it. `more` maps the characters from the next token on to their input.
 abbrev pub input_by : (List ℕ → Input) → ℕ → List ℕ → Option (GrammarToken × List ℕ) → Input
 input_by more at cs None = without_tokens (ending_at at cs)
 input_by more at cs (Some p) =
     cond (is_within p.0) (with_token at p.0 (more (after_separators p.1))) (without_tokens (ending.TooLargeAt at))
 
--- The tokens of the last characters `cs` of a text of `len` bytes, at most `turns` of them, which bounds the
--- recursion. `cs` does not begin with a separator.
+-- The tokens of the last characters `cs` of a text of `len` bytes, and the ending. `cs` does not begin with a separator. `turns`
+-- bounds the recursion: it must be greater than the number of tokens.
 unfoldable pub cut : ℕ → ℕ → List ℕ → Input
 cut zero len cs = without_tokens (ending.EndsAt len)
 cut (suc turns) len cs = input_by (cut turns len) (len - width cs) cs (token_from cs)

@@ -1,5 +1,5 @@
--- The definition of the tokens of a text, by longest match (this project's language). In this file a text is
--- the list of its characters.
+-- The definition of the tokens of a text, by longest match (this project's language). In this file a text is the list of its
+-- characters, and a character is its code point: 34 is a double quote, 36 `$`, 46 a dot, 92 a backslash and 95 `_`.
 use Rattle.std.specs.Prelude.{◌≡◌, ℕ, ◌+◌, ◌<◌, ◌≤◌, pos, int_le, nat_le, Bool, true, false, not, cond, ◌||◌, ◌&&◌, ◌==◌, ◌≢◌}
 use Rattle.std.specs.Prelude.{List, [], ◌∷◌, ◌++◌, length, Option, Some, None, encode_utf8, encode_utf8_all}
 use Rattle.std.specs.Char.{is_ascii_digit, len_utf8}
@@ -19,12 +19,12 @@ use Rattle.ag_grammar.specs.declared.limits.TheConstants.{MAX_PLACE}
 abbrev pub is_separator : ℕ → Bool
 is_separator c = c == 32 || c == 9 || c == 13 || c == 10
 
--- a name starts with an XID_Start character or `_`
+-- a name starts with a character of Unicode's class XID_Start or with `_`
 abbrev pub starts_name : ℕ → Bool
 starts_name c = is_xid_start c || c == 95
 
--- the characters allowed between the quotes of a TEXT: all but a double quote and LF (such a TEXT has no
--- escapes)
+-- the characters allowed between the quotes of a token of the class TEXT in a sentence: all but a double quote and LF (such a
+-- token has no escapes)
 abbrev pub is_quotable : ℕ → Bool
 is_quotable c = not (c == 34 || c == 10)
 
@@ -32,7 +32,7 @@ is_quotable c = not (c == 34 || c == 10)
 abbrev pub IsDigits : List ℕ → Type 0
 IsDigits word = (0 < length word) × (list_all is_ascii_digit word ≡ true)
 
--- a start character, followed by XID_Continue characters
+-- a name: a start character, followed by characters of Unicode's class XID_Continue
 abbrev pub IsName : List ℕ → Type 0
 IsName [] = ⊥
 IsName (c ∷ cs) = (starts_name c ≡ true) × (list_all is_xid_continue cs ≡ true)
@@ -93,8 +93,8 @@ abbrev pub width : List ℕ → ℕ
 width [] = 0
 width (c ∷ cs) = len_utf8 c + width cs
 
--- From the byte offset `at` up to the offset `end`, the characters are separators and the longest tokens
--- `placed`, each at its offset; `rest` are the characters after them.
+-- The characters `cs` begin at the byte offset `at`. From there up to the offset `end` they are separators and tokens, each the
+-- longest at its offset. `placed` are these tokens with their offsets, and `rest` are the characters from `end` on.
 pub data AreTokens : ℕ → List ℕ → List PlacedToken → ℕ → List ℕ → Type 0 where
   ended : (at : ℕ) (cs : List ℕ) → AreTokens at cs [] at cs
   separator : (at c : ℕ) (cs : List ℕ) (placed : List PlacedToken) (end : ℕ) (rest : List ℕ) → is_separator c ≡ true
@@ -103,8 +103,8 @@ pub data AreTokens : ℕ → List ℕ → List PlacedToken → ℕ → List ℕ 
       → all ≡ word ++ cs → IsToken word t → IsLongest word cs → AreTokens (at + width word) cs placed end rest
       → AreTokens at all (record { at = at; token = t } ∷ placed) end rest
 
--- The number of a token is within its limit: a number literal in the range of i64, a place at most 65,535. Other
--- tokens have no number.
+-- The number or place of a token is within its limit: a number literal is at most 2^63 - 1, and a place at most 65,535. Other
+-- tokens have neither.
 abbrev pub is_within : GrammarToken → Bool
 is_within (token.Number n) = int_le n (pos 9223372036854775807)
 is_within (token.Occurrence place attr) = nat_le place MAX_PLACE
@@ -116,8 +116,7 @@ pub record Reaches (from : ℕ) (cs : List ℕ) (at : ℕ) (rest : List ℕ) : T
   pub placed : List PlacedToken
   pub before : AreTokens from cs placed at rest
 
--- At the offset `at`, which whole tokens and separators reach, there is a character that is not a separator
--- and begins no token.
+-- Whole tokens and separators extend up to the offset `at`. The character there is not a separator and begins no token.
 pub record NoTokenAt (from : ℕ) (cs : List ℕ) (at : ℕ) : Type 0 where
   pub first : ℕ
   pub rest : List ℕ
@@ -125,8 +124,8 @@ pub record NoTokenAt (from : ℕ) (cs : List ℕ) (at : ℕ) : Type 0 where
   pub no_separator : is_separator first ≡ false
   pub no_token : BeginsNoToken (first ∷ rest)
 
--- At the offset `at`, which whole tokens and separators reach, there is a token, the longest there, whose
--- number may have any size.
+-- Whole tokens and separators extend up to the offset `at`. A token is there, the longest one, whose number or place may have any
+-- size.
 pub record AnyTokenAt (from : ℕ) (cs : List ℕ) (at : ℕ) : Type 0 where
   pub word : List ℕ
   pub token : GrammarToken
@@ -135,11 +134,11 @@ pub record AnyTokenAt (from : ℕ) (cs : List ℕ) (at : ℕ) : Type 0 where
   pub is : IsToken word token
   pub longest : IsLongest word rest
 
--- At this offset there is a token whose number is above its limit.
+-- At this offset there is a token whose number or place is above its limit.
 abbrev pub TooLargeAt : ℕ → List ℕ → ℕ → Type 0
 TooLargeAt from cs at = (there : AnyTokenAt from cs at) × (is_within there.token ≡ false)
 
--- At this offset there is a token whose number, if it has one, is within its limit.
+-- At this offset there is a token whose number or place, if it has one, is within its limit.
 abbrev pub TokenAt : ℕ → List ℕ → ℕ → Type 0
 TokenAt from cs at = (there : AnyTokenAt from cs at) × (is_within there.token ≡ true)
 
@@ -147,7 +146,7 @@ TokenAt from cs at = (there : AnyTokenAt from cs at) × (is_within there.token �
 abbrev pub EndsAt : ℕ → List ℕ → ℕ → Type 0
 EndsAt from cs at = Reaches from cs at []
 
--- The number of each token is within its limit.
+-- The number or place of each token is within its limit.
 abbrev pub all_within : List PlacedToken → Bool
 all_within [] = true
 all_within (p ∷ ps) = is_within p.token && all_within ps
@@ -157,7 +156,7 @@ abbrev pub HasNoToken : List ℕ → Type 0
 HasNoToken [] = ⊥
 HasNoToken (c ∷ cs) = (is_separator c ≡ false) × BeginsNoToken (c ∷ cs)
 
--- the characters begin with a token, the longest there, whose number is above its limit
+-- the characters begin with a token, the longest there, whose number or place is above its limit
 pub record HasTooLarge (cs : List ℕ) : Type 0 where
   pub word : List ℕ
   pub token : GrammarToken
@@ -173,8 +172,8 @@ Stops (ending.EndsAt at) rest = rest ≡ []
 Stops (ending.NoTokenAt at) rest = HasNoToken rest
 Stops (ending.TooLargeAt at) rest = HasTooLarge rest
 
--- From the byte offset `from` on, the characters are the tokens and the ending of i, and the number of each
--- token is within its limit.
+-- From the byte offset `from` on, where the characters `cs` begin, they are the tokens and the ending of i, and the number or
+-- place of each token is within its limit.
 pub record Lexes (from : ℕ) (cs : List ℕ) (i : Input) : Type 0 where
   pub rest : List ℕ
   pub before : AreTokens from cs i.left (offset_of i.ending) rest

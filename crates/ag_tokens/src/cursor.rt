@@ -13,9 +13,9 @@ use crate::lexer::{leading_token, quick_token, skip_separators};
 use crate::token::GrammarToken;
 use std::marker::Model;
 
-/// A cursor over the tokens of a text. It is positioned before a token, or where the tokens end,
-/// and holds the next token, so that a look at it reads nothing. Offsets are in bytes from the
-/// beginning of the text.
+/// A cursor over the tokens of a text. It is positioned before a token, or where the tokens end.
+/// The next token is read in advance and stored, so `peek` only returns it. Offsets are in bytes
+/// from the beginning of the text.
 #[derive(Drop)]
 pub struct Cursor<'t> {
     text: &'t str,
@@ -38,7 +38,7 @@ impl<'t> Model for Cursor<'t> {
 }
 
 /// Returns why no token can be read at the beginning of `rest`, or `None` if `rest` is empty.
-/// `fault` is the fault of the failed attempt to read one.
+/// `fault` is the fault with which `leading_token` failed for `rest`.
 #[tactic(auto, using(crate::proofs::States::no_width, crate::proofs::Lexed::wide))]
 fn fault_before(fault: TokenFault, rest: &str) -> Option<TokenFault>
     ensures { (at : ℕ) → result ≡ ending_fault (ending_by fault at (chars rest.now)) }
@@ -80,7 +80,7 @@ impl<'t> Cursor<'t> {
     }
 
     /// Returns the next token, or `None` if the text ends here, or if no token begins here, or if
-    /// the number of the token here is above its limit. Does not allocate.
+    /// the number or place of the token here is above its limit. Does not allocate.
     pub fn peek(&self) -> Option<GrammarToken<'t>>
         ensures { option_map token_of result ≡ next_token self.now }
     {
@@ -90,7 +90,8 @@ impl<'t> Cursor<'t> {
         }
     }
 
-    /// Returns the byte offset of the next token, or the one where the tokens end. Does not allocate.
+    /// Returns the byte offset of the next token, or the byte offset where the tokens end. Does not
+    /// allocate.
     #[tactic(auto, using(crate::proofs::States::offset_is))]
     pub fn offset(&self) -> usize
         ensures { result ≡ offset self.now }
@@ -106,8 +107,8 @@ impl<'t> Cursor<'t> {
         self.rest.is_empty()
     }
 
-    /// Returns why no token can be read here, or `None` if one can or the text ends here. Does not
-    /// allocate.
+    /// Returns why no token can be read here, or `None` if there is a next token or the text ends
+    /// here. Does not allocate.
     pub fn fault(&self) -> Option<TokenFault>
         ensures { result ≡ fault_of self.now.ending self.now.left }
     {
@@ -123,6 +124,7 @@ impl<'t> Cursor<'t> {
     {
         if let Ok((_, following)) = self.leading {
             self.rest = skip_separators(following);
+            // `quick_token` is inlined; `leading_token`, which reads all tokens, is not
             match quick_token(self.rest) {
                 Some(cut) => self.leading = Ok(cut),
                 None => self.leading = leading_token(self.rest),

@@ -5,6 +5,7 @@
 pub enum TokenFault {
     /// No token begins at the first character, or the text is empty.
     Nothing,
-    /// The first token is a number literal or an occurrence whose number is above its limit.
+    /// The first token is a number literal above 9223372036854775807, or an occurrence with a place
+    /// above 65535.
     TooLarge,
 }

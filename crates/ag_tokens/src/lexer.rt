@@ -25,10 +25,10 @@ pub enum Class {
     Separator,
     /// `0` to `9`.
     Digit,
-    /// Characters of a name after the first one (XID_Continue).
+    /// Characters of a name after the first one: those of Unicode's class XID_Continue.
     NamePart,
-    /// All characters but a double quote and LF: those allowed between the quotes of a TEXT in a
-    /// sentence.
+    /// All characters but a double quote and LF: those allowed between the quotes of a token of the
+    /// class TEXT in a sentence. Only the scanner of sentences uses this class.
     Quotable,
 }
 
@@ -63,7 +63,8 @@ pub fn first(text: &str) -> Option<(char, &str)>
     }
 }
 
-/// Returns the text after the first character if that belongs to the class, else `None`.
+/// Returns the text after the first character if this character belongs to the class, and otherwise
+/// `None`.
 fn after_one(class: Class, text: &str) -> Option<&str>
     ensures { lexing.IsAfterOne class text.now result }
 {
@@ -112,7 +113,7 @@ fn leading_digits(text: &str) -> Option<(&str, &str)>
 }
 
 /// Returns the name at the beginning of the text and the text after it, or `None` if no name begins
-/// there.
+/// there. (Each character that can begin a name is also in the class `NamePart`.)
 #[inline(never)]
 fn leading_name(text: &str) -> Option<(&str, &str)>
     ensures { lexing.AgreesOnName result (lexing.name_from (chars text.now)) }
@@ -123,8 +124,9 @@ fn leading_name(text: &str) -> Option<(&str, &str)>
     }
 }
 
-/// Returns the punctuation that consists of this character alone, and begins no longer one, or
-/// `None` if there is none. Such a character begins no name.
+/// Returns the punctuation that consists of this character alone, if no punctuation of two
+/// characters begins with it, and otherwise `None`. By the clause `unnamed`, such a character
+/// begins no name, so punctuation can be tried before names.
 #[inline(always)]
 #[tactic(auto, using(crate::proofs::TokenLaws::no_start))]
 fn single_punctuation(c: char) -> Option<Punctuation>
@@ -147,8 +149,8 @@ fn single_punctuation(c: char) -> Option<Punctuation>
     }
 }
 
-/// Returns `two` if the text begins with the character `twice`, else `one`, with the text after it.
-/// The caller has already read this character once.
+/// Reads `++`, `==`, `+` or `=`, whose first character, `twice`, has been read. Returns `two` and
+/// the text after `twice` if `text` begins with it again, and otherwise `one` and `text`.
 #[inline(always)]
 fn double_mark(twice: char, two: Punctuation, one: Punctuation, text: &str) -> (Punctuation, &str)
     ensures { (result.0, chars result.1.now) ≡ lexing.double_mark twice two one (chars text.now) }
@@ -159,8 +161,9 @@ fn double_mark(twice: char, two: Punctuation, one: Punctuation, text: &str) -> (
     }
 }
 
-/// Returns the punctuation that begins with the character `c` and the text after it, or `None`;
-/// `rest` is the text after `c`. A character that begins punctuation begins no name.
+/// Returns the punctuation that begins with the character `c`, and the text after it, or `None` if
+/// none begins with `c`. `rest` is the text after `c`. By the clause `unnamed`, a character that
+/// begins punctuation begins no name.
 #[inline(always)]
 #[tactic(auto, using(crate::proofs::TokenLaws::no_start))]
 fn punctuation_of(c: char, rest: &str) -> Option<(Punctuation, &str)>
@@ -242,9 +245,9 @@ fn after_dot(text: &str) -> Option<&str>
     }
 }
 
-/// Returns the character that the beginning of the body of a text literal denotes (an escape
-/// denotes one), and the text after it. Returns `None` at the end and at a backslash that does not
-/// begin an escape.
+/// Returns the character that the beginning of the body of a text literal denotes, and the text
+/// after it. An escape denotes one character, and any other character itself, also a quote. Returns
+/// `None` at the end and at a backslash that does not begin an escape.
 fn character(text: &str) -> Option<(char, &str)>
     ensures { option_map (λ x. (x.0, chars x.1.now)) result
         ≡ lexing.piece_from (chars text.now) }
@@ -259,8 +262,8 @@ fn character(text: &str) -> Option<(char, &str)>
 }
 
 /// Returns the text that a text literal denotes, given its body between the quotes. If the body has
-/// a wrong escape, which no token has, returns the text before it. Fails with `NoMemory` if the text
-/// cannot be allocated.
+/// a wrong escape, returns the text before it (the body of a token has none). Fails with `NoMemory`
+/// if the text cannot be allocated.
 #[tactic(auto, using(crate::proofs::TextTurns::piece_some, crate::proofs::TextTurns::piece_none,))]
 pub fn unescaped(alloc: Global, body: &str) -> Result<Text, NoMemory>
     ensures { IfOk result (λ text. text ≡ lexing.unescaped (chars body.now)) }
@@ -356,9 +359,11 @@ fn short_number(digit: char, text: &str) -> Option<(i64, &str)>
     ensures rest { IfSome result (λ x. chars x.1.now
         ≡ rest_in class.Digit (digit ∷ chars text.now)) }
 {
+    // 48 is the code of `0`
     let mut number = digit as u64 - 48;
     let mut rest = text;
     while let Some((c, following)) = leading_digit(rest) {
+        // with one more digit, a number from 10^17 on is 10^18 or more
         if number > 99_999_999_999_999_999 {
             return None;
         }
@@ -368,8 +373,8 @@ fn short_number(digit: char, text: &str) -> Option<(i64, &str)>
     Some((number as i64, rest))
 }
 
-/// Reads the number literal at the beginning of `text`, whose first character is `digit`, with
-/// `rest` after it. Fails with `TooLarge` if the number does not fit in an `i64`.
+/// Reads the number literal at the beginning of `text`. `digit` is the first character of `text`,
+/// and `rest` the text after it. Fails with `TooLarge` if the number does not fit in an `i64`.
 #[inline(always)]
 fn number<'t>(
     digit: char,
@@ -429,8 +434,8 @@ fn occurrence(text: &str) -> Result<(GrammarToken<'_>, &str), TokenFault>
     }
 }
 
-/// Reads the name or punctuation at the beginning of `text`, whose first character is `c`, not a
-/// digit, with `rest` after it. Fails with `Nothing` if neither begins there.
+/// Reads the name or punctuation at the beginning of `text`. `c` is the first character of `text`,
+/// not a digit, and `rest` the text after it. Fails with `Nothing` if neither begins there.
 #[inline(always)]
 #[tactic(auto, using(crate::proofs::Numerals::no_digit))]
 fn plain_token<'t>(
@@ -452,8 +457,8 @@ fn plain_token<'t>(
 }
 
 /// Reads the first token of a text; returns it and the text after it. Fails with `Nothing` if no
-/// token begins there, and with `TooLarge` if the number of the token is above its limit. Does not
-/// allocate.
+/// token begins there, and with `TooLarge` if the number or place of the token is above its limit.
+/// Does not allocate.
 ///
 /// The functions that read a name, a quoted text or an occurrence are not inlined, and return less
 /// than a whole token; so this function assembles the token in registers.
@@ -471,8 +476,8 @@ pub fn leading_token(text: &str) -> Result<(GrammarToken<'_>, &str), TokenFault>
     }
 }
 
-/// Reads the first token of a text if it is punctuation or a number below 10^18; else returns
-/// `None`. Does not allocate.
+/// Reads the first token of a text, as `leading_token` does, if it is punctuation or a number below
+/// 10^18. Otherwise returns `None`. Does not allocate.
 #[inline(always)]
 #[tactic(auto, using(crate::proofs::TokenLaws::marked_token, crate::proofs::Numerals::numbered_token))]
 pub fn quick_token(text: &str) -> Option<(GrammarToken<'_>, &str)>

@@ -1,4 +1,4 @@
-//! Tests for tokens with a fixed text: punctuation, and names, such as reserved ones.
+//! Tests whether a token is a given punctuation or a given name, such as a reserved word.
 
 ghost use Rattle.std.specs.Prelude.{◌≡◌};
 ghost use Rattle.ag_tokens.specs.Lexing.{token_of};

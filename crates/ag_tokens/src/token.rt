@@ -40,9 +40,9 @@ pub enum Punctuation {
 pub enum GrammarToken<'t> {
     /// A number literal.
     Number(i64),
-    /// A text literal, as written between its quotes.
+    /// A text literal: the text between its quotes, with the escapes as they are written.
     Text(&'t str),
-    /// A name, reserved or not.
+    /// A name. Reserved words, such as `let`, are names too.
     Name(&'t str),
     /// An occurrence of an attribute, such as `$1.value`: `$`, its place, `.`, and its name.
     Occurrence(u16, &'t str),

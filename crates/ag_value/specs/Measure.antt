@@ -12,9 +12,9 @@ weight_step (Value-F.List weights) = 5 + sum weights
 weight_step (Value-F.Table pairs) = 5 + sum (map (λ p. 4 + length p.0 + p.1) pairs)
 weight_step (Value-F.Fault code) = 2
 
--- The weight of a value: 9 for a number, 5 and its bytes for a text, 5 and its items' weights for a list,
--- 5 and for each pair 4, the key's bytes and the value's weight for a table, 2 for an error.
--- It is the length of the value's spelling.
+-- The weight of a value is the length of its spelling in bytes. A number: 9. A text: 5, and the number of its bytes. A list: 5,
+-- and the weights of its items. A table: 5, and for each pair 4, the number of the key's bytes, and the value's weight. An
+-- error: 2.
 abbrev pub weight_of : Value → ℕ
 weight_of = fold-Value ℕ weight_step
 

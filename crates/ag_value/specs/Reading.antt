@@ -1,5 +1,5 @@
--- Reading a value from a prefix of some bytes, as a plain function on lists. It reads exactly the spellings
--- of values that are well except for their weight. Lemmas in `proofs` relate it to the spelling.
+-- Reading a value from a prefix of some bytes, as a plain function on lists. `value_at` with 64 levels reads the spelling of
+-- each well value. The other values that it returns are too heavy, but well otherwise. Lemmas in `proofs` show both.
 use Rattle.std.specs.Prelude.{◌≡◌, ℕ, zero, suc, List, [], ◌∷◌, ◌++◌, length, take, drop, map, Option, Some, None, Result, Ok}
 use Rattle.std.specs.Prelude.{Err, nat_lt, if◌then◌else◌}
 use Rattle.std.specs.Option.{option_and_then}
@@ -13,7 +13,7 @@ use Rattle.ag_value.specs.declared.value.ErrorCode.{ErrorCode}
 use Rattle.ag_value.specs.declared.value.ErrorCode.TheVariants as code
 use Rattle.ag_value.specs.Well.{are_keys, key_of}
 
--- the value that is read, and the bytes after it
+-- the value that is read, and the bytes after it; `None` if the bytes have no such prefix
 abbrev pub Read : Type 0 → Type 0
 Read A = Option (A × List ℕ)
 
@@ -27,12 +27,12 @@ abbrev pub Fails : {Y : Type 0} → ValueFault → Option Y → Type 0
 Fails fault.Malformed read = read ≡ None
 Fails fault.NoMemory read = Unit {0}
 
--- the result of a function, seen through view, is the result of reading, unless memory ran out
+-- the result of a function, mapped by `view`, is the result of reading, unless the function ran out of memory
 abbrev pub Agrees : {X Y : Type 0} → (X → Y) → Result X ValueFault → Option Y → Type 0
 Agrees view (Ok x) read = read ≡ Some (view x)
 Agrees view (Err e) read = Fails e read
 
--- an unsigned big-endian number of a given width
+-- an unsigned big-endian number of a given width; `None` if there are fewer bytes
 abbrev pub number_at : Width → List ℕ → Read ℕ
 number_at w bytes =
     if nat_lt (length bytes) (byte_len w) then None else Some (from_be_bytes w (take (byte_len w) bytes), drop (byte_len w) bytes)

@@ -45,7 +45,7 @@ spelling_of = fold-Value (List ℕ) spelling_step
 abbrev pub spelling_of_pair : List ℕ × Value → List ℕ
 spelling_of_pair p = counted p.0 ++ spelling_of p.1
 
--- new is old and then more bytes
+-- `new` is `old` followed by the bytes `more`
 pub record Extends (old new : List ℕ) : Type 0 where
   pub more : List ℕ
   pub is : new ≡ old ++ more

@@ -1,4 +1,4 @@
--- Well values: those that the program makes, stores and accepts. All of this is this project's.
+-- Well values: those that `encode` requires and `decode` returns. All of this is this project's.
 use Rattle.std.specs.Prelude.{◌≡◌, ℕ, ◌^◌, ◌≤◌, ℤ, pos, negsuc, Bool, true, false, ◌&&◌, ◌||◌, nat_lt, List, [], ◌∷◌, map}
 use Rattle.std.specs.Cmp.Lexicographic.{slice_cmp}
 use Rattle.std.specs.Ordering.{nat_cmp, is_lt}
@@ -40,19 +40,20 @@ item_step (Value-F.List items) = all_true items
 item_step (Value-F.Table pairs) = are_keys (map (λ p. p.0) pairs) && all_true (map (λ p. p.1) pairs)
 item_step (Value-F.Fault code) = false
 
--- A list or table may contain a value: at every level of it numbers are of i64, texts and keys are UTF-8,
--- keys rise strictly by their bytes, and no value is an error.
+-- A list or table may contain a value if this holds for it and for all values in it: numbers are of i64, texts and keys are
+-- UTF-8, the keys of a table rise strictly by their bytes, and no value is an error.
 abbrev pub is_item : Value → Bool
 is_item = fold-Value Bool item_step
 
--- the key of a pair of a table, and whether a list or table may contain the pair's value
+-- the key of a pair of a table
 abbrev pub key_of : List ℕ × Value → List ℕ
 key_of p = p.0
 
+-- whether a list or table may contain the value of a pair
 abbrev pub is_item_pair : List ℕ × Value → Bool
 is_item_pair p = is_item p.1
 
--- whether a value is an error, by its form
+-- whether a value is an error, from its outermost form
 abbrev pub fault_step : Value-F Bool → Bool
 fault_step (Value-F.Num n) = false
 fault_step (Value-F.Text text) = false
@@ -64,8 +65,8 @@ fault_step (Value-F.Fault code) = true
 abbrev pub is_fault : Value → Bool
 is_fault = fold-Value Bool fault_step
 
--- A value is well if it is an error, or if a list or table may contain it; and if it is neither too deep nor
--- too heavy.
+-- A value is well if its depth and its weight are within the limits, and if it is an error or a value that a list or table may
+-- contain.
 pub record IsWell (value : Value) : Type 0 where
   pub formed : (is_fault value || is_item value) ≡ true
   pub shallow : depth_of value ≤ max_value_depth

@@ -13,8 +13,8 @@ pub enum NoMemory {
     NoMemory,
 }
 
-/// The faults that only say that memory ran out. A crate converts all of them to its own fault by one
-/// `impl From`.
+/// The faults that only say that memory ran out. A crate converts all of them to its own fault by
+/// one `impl From`.
 pub trait OutOfMemory: Drop {}
 
 impl OutOfMemory for AllocError {}
@@ -44,7 +44,7 @@ impl<T: Drop> From<AllocFailed<T>> for NoMemory {
 pub enum ValueFault {
     /// V1: no prefix of the bytes is the spelling of a well value.
     Malformed,
-    /// The allocator refused memory.
+    /// Memory ran out, with the causes of [`NoMemory`].
     NoMemory,
 }
 

@@ -3,7 +3,7 @@ ghost use Rattle.std.specs.Prelude.{◌≡◌};
 
 use std::marker::Model;
 
-/// A `Vec`; contracts see only the list of its elements, so vectors of equal elements are equal.
+/// A `Vec`; contracts see only the list of its elements, and not its capacity.
 #[derive(Debug, Drop)]
 pub struct Items<T> {
     vec: Vec<T>,

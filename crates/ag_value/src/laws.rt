@@ -10,7 +10,8 @@ ghost use Rattle.ag_value.specs.declared.value.ErrorCode.TheVariants as code;
 ghost use Rattle.ag_value.specs.declared.value.Value.{Value};
 ghost use Rattle.ag_value.specs.declared.value.Value.TheVariants as v;
 
-/// States that no spelling of a well value is a proper prefix of that of another well value.
+/// States that the spelling of a well value is not a prefix of that of a different well value. So
+/// different well values have different spellings.
 pub fn no_spelling_begins_another()
     ensures { (value other : Value) (rest : List ℕ) → IsWell value → IsWell other
         → spelling_of other ≡ spelling_of value ++ rest → value ≡ other }
@@ -33,8 +34,8 @@ pub fn worked_spellings()
         ∷ 1 ∷ 0 ∷ 0 ∷ 0 ∷ 2 ∷ 104 ∷ 105 ∷ [] }
 {}
 
-/// Worked examples: the weight and the depth of 14, the weight of the error of a division by zero, and
-/// the weight, the depth and the text of `{"k": [-1, "hi"]}`.
+/// Worked examples: the weight and the depth of 14, the weight of the error of a division by zero,
+/// and the weight, the depth and the text of `{"k": [-1, "hi"]}`.
 pub fn worked_measures()
     ensures number_weight { weight_of (v.Num (pos 14)) ≡ 9 }
     ensures number_depth { depth_of (v.Num (pos 14)) ≡ 0 }

@@ -1,4 +1,4 @@
-//! The two ways to write a value: its spelling, in bytes, and its text for a reader.
+//! The spelling of a value in bytes, which is written and read, and its text for a reader.
 
 pub mod decoding;
 pub mod encoding;

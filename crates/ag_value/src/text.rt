@@ -6,7 +6,7 @@ use arrayvec::ArrayString;
 use std::alloc::Global;
 use std::marker::Model;
 
-/// The storage of a text: up to 16 bytes in the value itself, or any number in a string.
+/// The storage of a text: up to 16 bytes in the value itself, or a string of any length.
 #[derive(Debug, Drop)]
 enum Storage {
     Short(ArrayString<16>),
@@ -39,7 +39,7 @@ impl Text {
         }
     }
 
-    /// Copies a text. Takes memory for more than 16 bytes. Fails with NoMemory.
+    /// Copies a text. Takes memory if the text has more than 16 bytes. Fails with NoMemory.
     pub fn from_str(alloc: Global, text: &str) -> Result<Text, NoMemory>
         ensures { IfOk result (λ copied. copied ≡ text.now) }
     {

@@ -2,8 +2,8 @@
 use crate::items::Items;
 use crate::text::Text;
 
-/// The reasons why the value of an expression is an error. In spellings the errors have the numbers 1
-/// to 8 in this order.
+/// The reasons why the value of an expression is an error. In spellings the errors have the numbers
+/// 1 to 8 in this order.
 #[derive(Clone, Copy, Debug, PartialEq, Eq)]
 pub enum ErrorCode {
     /// A number left the range of i64.
@@ -33,7 +33,8 @@ pub enum Value {
     Text(Text),
     /// Values in order.
     List(Items<Value>),
-    /// Pairs of a key and its value. In a well value the keys rise by their bytes.
+    /// Pairs of a key and its value. If the value is well (see `is_well`), the keys are in strictly
+    /// ascending order by their bytes.
     Table(Items<(Text, Value)>),
     /// An error.
     Fault(ErrorCode),

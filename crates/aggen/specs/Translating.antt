@@ -16,7 +16,7 @@ use Rattle.ag_fault.specs.declared.fault.Fault.{Fault}
 use Rattle.ag_fault.specs.declared.fault.Fault.TheVariants as fault
 use Rattle.aggen.specs.declared.translations.report.Report.{Report}
 
--- The passes are those of a least plan, and `passes` is its greatest one.
+-- The passes m are those of a least plan, and the number `passes` is the greatest pass of this plan.
 pub record ArePassesOf (g : Grammar) (m : Passes) (passes : ℕ) : Type 0 where
   pub rows : List (List ℕ)
   pub code : Lists

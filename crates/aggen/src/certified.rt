@@ -16,28 +16,28 @@ use passassign::{AssignFault, Assignment, Strikes, assign_with_strikes};
 use std::alloc::Global;
 
 /// A grammar with its least assignment, and the strikes that show that no attribute can have an
-/// earlier pass. `planchecker::check_least` checks them.
+/// earlier pass. `planchecker::check_least` checks the strikes.
 #[derive(Drop)]
 pub struct CertifiedPlan {
     /// The grammar, which is accepted and has no conflict.
     pub grammar: Grammar,
     /// The pass of each attribute.
     pub assignment: Assignment,
-    /// For each pass, the attributes that it strikes: those that have a later pass, each with an
-    /// argument of one of its rules that is not computed when the pass reaches the rule.
+    /// For each pass, the attributes that it strikes: those that have a later pass, each with a rule
+    /// for it and an argument of this rule that is not computed before the rule is evaluated.
     pub strikes: Strikes,
 }
 
 /// Returns the least assignment of the grammar of a text, with its strikes. Each least assignment
 /// assigns the same passes, and so does the plan of the text's translator.
 ///
-/// Fails as `Translator::build` does: with G1 to G4, N1 to N10, L1 or A1 if the text makes no
-/// translator, and with NoMemory if memory is refused.
+/// Fails as `Translator::build` does: with G1 to G4, N1 to N10, L1 or A1 if no translator can be
+/// built from the text, and with NoMemory if memory is refused.
 pub fn certify_plan(alloc: Global, text: &[u8]) -> Result<CertifiedPlan, BuildFault>
     ensures grammar { IfOk result (λ p. IsGrammarOf text.now p.grammar) }
     ensures free { IfOk result (λ p. HasNoConflict p.grammar) }
     ensures least { IfOk result (λ p. IsLeast p.grammar (passes_of p.assignment)) }
-    // The plan of a translator is a least one too (`Translator::plan`).
+    // The plan of a translator has a least assignment too (`Translator::plan`).
     ensures same { IfOk result (λ p. (rows : List (List ℕ)) → IsLeast p.grammar (passes_of rows)
         → (s : ℕ) → passes_of rows s ≡ passes_of p.assignment s) }
     ensures strikes { IfOk result (λ p. AreStrikesOf p.grammar p.assignment p.strikes.lists) }

@@ -12,8 +12,8 @@ use normalform::check;
 use std::alloc::Global;
 use std::io::Write;
 
-/// Reads and checks a grammar's text, and writes its numbers of symbols and productions: `5
-/// symbols, 8 productions` or `1 symbol, 1 production`, and LF.
+/// Reads and checks a grammar's text, and writes a line with its numbers of symbols and
+/// productions, such as `5 symbols, 8 productions` or `1 symbol, 1 production`.
 ///
 /// Fails with G1 to G4, N1 to N10 or NoMemory as `grammar_of` does, and with O2 Write if a write
 /// fails or takes no byte. Nothing is written before the line is complete.
@@ -31,9 +31,9 @@ pub fn print_counts<W: Write>(alloc: Global, text: &[u8], out: &mut W) -> Result
     Ok(())
 }
 
-/// Reads and checks the grammar of a text. Fails with G1 to G4 if the text does not read as a grammar,
-/// with the first fault of N1 to N10 if the grammar is not accepted, and with NoMemory if memory is
-/// refused.
+/// Reads and checks the grammar of a text. Fails with G1 to G4 if the text does not read as a
+/// grammar, with the first fault of N1 to N10 if the grammar is not accepted, and with NoMemory if
+/// memory is refused.
 #[tactic(auto, using(crate::proofs::FromTexts::texts_are_readable))]
 pub fn grammar_of(alloc: Global, text: &[u8]) -> Result<Grammar, BuildFault>
     ensures grammar { IfOk result (λ g. IsGrammarOf text.now g) }

@@ -2,8 +2,8 @@
 
 ghost use Rattle.aggen.specs.Checking.{TextsAreReadable};
 
-/// States that the literals and classes of the grammar that a text reads as are readable, as the check
-/// of a grammar requires.
+/// States that the literals and classes of the grammar that a text reads as are readable, as the
+/// check of a grammar requires.
 pub fn texts_are_readable()
     ensures { TextsAreReadable }
 {}

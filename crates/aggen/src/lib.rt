@@ -1,7 +1,8 @@
 //! Translators from attribute grammars. A translator is built from a grammar's text. It parses a
-//! sentence into the file of its one tree, and translates it. A job has a grammar and a sentence in
-//! one text. The crate also prints plans and their code, and evaluates expressions by way of a tree
-//! file.
+//! sentence into the file of its one tree, translates sentences and such files, and converts tree
+//! files of version 1. A job has a grammar and a sentence in one text. The crate also prints the
+//! counts of a grammar, its plan and its code, returns its least assignment with strikes, and
+//! evaluates expressions by way of a tree file.
 //!
 //! Every call that allocates memory can also fail with NoMemory. Some comments do not mention it.
 #![tactic(auto)]

@@ -44,9 +44,9 @@ use std::io::Write;
 use std::marker::Model;
 use treefile::{Device, Writer};
 
-/// A grammar with the tables of its productions and the plan of its passes; an invariant is that
-/// these fit the grammar. Contracts see the grammar. A translator keeps the allocator that it was
-/// built with.
+/// A grammar with its look-ahead tables and its plan. An invariant is that the tables fit the
+/// grammar, and that the plan is its least one. Contracts see the grammar in place of a translator.
+/// A translator keeps the allocator that it was built with.
 #[derive(Drop)]
 pub struct Translator {
     grammar: Grammar,
@@ -76,9 +76,9 @@ impl Model for Translator {
 impl Translator {
     /// Builds the translator of a grammar's text.
     ///
-    /// Fails with G1 to G4 if the text does not read as a grammar; then with the first fault of N1 to
-    /// N10 of the grammar; then with L1, the least conflict of an accepted grammar; then with A1,
-    /// if no assignment of passes is legal. Fails with NoMemory if memory is refused.
+    /// Fails with G1 to G4 if the text does not read as a grammar; then with the first fault of N1
+    /// to N10 of the grammar; then with L1, the least conflict of an accepted grammar; then with
+    /// A1, if no assignment of passes is legal. Fails with NoMemory if memory is refused.
     pub fn build(alloc: Global, text: &[u8]) -> Result<Translator, BuildFault>
         ensures grammar { IfOk result (λ t. IsGrammarOf text.now t) }
         ensures free { IfOk result (λ t. HasNoConflict t) }
@@ -111,7 +111,7 @@ impl Translator {
         &self.grammar
     }
 
-    /// Returns the tables of the productions. Takes no memory.
+    /// Returns the look-ahead tables of the grammar. Takes no memory.
     pub fn tables(&self) -> &Tables
         ensures { FitsGrammar self.now result.now }
     {
@@ -135,9 +135,9 @@ impl Translator {
     ///
     /// Fails with S1 to S4, before the device is used, if the sentence is too long, is not UTF-8 or
     /// can't be cut into tokens; with P2 or P3 if its tokens have a tree beyond a limit; with P1 if
-    /// they have no tree, or with P2 or P3 if the parser reaches a limit first; with D1 if the device
-    /// failed; and with NoMemory if memory is refused. After a fault the device has its old content, or
-    /// a prefix of a file of pass 0: of its header and frames of any bodies whose lengths are in range.
+    /// they have no tree, or P2 or P3 if the parser reaches a limit first; with D1 if the device
+    /// failed; and with NoMemory if memory is refused. After a fault the device has its old content
+    /// or a prefix of a file of pass 0 (a header, and frames of bodies of any allowed length).
     pub fn parse_tree<D: Device>(&self, sentence: &[u8], device: &mut D) -> Result<u32, Fault>
         // Ok: there is one tree, it is within the limits, and its file is written.
         ensures tree { IfOk result (λ _. (t : Tree) × IsTreeOfSentence self.now sentence.now t) }
@@ -185,15 +185,15 @@ impl Translator {
     /// Fails with S1 to S4 before a device is used, and with P1 to P3 before `b` is, as
     /// `parse_tree` does. Fails with O1 NoText if the translation is not a text, with O2 Write if a
     /// write failed or took no byte, with D1 Device if a call of a device failed, and with NoMemory
-    /// if memory is refused. R1, P2 or P3 of a tree file, B1 or B2 are possible only on a device that
-    /// does not return the bytes that were written. After every fault except O2 the writer is
+    /// if memory is refused. R1, B1, B2, and P2 or P3 of a tree file, are possible only on a device
+    /// that does not return the bytes that were written. After every fault except O2 the writer is
     /// unchanged.
     ///
     /// After O1 and O2 the devices have the last two tree files. After P `a` has a prefix of a file
     /// of pass 0, and after D1 and NoMemory each device has its old content, or a prefix of a file
-    /// of some pass. Such a file is a header and frames of any bodies whose lengths are in range: it
-    /// need not encode a tree, since after P1 there is none. The next call can use the devices in any
-    /// state.
+    /// of some pass. Such a file is a header and frames of bodies of any allowed length. It need
+    /// not encode a tree, since after P1 there is none. The next call can use the devices in any
+    /// state. Claims on contents hold if the devices return the bytes that were written to them.
     #[tactic(auto, using(crate::proofs::Begun::begun))]
     pub fn translate<D: Device, W: Write>(
         &self,
@@ -244,20 +244,23 @@ impl Translator {
 
     /// Translates the tree whose file of pass 0 is on the device `tree`: runs pass 1 from there to
     /// `b`, the others alternately between `b` and `a`, reads the text of the root's `out` from the
-    /// file of the last pass, and writes it to `out`. The report has the device with that file, `a`
-    /// or `b`; if there is one pass, the file of the pass before it is that of `tree`. Nothing is
-    /// written to `out` before the last pass has ended, and `tree` is only read.
+    /// file of the last pass, and writes it to `out`. Nothing is written to `out` before the last
+    /// pass has ended, and `tree` is only read. The report names the device that has the file of
+    /// the last pass, `a` or `b`. The other one has the file of the pass before it, unless there is
+    /// only one pass: then `tree` has that file.
     ///
-    /// Fails with R1 only if the content of `tree` is the file of pass 0 of no tree of the grammar. If a
-    /// limit is reached first, when the content is read from its end, fails with P2 or P3 instead: the
-    /// content is then the file of no tree of at most `MAX_DEPTH` levels (P2), or of none of at most
-    /// `MAX_NODES` nodes (P3), and may be the file of no tree at all. Fails with O1 NoText if the
-    /// translation is not a text, with O2 Write if a write failed or took no byte, with D1 Device if a
-    /// call of a device failed, and with NoMemory if memory is refused. B1, B2, or R1, P2 or P3 of a
-    /// later pass's file are possible only on a device that does not return the bytes that were written.
-    /// After every fault except O2 the writer is unchanged. After O1 and O2 the devices have the last two
-    /// tree files, as after success, and after each other fault each of `a` and `b` has its old content,
-    /// or a prefix of a file of some pass, as with `translate`.
+    /// Fails with R1 only if the content of `tree` is the file of pass 0 of no tree of the grammar.
+    /// If a limit is reached first, when the content is read from its end, fails with P2 or P3
+    /// instead: the content is then the file of no tree of at most `MAX_DEPTH` levels (65,536; P2),
+    /// or of none of at most `MAX_NODES` nodes (1,048,576; P3), and may be the file of no tree at
+    /// all. Fails with O1 NoText if the translation is not a text, with O2 Write if a write failed
+    /// or took no byte, with D1 Device if a call of a device failed, and with NoMemory if memory is
+    /// refused. B1, B2, or R1, P2 or P3 of a later pass's file are possible only on a device that
+    /// does not return the bytes that were written.
+    ///
+    /// After every fault except O2 the writer is unchanged. After O1 and O2 the last two tree files
+    /// are where they are after success. After each other fault each of `a` and `b` has its old
+    /// content, or a prefix of a file of some pass, as with `translate`.
     #[tactic(auto, using(crate::proofs::Begun::begun))]
     pub fn evaluate_tree<T: Device, D: Device, W: Write>(
         &self,
@@ -306,16 +309,19 @@ impl Translator {
 
     /// Converts an old tree file: reads the file of version 1 and pass 0 of a tree of the grammar
     /// from `old`, and writes to `to` the file of version 2 and pass 0 of the same tree, the one
-    /// that `parse_tree` writes for a sentence with this tree. `mid` then has the same records from
-    /// right to left, and `old` is only read. Returns the number of nodes.
+    /// that `parse_tree` writes for a sentence with this tree. `mid` then has the records of that
+    /// file in the order from right to left, and `old` is only read. Returns the number of nodes.
     ///
-    /// Fails with R1 only if the content of `old` is the file of version 1 and pass 0 of no tree of the
-    /// grammar. If a limit is reached first, when the content is read from its end, fails with P2 or P3
-    /// instead: the content is then the file of no tree of at most `MAX_REVERSED_DEPTH` levels (256; P2),
-    /// or of none of at most `MAX_REVERSED_NODES` nodes (65,536; P3), and may be the file of no tree at
-    /// all. Fails with D1 if a call of a device failed, and with NoMemory if memory is refused. R1 with
-    /// an offset in `mid`, and P2 for its content, are possible only if `mid` does not return the bytes
-    /// that were written. After a fault `mid` and `to` have their old contents, or a prefix of a file.
+    /// Fails with R1 only if the content of `old` is the file of version 1 and pass 0 of no tree of
+    /// the grammar. If a limit is reached first, when the content is read from its end, fails with
+    /// P2 or P3 instead: the content is then the file of no tree of at most `MAX_REVERSED_DEPTH`
+    /// levels (256; P2), or of none of at most `MAX_REVERSED_NODES` nodes (65,536; P3), and may be
+    /// the file of no tree at all. Fails with D1 if a call of a device failed, and with NoMemory if
+    /// memory is refused. R1 with an offset in `mid`, and P2 for its content, are possible only if
+    /// `mid` does not return the bytes that were written.
+    ///
+    /// After a fault `mid` has its old content or a prefix of a file with the pass number 1, and
+    /// `to` has its old content or a prefix of a file of pass 0.
     pub fn upgrade<D: Device, E: Device, F: Device>(
         &self,
         old: &mut D,

@@ -1,4 +1,4 @@
--- What the calls of C answer. This project's.
+-- The answers of calls of C: results and refusals. This project's.
 use Rattle.std.specs.Prelude.{ℕ, ◌≡◌, ◌⊎◌, List, ◌++◌, Option, Some, None, length, take, drop, min}
 use Rattle.ag_grammar.specs.grammars.AttributeGrammar.{Grammar}
 use Rattle.llparse.specs.Ahead.{HasNoConflict}
@@ -13,8 +13,8 @@ use Rattle.aggen_c.specs.declared.refusal.RefusalFields.{RefusalFields}
 abbrev pub IsCopied : (bytes old new : List ℕ) → Type 0
 IsCopied bytes old new = new ≡ take (min (length bytes) (length old)) bytes ++ drop (min (length bytes) (length old)) old
 
--- The buffer of a message has a message of this length, or as many of its first bytes as there is room for. If
--- there is no message, it is the empty one, of length 0.
+-- The buffer of a message has a message of this length, or as many of its first bytes as there is room for. A missing
+-- message counts as the empty one, of length 0.
 pub record HasMessage (old new : List ℕ) (count : ℕ) : Type 0 where
   pub message : List ℕ
   pub copied : IsCopied message old new
@@ -42,8 +42,8 @@ pub record IsRefused (IsTrue : Fault → Type 0) (old new : List ℕ) (count sta
   pub reason : HasReason IsTrue status fields
   pub unwritten : IsUnwritten old new count
 
--- What a call on a handle answers by the grammar of its translator: a result with status 0, or a refusal with a true reason. The
--- status is 1 if the handle has no translator.
+-- The answer of a call on a handle, by the grammar of the handle's translator: a result with status 0, or a refusal with a true
+-- reason. If the handle has no translator, the status is 1.
 abbrev pub Answers : (Is : Grammar → List ℕ → Type 0) → (IsTrue : Grammar → Fault → Type 0) → Option Grammar → (old new : List ℕ)
     → (count status : ℕ) → RefusalFields → Type 0
 Answers Is IsTrue (Some g) old new count status fields =

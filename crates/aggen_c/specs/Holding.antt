@@ -1,4 +1,4 @@
--- What a handle owns: a translator on the heap, and the right to free its memory; or nothing, if it is null. This project's.
+-- A handle owns a translator on the heap, and the right to free its memory; or nothing, if its pointer is null. This project's.
 use Rattle.std.specs.Prelude.{Option, Some, None}
 use Rattle.std.specs.Coded.{Coded, coded_option}
 use base.Fml.{Fml, feq}

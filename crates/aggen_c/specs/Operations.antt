@@ -1,4 +1,4 @@
--- The operations of a translator: what each returns of an input, and why it fails. This project's.
+-- The operations of a translator: the result of each for an input, and why it fails. This project's.
 use Rattle.std.specs.Prelude.{ℕ, List}
 use Rattle.ag_grammar.specs.grammars.AttributeGrammar.{Grammar}
 use Rattle.ag_fault.specs.declared.fault.Fault.{Fault}

@@ -13,7 +13,7 @@ no_fields = record { letter = 0; index = 0; offset = no_offset; line = 0; column
 abbrev pub numbers : (status : ℕ) → RefusalFields → ℕ × ℕ × ℕ × ℕ
 numbers status fields = (status, fields.letter, fields.index, fields.offset)
 
--- and those of a fault
+-- the same four numbers of a fault
 abbrev pub numbers_of : Fault → ℕ × ℕ × ℕ × ℕ
 numbers_of e = (status_of e, (number_of e).letter, (number_of e).index, offset_of e)
 

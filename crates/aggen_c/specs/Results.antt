@@ -19,8 +19,8 @@ use Rattle.aggen.specs.Translation.{HasNoText, IsOneTree, IsTreeInFile}
 use Rattle.ag_fault.specs.declared.fault.Fault.{Fault}
 use Rattle.ag_fault.specs.declared.fault.Fault.TheVariants as fault
 
--- Of the trees of a kind there is exactly one, and it is within the limits. The values meet every equation of the
--- grammar at every node of it, no other values do, and the text is the value of the root's `out`.
+-- There is exactly one tree with the property `IsTree`, and it is within the limits. The values meet every equation of the
+-- grammar at every node of this tree, no other values do, and the text is the value of the root's `out`.
 pub record HasTranslation (IsTree : Tree → Type 0) (g : Grammar) (text : List ℕ) : Type 0 where
   pub tree : Tree
   pub one : IsOneTree IsTree tree
@@ -60,7 +60,7 @@ IsTranslationRefusal g sentence (fault.NoText x) = HasNoText (IsTreeOfSentence g
 IsTranslationRefusal g sentence fault.NoMemory = Unit {0}
 IsTranslationRefusal g sentence _ = ⊥
 
--- Why the tree in a file has none: R1, P2, P3 and O1 are true of the file. NoMemory and D1 have no meaning
+-- Why a tree file has no translation: R1, P2, P3 and O1 are true of the file. NoMemory and D1 have no meaning
 -- for it (devices in memory never cause D1), and no other fault is possible.
 abbrev pub IsEvaluationRefusal : Grammar → (file : List ℕ) → Fault → Type 0
 IsEvaluationRefusal g file (fault.Run f) = IsTreeFileFault g file f

@@ -1,4 +1,4 @@
-//! What a call on a handle answers.
+//! The answers of calls on a handle: a result, or a refusal.
 
 ghost use Rattle.std.specs.Prelude.{◌≡◌, IfErr, IfOk, IsSomeAnd, MatchOption};
 ghost use Rattle.aggen_c.specs.Answers.{HasMessage, IsUnwritten, IsWritten};
@@ -12,8 +12,8 @@ use crate::refusal::{Refusal, RefusalFields};
 use aggen::Translator;
 use std::alloc::Global;
 
-/// Returns the result of an operation on the translator of a handle, which the handle keeps. Fails with status 1 if
-/// the handle has none, and else as the operation does.
+/// Returns the result of an operation on the translator of a handle, which the handle keeps. Fails
+/// with status 1 if the handle has none, and else as the operation does.
 pub fn answer_by_handle(
     alloc: Global,
     handle: &mut Handle,
@@ -37,7 +37,7 @@ pub fn answer_by_handle(
     }
 }
 
-/// Returns the result of an operation on a translator.
+/// Returns the result of an operation on a translator. Fails as the operation does.
 fn answer_of(
     alloc: Global,
     translator: &Translator,
@@ -59,8 +59,8 @@ fn answer_of(
     }
 }
 
-/// Writes an answer to the caller's memory, and returns its status: 0 for a result, which is copied to
-/// `out`, or that of a refusal.
+/// Writes an answer to the caller's memory, and returns its status: 0 for a result, which is copied
+/// to `out`, or that of a refusal.
 pub fn write_answer(
     answer: Result<Vec<u8>, Refusal>,
     out: &mut [u8],

@@ -15,8 +15,8 @@ use std::alloc::Global;
 /// The name of a grammar in messages.
 const GRAMMAR: &str = "grammar";
 
-/// Puts the translator of a grammar's text into a handle. First frees the translator that the handle has, so
-/// that the handle has none after a refusal.
+/// Puts the translator of a grammar's text into a handle. First frees the translator that the
+/// handle has, so that the handle has none after a refusal.
 pub fn build_handle(alloc: Global, grammar: &[u8], handle: &mut Handle) -> Result<(), Refusal>
     ensures built { OnOk result (IsSomeAnd handle.new.value (IsTranslatorOf grammar.now)) }
     ensures emptied { OnErr result (handle.new.value ≡ None) }
@@ -33,7 +33,8 @@ pub fn build_handle(alloc: Global, grammar: &[u8], handle: &mut Handle) -> Resul
     }
 }
 
-/// Returns the translator of a grammar's text, on the heap. Fails if the grammar is refused, and if memory is refused.
+/// Returns the translator of a grammar's text, on the heap. Fails if the grammar is refused, and if
+/// memory is refused.
 fn build(alloc: Global, grammar: &[u8]) -> Result<Box<Translator>, Refusal>
     ensures built { IfOk result (λ t. IsTranslatorOf grammar.now t.value) }
     ensures refused { IfErr result (λ r.
@@ -57,8 +58,9 @@ fn refusal_of(alloc: Global, fault: Fault, grammar: &[u8]) -> Refusal
     refusal.with_report(alloc, &report)
 }
 
-/// Writes the fields and the message of a refusal to the caller's memory, if the translator was not made, and else the
-/// fields of a call that was not refused. Returns the status.
+/// Writes the fields of a call to the caller's memory, and returns the status. If the call was
+/// refused, the fields are those of the refusal, and the message is written too. Otherwise they are
+/// those of a call that was not refused, and the status is 0.
 pub fn write_built(built: Result<(), Refusal>, message: &mut [u8], fields: &mut RefusalFields) -> u8
     ensures ok { OnOk built ((result ≡ 0) × (fields.new ≡ no_fields)) }
     ensures err { IfErr built (λ r. numbers result fields.new ≡ numbers r.status r.fields) }

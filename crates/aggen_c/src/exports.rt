@@ -1,6 +1,13 @@
-//! The functions that `bindings/c/aggen.c` calls. They take for granted that no pointer is null and that
-//! no two arguments of one call overlap in memory. C fixes their signatures. A result is copied as far as its
-//! buffer has room, and a call returns its status.
+//! The functions that `bindings/c/aggen.c` calls. They take for granted that no pointer is null and
+//! that no two arguments of one call overlap in memory. `bindings/c/unchecked.h` declares them for
+//! C: there a slice is a pointer and a length, and `alloc`, whose type has no bytes, is not an
+//! argument.
+//!
+//! Each call except `aggen_free_unchecked` returns a status, which is 0 after success. The result
+//! of a call with an argument `out` is copied there as far as there is room, and `length` gets the
+//! number of all bytes of the result. On failure `out` is as before, and `length` is 0. Then
+//! `refusal` gets the number, the offset, the line and the column of the fault, if it has them, and
+//! `message` gets the message, as far as there is room.
 
 ghost use Rattle.std.specs.Prelude.{◌≡◌, None};
 ghost use Rattle.aggen_c.specs.Answers.{Answers, HasMessage, IsBuilt};
@@ -16,6 +23,10 @@ use crate::refusal::RefusalFields;
 use std::alloc::Global;
 
 /// Puts the translator of a grammar's text into a handle. Frees the translator that the handle had.
+///
+/// Returns 0. Fails with status 3 and G1 to G4, N1 to N10, L1 or A1 if no translator can be built
+/// from the text, and with status 7 if memory is refused. After a failure the handle has no
+/// translator.
 #[unsafe(no_mangle)]
 pub extern "C" fn aggen_build_unchecked(
     alloc: Global,
@@ -32,6 +43,9 @@ pub extern "C" fn aggen_build_unchecked(
 }
 
 /// Copies the translation of a sentence to `out`. The handle's translator stays as it is.
+///
+/// Returns 0. Fails with status 1 if the handle has no translator, with 4 after S1 to S4 and P1 to
+/// P3, with 6 after O1, and with 7 if memory is refused.
 #[unsafe(no_mangle)]
 pub extern "C" fn aggen_translate_unchecked(
     alloc: Global,
@@ -52,7 +66,11 @@ pub extern "C" fn aggen_translate_unchecked(
     write_answer(answer, out, length, message, refusal)
 }
 
-/// Copies the translation of the tree in a tree file of pass 0 to `out`. The handle's translator stays as it is.
+/// Copies the translation of the tree in a tree file of pass 0 to `out`. The handle's translator
+/// stays as it is.
+///
+/// Returns 0. Fails with status 1 if the handle has no translator, with 5 after R1, P2 and P3 of
+/// the file, with 6 after O1, and with 7 if memory is refused.
 #[unsafe(no_mangle)]
 pub extern "C" fn aggen_evaluate_unchecked(
     alloc: Global,
@@ -73,7 +91,11 @@ pub extern "C" fn aggen_evaluate_unchecked(
     write_answer(answer, out, length, message, refusal)
 }
 
-/// Copies the tree file of pass 0 of a sentence's tree to `out`. The handle's translator stays as it is.
+/// Copies the tree file of pass 0 of a sentence's tree to `out`. The handle's translator stays as
+/// it is.
+///
+/// Returns 0. Fails with status 1 if the handle has no translator, with 4 after S1 to S4 and P1 to
+/// P3, and with 7 if memory is refused.
 #[unsafe(no_mangle)]
 pub extern "C" fn aggen_parse_unchecked(
     alloc: Global,
@@ -94,7 +116,10 @@ pub extern "C" fn aggen_parse_unchecked(
     write_answer(answer, out, length, message, refusal)
 }
 
-/// Copies the listing of the passes of the handle's translator to `out`. The translator stays as it is.
+/// Copies the listing of the passes of the handle's translator to `out`. The translator stays as it
+/// is.
+///
+/// Returns 0. Fails with status 1 if the handle has no translator, and with 7 if memory is refused.
 #[unsafe(no_mangle)]
 pub extern "C" fn aggen_plan_unchecked(
     alloc: Global,

@@ -10,13 +10,14 @@ use std::alloc::Global;
 use std::marker::Model;
 use std::mem;
 
-/// A translator on the heap, or none. C sees one pointer; it is null in a handle without a translator.
-/// Contracts see the translator's grammar.
+/// A translator on the heap, or none. C sees one pointer; it is null in a handle without a
+/// translator. Contracts see the translator's grammar.
 #[repr(C)]
 pub struct Handle {
     /// The translator, or null.
     at: *mut u8,
-    /// The allocator of the translator. A value of its type has no bytes, so C sees the pointer alone.
+    /// The allocator of the translator. A value of its type has no bytes, so C sees the pointer
+    /// alone.
     alloc: Global,
     ghost value: { Option Plain } by { grammar_code },
 }
@@ -75,7 +76,7 @@ impl Handle {
         }
     }
 
-    /// Puts a translator into the handle. Frees the one that it has.
+    /// Puts a translator into the handle. Frees the translator that the handle had.
     pub fn put(&mut self, translator: Box<Translator>)
         ensures { self.new.value ≡ Some translator.value }
     {

@@ -1,10 +1,10 @@
-//! The calls of the C library. A handle owns the translator of a grammar's text. Four calls on it copy their
-//! result to a buffer of the caller: the translation of a sentence or of the tree in a tree file, the tree file
-//! of a sentence, or the listing of the passes.
+//! The calls of the C library. A handle owns the translator of a grammar's text. Four calls on it
+//! copy their result to a buffer of the caller: the translation of a sentence or of the tree in a
+//! tree file, the tree file of a sentence, or the listing of the passes.
 //!
-//! The functions of `exports` take for granted that no pointer is null and that no two arguments of a call
-//! overlap in memory. C code calls the functions of `include/aggen.h`, which `bindings/c/aggen.c` defines:
-//! they check the pointers, and then call these.
+//! The functions of `exports` take for granted that no pointer is null and that no two arguments of
+//! a call overlap in memory. C code calls the functions of `include/aggen.h`, which
+//! `bindings/c/aggen.c` defines: they check the pointers, and then call these.
 #![tactic(auto)]
 
 mod answer;

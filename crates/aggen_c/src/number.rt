@@ -15,7 +15,7 @@ use llparse::{ParseFault, TableFault};
 use normalform::NormalFault;
 use passrun::RunFault;
 
-/// The offset of a refusal that has none: no input is as long.
+/// The field `offset` of a refusal that has no offset. No input is that long.
 pub const NO_OFFSET: u64 = u64::MAX;
 
 /// The number of a refusal: `N` and 10 of N10. A refusal that has no number has 0 and 0.
@@ -25,7 +25,7 @@ pub struct Number {
     pub index: u8,
 }
 
-/// What NoMemory and a misused command line have, which have no number.
+/// The number of a fault without one: NoMemory, or a misused command line.
 const NONE: Number = Number {
     letter: 0,
     index: 0,
@@ -73,8 +73,8 @@ fn expr_number(fault: ExprFault) -> Number
     }
 }
 
-/// Returns the number of a fault of a grammar's text. That of a rule's expression is G3, after which a message has the
-/// expression's own.
+/// Returns the number of a fault of a grammar's text. A fault of a rule's expression has the number
+/// G3. In a message, the number of the expression's fault comes after it.
 fn text_number(fault: TextFault) -> Number
     ensures { result ≡ text_number fault }
 {
@@ -144,7 +144,7 @@ fn scan_number(fault: ScanFault) -> Number
     }
 }
 
-/// Returns the number of a fault of a sentence's tree.
+/// Returns the number of a fault of a sentence's tree, or D1 for that of a device.
 fn parse_number(fault: ParseFault) -> Number
     ensures { result ≡ parse_number fault }
 {
@@ -158,7 +158,7 @@ fn parse_number(fault: ParseFault) -> Number
     Number { letter, index }
 }
 
-/// Returns the number of a fault of a tree file.
+/// Returns the number of a fault of a tree file, or D1 for that of a device.
 fn run_number(fault: RunFault) -> Number
     ensures { result ≡ run_number fault }
 {

@@ -29,8 +29,8 @@ pub enum Operation {
 }
 
 impl Operation {
-    /// Returns the result of the operation on an input. Fails with a fault that is true of the input, or with
-    /// NoMemory.
+    /// Returns the result of the operation on an input. Fails with a fault that is true of the
+    /// input, or with NoMemory.
     pub fn result(
         self,
         alloc: Global,
@@ -71,8 +71,8 @@ impl Operation {
     }
 }
 
-/// Returns the report of a fault of a tree file. Takes memory for a copy of the file; if that is refused,
-/// the report has only the fault and, for R1, P2 and P3, the name of the file.
+/// Returns the report of a fault of a tree file. Takes memory for a copy of the file; if that is
+/// refused, the report has only the fault and, for R1, P2 and P3, the name of the file.
 fn report_of_tree(
     alloc: Global,
     fault: Fault,

@@ -18,11 +18,11 @@ const NO_TRANSLATOR: u8 = 1;
 #[repr(C)]
 #[derive(Clone, Copy)]
 pub struct RefusalFields {
-    /// The letter of the refusal's number, as `N` of N10; 0 if it has none.
+    /// The letter of the refusal's number in ASCII, as `N` of N10; 0 if it has no number.
     pub letter: u8,
-    /// The rest of the number, as 10 of N10.
+    /// The rest of the number, as 10 of N10; 0 if the refusal has no number.
     pub index: u8,
-    /// The offset in bytes in the input of the call, or `NO_OFFSET`.
+    /// The offset in the input of the call, in bytes from 0, or `NO_OFFSET`.
     pub offset: u64,
     /// The line in the input, from 1; 0 if there is none.
     pub line: usize,
@@ -69,7 +69,8 @@ impl Refusal {
         }
     }
 
-    /// Returns the refusal for a fault, without a place and a message.
+    /// Returns the refusal for a fault, with its offset, but without a line, a column and a
+    /// message.
     pub fn of_fault(fault: &Fault) -> Refusal
         ensures { numbers result.status result.fields ≡ numbers_of fault.now }
     {
@@ -89,8 +90,8 @@ impl Refusal {
         }
     }
 
-    /// Returns the refusal with the place and the message of a report. Takes memory; if that is refused, the
-    /// message is left out.
+    /// Returns the refusal with the line, the column and the message of a report. Takes memory; if
+    /// that is refused, the message is left out.
     pub fn with_report(self, alloc: Global, report: &FaultReport) -> Refusal
         ensures { numbers result.status result.fields ≡ numbers self.status self.fields }
     {
@@ -132,7 +133,8 @@ impl Refusal {
     }
 }
 
-/// Copies as many of the first bytes of a message as a buffer has room for. Returns the number of all bytes.
+/// Copies as many of the first bytes of a message as a buffer has room for. Returns the number of
+/// all bytes.
 fn copy_message(message: &Option<String>, buffer: &mut [u8]) -> usize
     ensures { HasMessage buffer.old buffer.new result }
 {

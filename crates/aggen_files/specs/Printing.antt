@@ -11,7 +11,7 @@ IsPrintingFault fault.Write = Unit {0}
 IsPrintingFault fault.NoMemory = Unit {0}
 IsPrintingFault _ = ⊥
 
--- O2: a prefix of the line with a number of nodes was printed, and the number has the property `IsCount`.
+-- What holds after O2: a prefix of the line with a number of nodes was printed, and the number has the property `IsCount`.
 pub record BeginsCount (IsCount : ℕ → Type 0) (old new : Option (List ℕ)) : Type 0 where
   pub count : ℕ
   pub right : IsCount count

@@ -14,15 +14,17 @@ use Rattle.ag_fault.specs.declared.fault.Fault.{Fault}
 use Rattle.ag_fault.specs.declared.fault.Fault.TheVariants as fault
 use Rattle.aggen.specs.declared.translations.report.Report.{Report}
 
--- the translation theorem for the tree in a file; the passes leave some tree files a and b in memory, which is honest
+-- The translation theorem for the tree in a file. The passes write to two honest devices in memory, and leave some tree files a
+-- and b there.
 abbrev pub EvaluatesFile : Grammar → (honest_tree : Bool) → (content : List ℕ) → (old new : Option (List ℕ)) → Report → Type 0
 EvaluatesFile g honest content old new report = (a b : List ℕ) × EvaluatesTree g honest true true content a b old new report
 
--- the meaning of a fault: as for any device with the tree's file, if the other two devices are honest
+-- the meaning of a fault: the same as for any device with the tree's file, with the other two devices honest
 abbrev pub IsFileEvaluationFault : Grammar → (honest_tree : Bool) → List ℕ → (old new : Option (List ℕ)) → Fault → Type 0
 IsFileEvaluationFault g honest content old new e = IsEvaluationFault g honest true true content old new e
 
--- the tree of the old file is in the new one; some file (`between`) was in memory on the way
+-- If the old file is honest, the new one has its tree, with this number of nodes. `between` is the content of the device in
+-- memory that the conversion uses.
 abbrev pub UpgradesFile : Grammar → (honest_old : Bool) → List ℕ → (honest_tree : Bool) → List ℕ → ℕ → Type 0
 UpgradesFile g honest_old content honest_tree tree count =
     WhenHonest honest_old ((between : List ℕ) × IsUpgraded g content between honest_tree tree count)
@@ -40,14 +42,14 @@ abbrev pub LeavesConversion : Grammar → (honest_old : Bool) → List ℕ → (
 LeavesConversion g honest content old new =
     LeavesBeginning 0 old new ⊎ ((count : ℕ) × UpgradesFile g honest content true new count)
 
--- S1 to S4 and P1 to P3 are true of the sentence. O2 (the line could not be printed), a failed device and NoMemory
--- have no meaning for it, and no other fault is possible.
+-- S1 to S4 and P1 to P3 are true of the sentence. O2 (the line could not be printed), a failed device and NoMemory say nothing of
+-- the sentence. No other fault is possible.
 abbrev pub IsParsingFault : Grammar → List ℕ → Fault → Type 0
 IsParsingFault g sentence fault.Write = Unit {0}
 IsParsingFault g sentence e = IsSentenceFault g sentence e
 
--- R1, P2 and P3 are true of the old content. O2, a failed device and NoMemory have no meaning for it, and no other
--- fault is possible.
+-- R1, P2 and P3 are true of the old content. O2, a failed device and NoMemory say nothing of this content. No other fault is
+-- possible.
 abbrev pub IsConversionFault : Grammar → (honest_old : Bool) → List ℕ → Fault → Type 0
 IsConversionFault g honest content fault.Write = Unit {0}
 IsConversionFault g honest content e = IsOldFileFault g honest true content e

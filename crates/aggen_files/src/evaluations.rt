@@ -1,4 +1,4 @@
-//! The evaluation of a tree by way of the two tree files in a folder.
+//! The evaluation of a tree, with the tree files of the passes in a folder.
 
 ghost use Rattle.std.specs.Prelude.{◌≡◌, ◌≢◌, [], Err, IfErr, IfOk, IsErrOf};
 ghost use Rattle.passrun.specs.Rounds.{LeavesSomeFile};
@@ -17,13 +17,13 @@ use std::io::{Read, Seek, Write};
 use treefile::Device;
 
 impl<F: Read + Write + Seek + OpenFile> WorkFiles<F> {
-    /// Translates the tree whose file of pass 0 is on the device `tree`, which keeps its content.
-    /// The passes use the two files. Prints the translation once both are written out. Both are
-    /// also written out after every failure but D1.
+    /// Translates the tree whose file of pass 0 is on the device `tree`. The device keeps its
+    /// content. Pass 1 writes b.agt, pass 2 a.agt, and so on. Prints the translation after both
+    /// files are written out. Both are also written out after every failure but D1.
     ///
-    /// Fails with D1 if a file can't be written out, and otherwise as `Translator::evaluate_tree`
-    /// does; with NoMemory also if memory for the translation's bytes cannot be allocated. Every
-    /// failure but O2 leaves `out` unchanged.
+    /// Fails with D1 if a file can't be written out, also if the translation failed, and otherwise
+    /// as `Translator::evaluate_tree` does; with NoMemory also if memory for the translation's
+    /// bytes cannot be allocated. Every failure but O2 leaves `out` unchanged.
     pub fn evaluate<T: Device, W: Write>(
         &mut self,
         alloc: Global,
@@ -31,7 +31,7 @@ impl<F: Read + Write + Seek + OpenFile> WorkFiles<F> {
         tree: &mut T,
         out: &mut W,
     ) -> Result<Report, Fault>
-        // the translation theorem, of the tree on the device and the contents of the two files
+        // the translation theorem, for the tree on the device and the contents of the two files
         ensures evaluates { IfOk result (λ report. EvaluatesTree translator.now
             (T.is_honest tree.new) (is_honest_of self.new.a) (is_honest_of self.new.b)
             (T.content tree.old) (stored_of self.new.a) (stored_of self.new.b)

@@ -1,6 +1,7 @@
-//! The commands of the program over files: each takes devices over files (`WorkFiles::open` opens
-//! two), calls the translator, and leaves the whole content in the files. Output goes to any
-//! writer, so contracts can name its bytes.
+//! The commands of the program over files. Each takes devices over files (`WorkFiles::open` opens
+//! two) and calls the translator. If it writes to a device, it also writes out the file, so that
+//! the file has the whole content unless D1 comes. Output goes to any writer, so contracts can name
+//! its bytes.
 //!
 //! A `FileDevice` buffers bytes in memory before it writes them to its file. So contracts
 //! distinguish the content of the device (`content_of`) from that of the file itself (`stored_of`).

@@ -27,12 +27,13 @@ use std::fs::OpenFile;
 use std::io::{Read, Seek, Write};
 use treefile::{FileDevice, MemDevice, SharedDevice};
 
-/// Writes the file of pass 0 of a sentence's tree to `tree`, in place of what it has, and then
-/// prints the number of the tree's nodes and returns it.
+/// Replaces the content of `tree` with the file of pass 0 of a sentence's tree. Then prints and
+/// returns the number of the tree's nodes.
 ///
-/// Fails with D1 if the file can't be written out, and otherwise as `Translator::parse_tree` and
-/// `print_count` do. After S1 to S4 the file has the content that its device had, after P1 to P3 a
-/// prefix of a file of pass 0. After O2 it has the tree, and a prefix of the line was printed.
+/// Fails with D1 if the file can't be written out, also if the sentence is refused, and otherwise
+/// as `Translator::parse_tree` and `print_count` do. After S1 to S4 the file has the content that
+/// its device had, and after P1 to P3 a prefix of a file of pass 0. After O2 the file has the tree,
+/// and a prefix of the line was printed.
 pub fn parse_to_file<F: Read + Write + Seek + OpenFile, W: Write>(
     alloc: Global,
     translator: &Translator,
@@ -79,8 +80,8 @@ pub fn parse_to_file<F: Read + Write + Seek + OpenFile, W: Write>(
     Ok(count)
 }
 
-/// Translates the tree whose file of pass 0 is on `tree`, which keeps its content, and prints the
-/// translation. The tree files that the passes write are in memory.
+/// Translates the tree whose file of pass 0 is on the device `tree`, and prints the translation.
+/// The device keeps its content. The tree files that the passes write are in memory.
 ///
 /// Fails as `Translator::evaluate_tree` does.
 pub fn evaluate_file<F: Read + Write + Seek + OpenFile, W: Write>(
@@ -89,7 +90,7 @@ pub fn evaluate_file<F: Read + Write + Seek + OpenFile, W: Write>(
     tree: &mut FileDevice<F>,
     out: &mut W,
 ) -> Result<Report, Fault>
-    // the translation theorem, of the tree in the file
+    // the translation theorem, for the tree in the file
     ensures evaluates { IfOk result (λ report. EvaluatesFile translator.now
         (is_honest_of tree.new) (content_of tree.old)
         (W.contents out.old) (W.contents out.new) report) }
@@ -108,16 +109,18 @@ pub fn evaluate_file<F: Read + Write + Seek + OpenFile, W: Write>(
     translator.evaluate_tree(tree, &mut a, &mut b, out)
 }
 
-/// Converts the tree file of version 1 on `old` to version 2: writes it to `tree`, in place of what
-/// it has, and then prints the number of the tree's nodes and returns it. `old` is only read: by the
-/// record of its own calls it keeps its content. The records in between are in memory, and all of
-/// `old` is read before `tree` is written, so both may be devices over one file, which then has the
-/// new tree file and no longer the old one.
+/// Converts the tree file of version 1 on `old` to version 2, and replaces the content of `tree`
+/// with the converted file. Then prints and returns the number of the tree's nodes.
 ///
-/// Fails with D1 if the file can't be written out, and otherwise as `Translator::upgrade` and
-/// `print_count` do. After O2 the new file has the tree, and a prefix of the line was printed.
-/// After another failure the device `tree` has the content that it had, a prefix of a file of pass 0,
-/// or the file of the old tree.
+/// All of `old` is read before `tree` is written; the converted records are kept in memory in the
+/// meantime. So both may be devices over one file. That file then has the new tree file, not the
+/// old one. The contracts don't see this: the device `old` is only read, so its content stays the
+/// same by the record of its own calls.
+///
+/// Fails with D1 if the new file can't be written out, also if the conversion failed, and otherwise
+/// as `Translator::upgrade` and `print_count` do. After O2 the new file has the tree, and a prefix
+/// of the line was printed. After another failure the device `tree` has the content that it had, a
+/// prefix of a file of pass 0, or the file of the old tree.
 pub fn upgrade_file<F: Read + Write + Seek + OpenFile, W: Write>(
     alloc: Global,
     translator: &Translator,

@@ -25,8 +25,9 @@ use std::io::{Read, Seek, Write};
 use std::rt::Files;
 use treefile::{DeviceFault, FileDevice};
 
-/// The tree files a.agt and b.agt of a folder. Each pass reads one of them and writes the other,
-/// except that pass 1 of `evaluate` reads the given tree file.
+/// The tree files a.agt and b.agt of a folder. The parser writes a.agt, pass 1 reads a.agt and
+/// writes b.agt, pass 2 reads b.agt and writes a.agt, and so on. In `evaluate` pass 1 reads the
+/// given tree file, and nothing is parsed.
 #[derive(Drop)]
 pub struct WorkFiles<F> {
     /// The device over a.agt.
@@ -35,7 +36,7 @@ pub struct WorkFiles<F> {
     pub b: FileDevice<F>,
 }
 
-/// Returns the path of the file `name` in a folder.
+/// Returns `folder` followed by `name`, which begins with `/`. Fails if memory is refused.
 fn path_in(alloc: Global, folder: &str, name: &str) -> Result<String, AllocError>
     ensures { IfOk result (λ path. string_bytes path ≡ folder.now ++ name.now) }
 {
@@ -46,8 +47,8 @@ fn path_in(alloc: Global, folder: &str, name: &str) -> Result<String, AllocError
 
 impl<F: Read + Write + Seek + OpenFile> WorkFiles<F> {
     /// Opens a.agt and b.agt in a folder, and creates those that are missing. Their contents stay
-    /// until a translation clears them. `first` and `second` are the records in which contracts see
-    /// the calls of the two files; they occupy no memory, and a caller passes `CallRecord::new()`.
+    /// until a translation clears them. Contracts see the calls of the two files in the records
+    /// `first` and `second`. These occupy no memory; a caller passes `CallRecord::new()` for each.
     ///
     /// Fails with F1 if a file can't be opened or created, and with NoMemory if memory cannot be
     /// allocated.
@@ -94,14 +95,15 @@ impl<F: Read + Write + Seek + OpenFile> WorkFiles<F> {
         second
     }
 
-    /// Translates a sentence by way of the two files, and prints the translation once both are
-    /// written out. Both are also written out after every failure but D1.
+    /// Translates a sentence with its tree files in the two files, and prints the translation after
+    /// both files are written out. Both are also written out after every failure but D1.
     ///
-    /// Fails with D1 if a file can't be written out, and otherwise as `Translator::translate` does;
-    /// with NoMemory also if memory for the translation's bytes cannot be allocated. Every failure
-    /// but O2 leaves `out` unchanged. After O1 and O2 the files are the last two tree files. After S1
-    /// to S4 both files have the contents that their devices had. After P1 to P3 so has b.agt, and
-    /// a.agt has a prefix of a file of pass 0.
+    /// Fails with D1 if a file can't be written out, also if the translation failed, and otherwise
+    /// as `Translator::translate` does; with NoMemory also if memory for the translation's bytes
+    /// cannot be allocated. Every failure but O2 leaves `out` unchanged. After O1 and O2 the files
+    /// are the last two tree files. After S1 to S4 both files have the contents that their devices
+    /// had. After P1 to P3 b.agt has the content that its device had, and a.agt has a prefix of a
+    /// file of pass 0.
     pub fn translate<W: Write>(
         &mut self,
         alloc: Global,
@@ -109,7 +111,7 @@ impl<F: Read + Write + Seek + OpenFile> WorkFiles<F> {
         sentence: &[u8],
         out: &mut W,
     ) -> Result<Report, Fault>
-        // the translation theorem, of the contents of the two files
+        // the translation theorem, for the contents of the two files
         ensures translates { IfOk result (λ report. TranslatesSentence translator.now sentence.now
             (is_honest_of self.new.a) (is_honest_of self.new.b)
             (stored_of self.new.a) (stored_of self.new.b)
@@ -122,7 +124,7 @@ impl<F: Read + Write + Seek + OpenFile> WorkFiles<F> {
         ensures kept { IfErr result (λ e. e ≢ Fault.Write → out.new ≡ out.old) }
         ensures begins { IsErrOf result Fault.Write →
             BeginsText (W.contents out.old) (W.contents out.new) }
-        // S: both files have the contents that their devices had; P: so has b.agt
+        // S: both files have the contents that their devices had; P: b.agt has that of its device
         ensures untouched { IfErr result (λ e. IsScanFault e →
             StoresContent self.old.a self.new.a) }
         ensures b_untouched { IfErr result (λ e. IsRefusedSentence e →
@@ -157,7 +159,7 @@ impl<F: Read + Write + Seek + OpenFile> WorkFiles<F> {
     }
 }
 
-/// Returns the result of a translation into a `Vec`, with NoMemory in place of O2: a write to a
+/// Returns the result of a translation into a `Vec`, but NoMemory in place of O2: a write to a
 /// `Vec` fails only if memory is refused.
 pub(crate) fn of_buffered(translated: Result<Report, Fault>) -> Result<Report, Fault>
     ensures ok { IfOk result (λ report. translated ≡ Ok report) }

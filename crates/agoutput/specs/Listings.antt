@@ -15,12 +15,13 @@ use Rattle.passcode.specs.declared.instr.Instr.{Instr}
 use Rattle.passcode.specs.declared.instr.Instr.TheVariants as instr
 use Rattle.agoutput.specs.Writing.{AppendsBeginning}
 
--- the text of an attribute in the line of pass k: a space and `SYMBOL.ATTRIBUTE` if its pass is k, else nothing. `name` is its
--- symbol's name, and x has its own name and its pass
+-- the text of an attribute in the line of pass k: a space and `SYMBOL.ATTRIBUTE` if the attribute's pass is k, else nothing.
+-- `name` is the name of the symbol, and x is the pair of the attribute's name and pass
 abbrev pub attribute_text : ℕ → List ℕ → List ℕ × ℕ → List ℕ
 attribute_text k name x = if x.1 == k then codes " " ++ name ++ codes "." ++ x.0 else []
 
--- the attributes of a symbol in the line of pass k; x has the symbol, and the passes of its attributes
+-- the attributes of a symbol in the line of pass k; x is the pair of the symbol and the passes of its
+-- attributes
 abbrev pub symbol_text : ℕ → Symbol × List ℕ → List ℕ
 symbol_text k x = flat_map (attribute_text k x.0.name) (zip (attribute_names x.0) x.1)
 
@@ -55,13 +56,14 @@ instruction_text g q (instr.Put j) = codes "put " ++ decimal j
 instruction_text g q (instr.Def a r) = codes "def " ++ attribute_name g q 0 a ++ codes " rule " ++ decimal r
 instruction_text g q instr.End = codes "end"
 
--- the line of production q, whose number is p, and a pass: both numbers, and the instructions, separated by a comma and a space.
--- x has the number of the pass, and its instructions
+-- the line of production q, whose number is p, and a pass: the numbers of the production and of the pass, and the instructions,
+-- separated by a comma and a space. x is the pair of the number of the pass and the instructions
 abbrev pub code_line : Grammar → ℕ → Production → ℕ × List Instr → List ℕ
 code_line g p q x =
     decimal p ++ codes " pass " ++ decimal x.0 ++ codes ": " ++ separated (map (instruction_text g q) x.1) ++ codes "\n"
 
--- the lines of a production, one for each pass from 1. x has the production with its number, and its lists of instructions
+-- the lines of a production, one for each pass from 1. x is the pair of the production, with its number before it, and its lists
+-- of instructions
 abbrev pub production_text : Grammar → (ℕ × Production) × List (List Instr) → List ℕ
 production_text g x = flat_map (code_line g x.0.0 x.0.1) (enumerate_from 1 x.1)
 

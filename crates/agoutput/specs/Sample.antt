@@ -5,7 +5,7 @@ use Rattle.std.specs.Prelude.{ℕ, List, [], ◌∷◌, codes}
 abbrev pub sample_rows : List (List ℕ)
 sample_rows = (1 ∷ []) ∷ (1 ∷ 1 ∷ []) ∷ []
 
--- the listing of that assignment
+-- the listing of the passes of that assignment
 abbrev pub sample_plan : List ℕ
 sample_plan = codes "pass 1 right-to-left: R.out A.s A.i\n"
 

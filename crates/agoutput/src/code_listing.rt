@@ -19,7 +19,7 @@ use planchecker::Plan;
 use std::alloc::{AllocError, Global};
 use std::io::Write;
 
-/// A production of a grammar, with its number.
+/// A production of a grammar, with its number from 0.
 #[derive(Clone, Copy)]
 struct NumberedProduction<'g> {
     grammar: &'g Grammar,
@@ -27,8 +27,8 @@ struct NumberedProduction<'g> {
     production: &'g Production,
 }
 
-/// Appends the name of an instruction and a place in decimal. Fails if memory is refused, as all `show_`
-/// functions do.
+/// Appends the name of an instruction and a place in decimal. Fails if memory is refused, as all
+/// `show_` functions do.
 fn show_place(alloc: Global, out: &mut String, name: &str, place: u16) -> Result<(), AllocError>
     ensures { OnOk result (string_bytes out.new ≡ string_bytes out.old
         ++ (name.now ++ decimal place)) }
@@ -105,7 +105,8 @@ fn show_list(
     Ok(())
 }
 
-/// Appends the line of a production and a pass: both numbers, and the instructions of the list.
+/// Appends the line of a production and a pass: the number of the production, from 0, the number of
+/// the pass, from 1, and the instructions of the list.
 fn show_line(
     alloc: Global,
     out: &mut String,
@@ -160,12 +161,12 @@ fn code_lines(alloc: Global, grammar: &Grammar, code: &Code) -> Result<String, A
 
 /// Writes the listing of a plan's code: one line for each production and pass, with the
 /// instructions of its list. Productions are in the order of the grammar's text, and the lines of a
-/// production in the order of the passes, from 1.
+/// production in the order of the passes, from 1. `plan` has to be a plan for `grammar`.
 ///
-/// Fails with O2 Write if a write takes no byte, or fails for any reason, such as memory that the writer
-/// is refused; a prefix of the listing is written then. Fails with NoMemory if memory for the listing
-/// is refused; nothing is written then. Takes memory for the whole listing, which is complete before
-/// its first byte is written.
+/// Fails with O2 if a write takes no byte, or fails for any reason, for example because the writer
+/// is refused memory. A prefix of the listing, perhaps empty, is written then. Fails with NoMemory
+/// if memory for the listing is refused. Nothing is written then, since the whole listing is made
+/// in memory before its first byte is written.
 pub fn write_code<W: Write>(
     alloc: Global,
     out: &mut W,

@@ -8,14 +8,14 @@ use std::alloc::AllocError;
 /// The reason why a text is not written completely.
 #[derive(Clone, Copy, Debug, PartialEq, Eq)]
 pub enum TextOutFault {
-    /// O2: a write failed, or took no byte. A prefix of the text may have been written.
+    /// O2: a write failed, or took no byte. A prefix of the text, perhaps empty, was written.
     Write,
 }
 
 /// The reason why a listing is not written completely.
 #[derive(Clone, Copy, Debug, PartialEq, Eq)]
 pub enum ListingFault {
-    /// O2: a write failed, or took no byte. A prefix of the listing may have been written.
+    /// O2: a write failed, or took no byte. A prefix of the listing, perhaps empty, was written.
     Write,
     /// The allocator refused memory. Nothing was written.
     NoMemory,

@@ -16,8 +16,8 @@ pub(crate) fn show_number(alloc: Global, out: &mut String, number: usize) -> Res
     out.push_str(digits.as_str())
 }
 
-/// Returns the name of an attribute of a symbol, by their numbers from 0, or an empty text if the
-/// symbol or the attribute does not exist.
+/// Returns the name of attribute `attr` of symbol `symbol`, both numbered from 0, or an empty text
+/// if the symbol or the attribute does not exist.
 fn symbol_attribute(symbols: &[Symbol], symbol: u16, attr: u16) -> &str
     ensures { result.now ≡ slice_index_or (symbol_names (slice_get symbols.now symbol)) attr [] }
 {
@@ -30,8 +30,9 @@ fn symbol_attribute(symbols: &[Symbol], symbol: u16, attr: u16) -> &str
     }
 }
 
-/// Returns the name of an attribute at a place of a production, by its number from 0, or an empty
-/// text if it does not exist. Place 0 is the left side. Attribute 0 of a token is `lex`.
+/// Returns the name of attribute `attr`, numbered from 0, at a place of a production, or an empty
+/// text if the place or the attribute does not exist. Place 0 is the left side. Attribute 0 of a
+/// token is `lex`.
 pub(crate) fn attribute_name<'a>(
     grammar: &'a Grammar,
     production: &Production,

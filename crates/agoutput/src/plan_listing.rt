@@ -16,8 +16,9 @@ use planchecker::Plan;
 use std::alloc::{AllocError, Global};
 use std::io::Write;
 
-/// Appends a space and `SYMBOL.ATTRIBUTE`, as in ` L.p`, if the attribute's own pass `own` is the listed
-/// pass `pass`; otherwise nothing. Fails if memory is refused, as all `show_` functions do.
+/// Appends a space and `SYMBOL.ATTRIBUTE`, as in ` L.p`, if `own`, the attribute's pass, is `pass`,
+/// the pass of the line. Appends nothing otherwise. Fails if memory is refused, as all `show_`
+/// functions do.
 fn show_attribute(
     out: &mut String,
     pass: u16,
@@ -37,8 +38,8 @@ fn show_attribute(
     Ok(())
 }
 
-/// Appends the attributes of a symbol that a pass computes. `passes` has the pass of each
-/// attribute, the synthesized ones first.
+/// Appends the attributes of a symbol that a pass computes. `passes` has the passes of the symbol's
+/// attributes, the passes of its synthesized attributes first.
 fn show_symbol(
     out: &mut String,
     pass: u16,
@@ -59,8 +60,8 @@ fn show_symbol(
     Ok(())
 }
 
-/// Appends the attributes that a pass computes, symbol by symbol. `rows` has the passes of each symbol's
-/// attributes.
+/// Appends the attributes that a pass computes, symbol by symbol. `rows` has the passes of each
+/// symbol's attributes.
 fn show_symbols(
     out: &mut String,
     pass: u16,
@@ -113,12 +114,13 @@ fn plan_lines(
 }
 
 /// Writes the listing of a plan's passes: a line for each pass from 1, with its direction and the
-/// attributes that it computes, in declared order.
+/// attributes that it computes. Symbols are in declared order, and for each symbol the synthesized
+/// attributes come before the inherited ones. `plan` has to be a plan for `grammar`.
 ///
-/// Fails with O2 Write if a write takes no byte, or fails for any reason, such as memory that the writer
-/// is refused; a prefix of the listing is written then. Fails with NoMemory if memory for the listing
-/// is refused; nothing is written then. Takes memory for the whole listing, which is complete before
-/// its first byte is written.
+/// Fails with O2 if a write takes no byte, or fails for any reason, for example because the writer
+/// is refused memory. A prefix of the listing, perhaps empty, is written then. Fails with NoMemory
+/// if memory for the listing is refused. Nothing is written then, since the whole listing is made
+/// in memory before its first byte is written.
 pub fn write_plan<W: Write>(
     alloc: Global,
     out: &mut W,

@@ -1,5 +1,5 @@
-//! Examples for the definitions of listings, worked out by hand. Each is a law: the contract of a function with
-//! an empty body.
+//! Examples for the definitions of listings, worked out by hand. Each is a law: the contract of a
+//! function with an empty body.
 
 ghost use Rattle.std.specs.Prelude.{◌≡◌};
 ghost use Rattle.ag_grammar.specs.grammars.Sample.{sample};
@@ -12,7 +12,8 @@ pub fn sample_passes_listed()
     ensures { IsPlanListing sample sample_rows sample_plan }
 {}
 
-/// States that `sample_line` is the line of production 0 and pass 1 in the listing of that grammar's code.
+/// States that `sample_line` is the line of production 0 and pass 1 of that grammar, if the list of
+/// instructions is `sample_list`.
 pub fn sample_code_listed()
     ensures { code_line sample 0 sample_production (1, sample_list) ≡ sample_line }
 {}

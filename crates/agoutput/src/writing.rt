@@ -9,8 +9,8 @@ use std::io::Write;
 
 /// Writes bytes with as many writes as the writer needs to take all of them. Takes no memory.
 ///
-/// Fails with O2 Write if a write takes no byte, or fails for any reason, such as memory that the writer
-/// is refused; a prefix of the bytes is written then.
+/// Fails with O2 if a write takes no byte, or fails for any reason, for example because the writer
+/// is refused memory. A prefix of the bytes, perhaps empty, is written then.
 #[tactic(auto, using(crate::proofs::Written::one_more, crate::proofs::Written::beginning))]
 pub fn write_bytes<W: Write>(out: &mut W, bytes: &[u8]) -> Result<(), TextOutFault>
     ensures ok { OnOk result (Appends (W.contents out.old) (W.contents out.new) bytes.now) }

@@ -25,6 +25,6 @@ arity_of children (byte ∷ high ∷ low ∷ spellings) =
 pub arity_of_node : arity_of (λ kind number. Some number) (0 ∷ 1 ∷ 2 ∷ 9 ∷ []) ≡ Some 258
 arity_of_node = refl
 
--- no kind begins with 2
+-- 2 is the first byte of no kind
 pub arity_of_two : arity_of (λ kind number. Some number) (2 ∷ 1 ∷ 2 ∷ []) ≡ None
 arity_of_two = refl

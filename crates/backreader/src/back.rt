@@ -47,8 +47,8 @@ impl Model for Back {
       };
     } };
 
-    // Each call that lends a body raises the count by 1 and lowers the offset by at least 7, so the
-    // count does not overflow.
+    // Each call that lends a body raises the count by 1 and lowers the offset by at least 7: the
+    // least body has 3 bytes, and its length has 4. So the count does not overflow.
     ghost invariant = { λ b. b.records + b.window.at < 2 ^ 64 };
 }
 
@@ -61,7 +61,8 @@ impl Back {
     /// Starts a reader at the end of the tree file on a device.
     ///
     /// Fails with B1 NotATreeFile if there are fewer than 6 bytes or the first four are not `AGT2`,
-    /// and with D1 Device if a call of the device failed. Takes memory for a buffer of 4,096 bytes.
+    /// with D1 Device if a call of the device failed, and with NoMemory if memory for a buffer of
+    /// 4,096 bytes is refused.
     pub fn start<D: Device>(alloc: Global, device: &mut D) -> Result<Back, FrameFault>
         // The number of the pass and B1 agree with the content.
         ensures exact { WhenHonest (D.is_honest device.new) (ReadsAs (λ back. back.progress.pass) result
@@ -128,10 +129,11 @@ impl Back {
     /// first call. Returns `None` if the header ends there. Requires the device of `start`, with
     /// the same content if it is honest.
     ///
-    /// Fails with B2 Damaged if no frame ends at the offset where one is expected (`end`), which the fault
-    /// contains, and with D1 Device if a call of the device failed. After either, every later call of
-    /// `back` fails with the same fault and does not use the device. Takes memory only for a frame of more
-    /// than 4,096 bytes; after NoMemory nothing has changed, and the call can be repeated.
+    /// Fails with B2 Damaged, and the offset where a frame is expected to end (`end`), if none ends
+    /// there. Fails with D1 Device if a call of the device failed. After B2 and D1 every later call
+    /// of `back` fails with the same fault and does not use the device. Takes memory only for a
+    /// frame of more than 4,096 bytes, and fails with NoMemory if it is refused. Then nothing has
+    /// changed, and the call can be repeated.
     #[inline(always)]
     pub fn back<D: Device>(&mut self, device: &mut D) -> Result<Option<&[u8]>, FrameFault>
         requires { WhenHonest (D.is_honest device.old) (IsOver (D.content device.old) self.old) }
@@ -213,6 +215,7 @@ impl Back {
             return None;
         }
         let length = body.len();
+        // `fits_before` requires a length below 2^32.
         if length > u64::from(u32::MAX) || !fits_before(FileVersion::Two, at, length) {
             return None;
         }

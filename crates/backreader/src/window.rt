@@ -1,4 +1,4 @@
-//! The bytes of a device before an offset, read in blocks from its end on.
+//! The bytes of a device before an offset, read in blocks, the last block first.
 
 ghost use Rattle.std.specs.Prelude.{◌≡◌, ◌≤◌, ◌<◌, ◌+◌, ◌-◌, ℕ, List, [], Ok, Err, length, min, vec_len};
 ghost use Rattle.std.specs.Prelude.{drop, slice_range, IfNone, IfOk, IfSome, IsErrOf, IsTrue, OnErr, OnOk};
@@ -26,10 +26,11 @@ const LENGTH: usize = LENGTH_BYTES as usize;
 /// The least number of bytes of a body, as a `usize`.
 const LEAST: usize = LEAST_BODY as usize;
 
-/// The bytes of a device before the offset `at`, as far as they are in the buffer: from index `from` to
-/// index `to` it has bytes that were read from the device and not taken yet (called *unread*). Before
-/// `from` it is free, and after `take` the bytes of the frame that was taken begin at `to`. The buffer
-/// has at least 4,096 bytes, and at most as many as the greatest frame of the version.
+/// The bytes of a device before the offset `at`, as far as they are in the buffer. From index
+/// `from` to index `to` the buffer has bytes that were read from the device and not taken yet
+/// (called *unread*). Before `from` the buffer is free. After `take` the bytes of the frame that
+/// was taken begin at `to`. The buffer has at least 4,096 bytes, and at most as many as the
+/// greatest frame of the version.
 #[derive(Drop)]
 pub(crate) struct Window {
     version: FileVersion,
@@ -99,8 +100,8 @@ impl Window {
     /// Returns `None` if the header ends there.
     ///
     /// Fails with B2 Damaged if no frame ends there, and with D1 Device if a call of the device
-    /// failed. Takes memory for a frame that has more bytes than the buffer; after NoMemory the offset
-    /// and the unread bytes are as before.
+    /// failed. Takes memory for a frame that has more bytes than the buffer, and fails with
+    /// NoMemory if it is refused. The offset and the unread bytes are then as before.
     #[inline(always)]
     #[tactic(auto, unfolding(treefile::specs::framing::Backward::next_before))]
     pub(crate) fn next<D: Device>(&mut self, device: &mut D) -> Result<Option<usize>, FrameFault>
@@ -159,8 +160,10 @@ impl Window {
         &self.buffer[self.to..self.to + count]
     }
 
-    /// Returns the length of the body whose frame ends at the offset, if all of that frame is among the
-    /// unread bytes: then it fits after the header, and in the buffer. Else returns `None`.
+    /// Returns the length of the body whose frame ends at the offset, if all of that frame is among
+    /// the unread bytes, and otherwise `None`. Unread bytes are after the header, and there are at
+    /// most as many as the greatest frame has. So the length needs no other check of its limits
+    /// than `LEAST`.
     #[inline(always)]
     #[tactic(auto, using(crate::proofs::EndingAt::body_at_hand))]
     fn buffered_length(&self) -> Option<usize>
@@ -280,9 +283,9 @@ impl Window {
         Ok(())
     }
 
-    /// Reads more bytes if fewer than `count` are in the buffer. Requires room for `count` bytes in the
-    /// buffer, and `count` bytes between the header and the offset. Fails with `Failed` if the device
-    /// fails; no bytes were added then.
+    /// Reads more bytes if fewer than `count` are unread. Requires room for `count` bytes in the
+    /// buffer, and `count` bytes between the header and the offset. Fails with `Failed` if the
+    /// device fails; no bytes were added then.
     fn ensure_loaded<D: Device>(&mut self, device: &mut D, count: usize) -> Result<(), DeviceFault>
         requires room { count ≤ vec_len self.old.buffer }
         requires following { header_bytes + count ≤ self.old.at }

@@ -155,12 +155,13 @@ fn put_record(
     }
 }
 
-/// Returns the result of a write to a device in memory: a failed one is `NoMemory`.
+/// Converts the result of a write to a device in memory, which fails only if memory is refused.
 fn put_result(put: Result<(), DeviceFault>) -> Result<(), Mistake> {
     put.map_err(|_| Mistake::NoMemory)
 }
 
-/// Writes a body unchanged. Fails with `Unfit` if its length is not within 3..=16,777,219 bytes.
+/// Writes the bytes of a body as they are. Fails with `Unfit` if there are fewer than 3 or more than 16,777,219, the
+/// limits of the format, or if the writer can count no further record.
 fn put_bytes(writer: &mut Writer, device: &mut MemDevice, body: &[u8]) -> Result<(), Mistake> {
     if writer.written() == u64::MAX || body.len() < 3 || body.len() > 16_777_219 {
         return Err(Mistake::Unfit);

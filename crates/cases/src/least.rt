@@ -53,7 +53,8 @@ fn lists_of(alloc: Global, text: &str) -> Result<Items<Items<Strike>>, Mistake> 
     Ok(Items::from_vec(lists))
 }
 
-/// Returns whether the strikes of a row show that its assignment is the least one of a grammar.
+/// Returns whether a row's strikes show that its assignment is the least one of the grammar. A row spells the
+/// assignment, ` : ` and the lists of strikes.
 pub fn least_answer(alloc: Global, grammar: &Grammar, spelled: &str) -> Result<String, Mistake> {
     let (rows, lists) = halves(spelled, " : ")?;
     let assignment = assignment(alloc, rows)?;

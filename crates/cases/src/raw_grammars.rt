@@ -1,4 +1,5 @@
-//! Raw grammars with more symbols than a text can declare.
+//! Answers a question about a raw grammar with more symbols than a text in a row could declare: whether it is
+//! accepted.
 
 use crate::grammars::{raw_grammar, verdict};
 use ag_grammar::{Named, RawGrammar, RawItem, RawProduction, RawSymbol};

@@ -5,16 +5,16 @@ use Rattle.closure.specs.declared.addition.Reason.{Reason}
 use Rattle.closure.specs.declared.addition.Reason.TheVariants as reason
 use Rattle.closure.specs.declared.clause.Clause.{Clause}
 
--- one of these additions is that of a number
+-- one of these additions is that of the number t
 abbrev pub IsAdded : List Addition → ℕ → Type 0
 IsAdded xs t = (i : ℕ) × (x : Addition) × (slice_get xs i ≡ Some x) × (x.number ≡ t)
 
--- one of these additions before the index n is that of a number
+-- an addition at an index below n is that of the number t
 abbrev pub IsAddedBefore : List Addition → ℕ → ℕ → Type 0
 IsAddedBefore xs n t = (i : ℕ) × (x : Addition) × (i < n) × (slice_get xs i ≡ Some x) × (x.number ≡ t)
 
--- A reason is one why the number n follows: n is the seed with the reason's index, or it is the head of the clause with
--- that index, and each number of the clause's body satisfies `there`.
+-- The number n follows for this reason: n is the seed with the reason's index, or it is the head of the clause with that
+-- index, and each number of the clause's body satisfies `there`.
 abbrev pub IsReason : List Clause → List ℕ → (there : ℕ → Type 0) → ℕ → Reason → Type 0
 IsReason clauses seeds there n (reason.Seed i) = slice_get seeds i ≡ Some n
 IsReason clauses seeds there n (reason.Clause p) = (q : Clause) × (slice_get clauses p ≡ Some q) × (q.head ≡ n) × All there q.body

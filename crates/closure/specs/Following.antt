@@ -1,5 +1,5 @@
 -- The numbers that follow from clauses and seeds (Dowling and Gallier 1984): each seed does, and the head of
--- a clause if each number of its body does. No smaller set has the seeds and is closed under the clauses.
+-- a clause if each number of its body does (`FollowAll`). No smaller set has the seeds and is closed under the clauses.
 use Rattle.std.specs.Prelude.{ℕ, ◌≡◌, ◌↔◌, Bool, true, false, List, [], ◌∷◌, Some, slice_get, slice_index_or, Contains}
 use Rattle.closure.specs.declared.clause.Clause.{Clause}
 

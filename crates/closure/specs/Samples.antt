@@ -3,7 +3,7 @@ use Rattle.std.specs.Prelude.{List, [], ◌∷◌}
 use Rattle.closure.specs.declared.clause.Clause.{Clause}
 use Rattle.closure.specs.declared.edges.Edge.{Edge}
 
--- four clauses: 0 follows; 1 does if 0 does, which its body has twice; 2 does if 1 and 3 do; and 3 does if 2 does
+-- four clauses: 0 follows; 1 does if 0 does (the body of this clause has 0 twice); 2 does if 1 and 3 do; and 3 does if 2 does
 abbrev pub sample : List Clause
 sample =
     record { head = 0; body = [] }

@@ -17,7 +17,7 @@ IsOpen marks added visited t =
 abbrev pub IsSettled : List Bool → List Addition → ℕ → Clause → Type 0
 IsSettled marks added visited q = (is_marked marks q.head ≡ true) ⊎ ((t : ℕ) × Contains q.body t × IsOpen marks added visited t)
 
--- as many marks as before; marks stay set, and open numbers stay open
+-- the list of marks keeps its length; marked numbers stay marked, and open numbers stay open
 pub record Grows (visited : ℕ) (marks : List Bool) (added : List Addition) (marks' : List Bool)
     (added' : List Addition) : Type 0 where
   pub count : length marks' ≡ length marks

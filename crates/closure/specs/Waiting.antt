@@ -1,4 +1,4 @@
--- For each number the clauses whose bodies contain it, by their indices.
+-- For each number, its row: the indices of the clauses whose bodies contain the number, and which wait for it.
 use Rattle.std.specs.Prelude.{ℕ, map, ◌≡◌, ◌<◌, List, [], length, slice_index_or, All, Contains}
 use Rattle.std.specs.Global.{Vec}
 use Rattle.closure.specs.Clauses.{IsClauseBelow}
@@ -12,8 +12,8 @@ rows table = map (λ v. v.items) table
 abbrev pub row : List (List ℕ) → ℕ → List ℕ
 row table t = slice_index_or table t []
 
--- Entries for the clause are added to the table `old`. `new` has as many rows, and each contains the entries that it had. All
--- entries of `new` are below each number that the clause and all entries of `old` are below.
+-- The table `new` has as many rows as `old`, and each contains the entries that it had. If the clause's index and all entries of
+-- `old` are below a number, so are all entries of `new`. This doesn't say which entries were added.
 pub record AddsClause (clause : ℕ) (old new : List (List ℕ)) : Type 0 where
   pub same : length new ≡ length old
   pub kept : (t p : ℕ) → Contains (row old t) p → Contains (row new t) p

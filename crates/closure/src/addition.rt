@@ -5,7 +5,7 @@
 pub enum Reason {
     /// It is the seed with this index.
     Seed(usize),
-    /// It is the head of the clause with this index, whose body follows.
+    /// It is the head of the clause with this index, and each number of the clause's body follows.
     Clause(usize),
 }
 
@@ -18,7 +18,7 @@ pub struct Addition {
     pub reason: Reason,
 }
 
-/// All numbers that follow, in the order in which they are found, and their marks.
+/// All numbers that follow, in the order in which they are found, and a mark for each number.
 #[derive(Debug, Drop)]
 pub struct FoundNumbers {
     /// The numbers that follow, each once.

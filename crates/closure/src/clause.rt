@@ -6,8 +6,8 @@ use ag_value::Items;
 /// than once.
 #[derive(Debug, Drop)]
 pub struct Clause {
-    /// The number that follows.
+    /// The number that follows if the body does.
     pub head: usize,
-    /// The numbers from which it follows.
+    /// The numbers from which the head follows. A clause without any is a fact.
     pub body: Items<usize>,
 }

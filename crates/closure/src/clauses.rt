@@ -18,8 +18,8 @@ use std::marker::Model;
 #[derive(Drop)]
 pub struct Clauses {
     clauses: Vec<Clause>,
-    /// For each number below the count, the indices of the clauses whose bodies contain it: an index
-    /// once for each time that the body contains the number.
+    /// For each number below the count, the indices of the clauses whose bodies contain it. If a
+    /// body contains the number several times, so does the row contain the index.
     uses: Vec<Vec<usize>>,
     /// The indices of the clauses with an empty body.
     facts: Vec<usize>,
@@ -41,9 +41,9 @@ impl Model for Clauses {
 }
 
 impl Clauses {
-    /// Makes a list of clauses, whose numbers have to be below `count`, ready for searches. Takes memory,
-    /// and time linear in the number of clauses, the lengths of their bodies and `count`. Fails with
-    /// NoMemory.
+    /// Prepares clauses for searches. Their numbers have to be below `count`. Takes memory and time
+    /// linear in the number of clauses, the lengths of their bodies and `count`. Fails with
+    /// NoMemory if a request for memory is refused.
     pub fn new(alloc: Global, clauses: Vec<Clause>, count: usize) -> Result<Clauses, NoMemory>
         requires { All (IsClauseBelow count) clauses.items }
         ensures { IfOk result (λ c. c ≡ record {
@@ -60,9 +60,10 @@ impl Clauses {
         })
     }
 
-    /// Makes one clause of each edge, whose start and end have to be below `count`: a number follows if
-    /// it is reached from a seed. Takes memory, and time linear in the number of edges and in `count`.
-    /// Fails with NoMemory.
+    /// Makes a clause of each edge. Its head is the edge's end, and its body the edge's start
+    /// alone, so that a number follows if it is reached from a seed. The starts and ends have to be
+    /// below `count`. Takes memory and time linear in the number of edges and in `count`. Fails
+    /// with NoMemory if a request for memory is refused.
     pub fn of_edges(alloc: Global, edges: &[Edge], count: usize) -> Result<Clauses, NoMemory>
         requires { All (IsEdgeBelow count) edges.now }
         ensures { IfOk result (λ c. c ≡ clauses_of_edges edges.now count) }
@@ -72,7 +73,8 @@ impl Clauses {
     }
 
     /// Returns, for each number below the count, whether it follows from the clauses and the seeds,
-    /// which have to be below the count. Takes memory and time as `find` does. Fails with NoMemory.
+    /// which have to be below the count. Takes memory and time as `find` does. Fails with NoMemory
+    /// if a request for memory is refused.
     pub fn closure(&self, alloc: Global, seeds: &[usize]) -> Result<Vec<bool>, NoMemory>
         requires { All (λ t. t < self.now.count) seeds.now }
         ensures len { IfOk result (λ marks. length marks.items ≡ self.now.count) }
@@ -85,12 +87,13 @@ impl Clauses {
     /// count, whether it follows. Each number that follows is listed once, with the seed or the clause
     /// by which it follows, and after all numbers of that clause's body.
     ///
-    /// The seeds have to be below the count. The list is filled as a queue. First come the heads of the
-    /// clauses with an empty body, in the order of the clauses, and then the seeds, in theirs. For each
-    /// number of the list in turn, the clauses whose bodies contain it are visited in their order, and
-    /// the head of a clause is added if all numbers of its body are in the list. A number that is in the
-    /// list is not added again. Takes memory, and time linear in the number of clauses, the lengths of
-    /// their bodies, the number of seeds, and the count. Fails with NoMemory.
+    /// The seeds have to be below the count. The list is filled as a queue. First come the heads of
+    /// the clauses with an empty body, and then the seeds, both in the order of their indices. For
+    /// each number of the list in turn, the clauses whose bodies contain it are visited in the
+    /// order of their indices, and the head of a clause is added if all numbers of its body are in
+    /// the list. A number that is in the list is not added again. Takes memory and time linear in
+    /// the number of clauses, the lengths of their bodies, the number of seeds, and the count.
+    /// Fails with NoMemory if a request for memory is refused.
     pub fn find(&self, alloc: Global, seeds: &[usize]) -> Result<FoundNumbers, NoMemory>
         requires { All (λ t. t < self.now.count) seeds.now }
         ensures len { IfOk result (λ found. length found.marks.items ≡ self.now.count) }

@@ -16,7 +16,8 @@ pub struct Edge {
     pub to: usize,
 }
 
-/// Returns one clause for each edge: its end follows from its start. Fails with NoMemory.
+/// Returns one clause for each edge: its head is the edge's end, and its body the edge's start
+/// alone. Fails with NoMemory if a request for memory is refused.
 pub(crate) fn clauses_along(alloc: Global, edges: &[Edge]) -> Result<Vec<Clause>, NoMemory>
     ensures { IfOk result (λ clauses. clauses.items ≡ map clause_of_edge edges.now) }
 {

@@ -1,5 +1,6 @@
-//! The consequences of Horn clauses over numbers: the least set that contains the seeds and, for each
-//! clause whose body it contains, the clause's head.
+//! Computes the numbers that follow from Horn clauses over numbers and from given numbers, the
+//! seeds: the least set that contains the seeds and, for each clause whose body it contains, the
+//! clause's head.
 #![tactic(auto)]
 
 mod addition;

@@ -5,14 +5,15 @@ ghost use Rattle.closure.specs.Following.{Follows};
 ghost use Rattle.closure.specs.Samples.{sample, two_edges};
 ghost use Rattle.std.specs.Prelude.{[], ◌∷◌, map};
 
-/// States that without seeds 1 follows, since 0 does, and 2 does not, since 2 and 3 wait for each other.
+/// States that from the clauses `sample`, without seeds, 1 follows, since 0 does, and 2 does not,
+/// since it follows only if 3 does, and 3 only if 2 does.
 #[tactic(auto, using(crate::proofs::Sample::without_seeds))]
 pub fn without_seeds()
     ensures follows { Follows sample [] 1 }
     ensures waits { Follows sample [] 2 → ⊥ }
 {}
 
-/// States that 2 follows if 3 is a seed.
+/// States that from the clauses `sample` 2 follows if 3 is a seed.
 #[tactic(auto, using(crate::proofs::Sample::with_seed))]
 pub fn with_seed()
     ensures { Follows sample (3 ∷ []) 2 }

@@ -1,5 +1,5 @@
-//! The search for the numbers that follow. It traverses the body of each clause at most once, number by
-//! number.
+//! Searches for the numbers that follow. A number that is found is marked. The search traverses the
+//! body of each clause at most once, number by number.
 ghost use Rattle.std.specs.Prelude.{◌≡◌, ◌<◌, ◌≤◌, ◌⊎◌, ◌↔◌, ℕ, true, false, length, take, All};
 ghost use Rattle.std.specs.Prelude.{Contains, IfOk, OnOk, slice_index_or};
 ghost use Rattle.std.specs.List.{list_all};
@@ -48,16 +48,16 @@ struct Search<'g> {
     marks: Vec<bool>,
     /// The marked numbers, in the order in which they were found.
     added: Vec<Addition>,
-    /// The number of entries of `added` that are visited, from the first on. An entry is visited by
-    /// visiting the clauses whose bodies contain its number; it is counted before that.
+    /// The number of entries of `added`, from the first on, whose visit has begun. A visit of an
+    /// entry visits the clauses whose bodies contain the entry's number.
     visited: usize,
-    /// For each clause, the length of a prefix of its body whose numbers are known to be marked.
+    /// For each clause, the length of a prefix of its body in which each number is marked.
     passed: Vec<usize>,
 }
 
 impl<'g> Search<'g> {
-    /// Advances in the body of a clause to its first number that is not marked. Returns whether there
-    /// is none, so that all are marked.
+    /// Advances in the body of a clause to its first number that is not marked. Returns true if all
+    /// are marked.
     fn advance(&mut self, clause: usize) -> bool
         requires clause { clause < length self.old.clauses.now }
         requires search { IsSearch self.old.clauses.now self.old.seeds.now self.old.marks.items
@@ -80,7 +80,8 @@ impl<'g> Search<'g> {
         passed == body.len()
     }
 
-    /// Adds a number for a reason, and marks it, unless it is marked already. Fails with NoMemory.
+    /// Adds a number for a reason, and marks it, unless it is marked already. Fails with NoMemory
+    /// if a request for memory is refused.
     fn mark(&mut self, number: usize, reason: Reason) -> Result<(), NoMemory>
         requires number { number < length self.old.marks.items }
         requires reason { IsReason self.old.clauses.now self.old.seeds.now
@@ -103,7 +104,8 @@ impl<'g> Search<'g> {
         Ok(())
     }
 
-    /// Marks the seeds. Fails with NoMemory.
+    /// Adds and marks the seeds that are not marked already. Fails with NoMemory if a request for
+    /// memory is refused.
     fn mark_seeds(&mut self) -> Result<(), NoMemory>
         requires seeds { All (λ t. t < length self.old.marks.items) self.old.seeds.now }
         requires search { IsSearch self.old.clauses.now self.old.seeds.now self.old.marks.items
@@ -125,7 +127,8 @@ impl<'g> Search<'g> {
         Ok(())
     }
 
-    /// Marks the head of a clause, if its whole body is marked. Fails with NoMemory.
+    /// Adds and marks the head of a clause if its whole body is marked. Fails with NoMemory if a
+    /// request for memory is refused.
     fn visit(&mut self, clause: usize) -> Result<(), NoMemory>
         requires clause { clause < length self.old.clauses.now }
         requires search { IsSearch self.old.clauses.now self.old.seeds.now self.old.marks.items
@@ -147,9 +150,10 @@ impl<'g> Search<'g> {
         Ok(())
     }
 
-    /// Visits clauses, given by their indices. They are then settled (`IsSettled`: the head is marked, or
-    /// a number of the body is still to be marked or visited), as are those settled before. Fails with
-    /// NoMemory.
+    /// Visits clauses, given by their indices. A clause is settled (`IsSettled`) if its head is
+    /// marked, or a number of its body is still to be marked or visited. Visited clauses are
+    /// settled, and clauses that were settled stay so. Fails with NoMemory if a request for memory
+    /// is refused.
     fn visit_all(&mut self, waiting: &[usize]) -> Result<(), NoMemory>
         requires clauses { All (λ p. p < length self.old.clauses.now) waiting.now }
         requires search { IsSearch self.old.clauses.now self.old.seeds.now self.old.marks.items
@@ -174,10 +178,11 @@ impl<'g> Search<'g> {
     }
 }
 
-/// Returns the numbers that follow from clauses and seeds. `uses` has a row for each number below the
-/// count: the indices of the clauses whose bodies contain it. `facts` has those of the clauses with an
-/// empty body. Takes time linear in the number of clauses, the lengths of their bodies, of `uses` and of
-/// its rows, and the numbers of facts and seeds. Fails with NoMemory.
+/// Returns the numbers that follow from clauses and seeds. `uses` has a row for each number below
+/// the count: the indices of the clauses whose bodies contain it. `facts` has the indices of the
+/// clauses with an empty body. Takes time linear in the number of clauses, the lengths of their
+/// bodies, the lengths of `uses`, of its rows, of `facts` and of `seeds`. Fails with NoMemory if a
+/// request for memory is refused.
 pub(crate) fn find<'g>(
     alloc: Global,
     clauses: &'g [Clause],

@@ -1,4 +1,6 @@
-//! For each number the clauses whose bodies contain it, and the clauses with an empty body.
+//! Finds, for each number, the clauses whose bodies contain it, which wait for the number, and the
+//! clauses with an empty body. The row of a number is the list of the indices of the clauses that
+//! wait for it.
 ghost use Rattle.std.specs.Prelude.{◌≡◌, ◌<◌, ℕ, [], length, All, Contains, IfOk, OnOk};
 ghost use Rattle.std.specs.Prelude.{slice_index_or};
 ghost use Rattle.closure.specs.Clauses.{IsClauseBelow};
@@ -8,7 +10,8 @@ use crate::clause::Clause;
 use ag_value::NoMemory;
 use std::alloc::Global;
 
-/// Adds a clause, by its index, to the row of a number. Fails with NoMemory.
+/// Adds a clause, by its index, to the row of a number. Fails with NoMemory if a request for memory
+/// is refused.
 fn add_use(uses: &mut Vec<Vec<usize>>, clause: usize, number: usize) -> Result<(), NoMemory>
     requires { number < length uses.old.items }
     ensures adds { OnOk result (AddsClause clause (rows uses.old.items) (rows uses.new.items)) }
@@ -18,7 +21,8 @@ fn add_use(uses: &mut Vec<Vec<usize>>, clause: usize, number: usize) -> Result<(
     Ok(())
 }
 
-/// Adds a clause, by its index, to the row of each number of its body. Fails with NoMemory.
+/// Adds a clause, by its index, to the row of each number of its body. Fails with NoMemory if a
+/// request for memory is refused.
 fn add_uses(uses: &mut Vec<Vec<usize>>, clause: usize, body: &[usize]) -> Result<(), NoMemory>
     requires { All (λ t. t < length uses.old.items) body.now }
     ensures adds { OnOk result (AddsClause clause (rows uses.old.items) (rows uses.new.items)) }
@@ -31,8 +35,9 @@ fn add_uses(uses: &mut Vec<Vec<usize>>, clause: usize, body: &[usize]) -> Result
     Ok(())
 }
 
-/// Returns a row for each number below `count`: the indices of the clauses whose bodies contain it, an
-/// index once for each time that the body contains the number. Fails with NoMemory.
+/// Returns the row of each number below `count`. If a body contains a number several times, so does
+/// the number's row contain the index of the clause. Fails with NoMemory if a request for memory is
+/// refused.
 pub(crate) fn uses(
     alloc: Global,
     clauses: &[Clause],
@@ -55,7 +60,8 @@ pub(crate) fn uses(
     Ok(uses)
 }
 
-/// Returns the indices of the clauses with an empty body. Fails with NoMemory.
+/// Returns the indices of the clauses with an empty body. Fails with NoMemory if a request for
+/// memory is refused.
 pub(crate) fn facts(alloc: Global, clauses: &[Clause]) -> Result<Vec<usize>, NoMemory>
     ensures listed { IfOk result (λ facts. (p : ℕ) (d : Clause) → p < length clauses.now →
         (slice_index_or clauses.now p d).body ≡ [] → Contains facts.items p) }

@@ -35,7 +35,7 @@ pub const OUT_DIR: &str = "out-dir";
 /// The option that says when messages are marked with colour.
 pub const COLOR: &str = "color";
 
-/// The option that turns messages off.
+/// The option that hides the progress and the messages of refusals.
 pub const QUIET: &str = "quiet";
 
 /// The values of the option that says when messages are marked with colour.
@@ -173,7 +173,7 @@ enum Argument {
     EvaluatedTree,
     /// The name of a tree file of any pass that is only read.
     ShownTree,
-    /// The name of a tree file of any pass that is only read, or of the folder of two.
+    /// The name of a tree file of any pass that is only read, or of the folder with two of them.
     ExplainedTree,
     /// The option that limits the levels that are printed.
     Depth,
@@ -268,7 +268,7 @@ impl Argument {
     }
 }
 
-/// Returns the argument `name`, a file's name.
+/// Returns the argument with this name, which is required and is a path.
 fn file<'a>(alloc: Global, name: &'a str, help: &'a str) -> Arg<'a> {
     Arg::new(alloc, name).required(true).help(help)
 }
@@ -322,7 +322,7 @@ fn work_folder<'a>(alloc: Global) -> Arg<'a> {
     )
 }
 
-/// Returns the option of every command that says when messages are marked with colour.
+/// Returns the option that says when messages are marked with colour. All commands have it.
 fn color<'a>(alloc: Global) -> Arg<'a> {
     Arg::new(alloc, COLOR)
         .long(COLOR)
@@ -332,14 +332,14 @@ fn color<'a>(alloc: Global) -> Arg<'a> {
         .help("Marks the number and the place in messages; without it, on a terminal only")
 }
 
-/// Returns the option of every command that turns messages off.
+/// Returns the option that hides the progress and the messages of refusals. All commands have it.
 fn quiet<'a>(alloc: Global) -> Arg<'a> {
     Arg::new(alloc, QUIET)
         .short('q')
         .long(QUIET)
         .action(ArgAction::SetTrue)
         .global(true)
-        .help("Shows no progress, and prints no message of a refusal")
+        .help("Shows no progress, and prints no refusal but those of the command line")
 }
 
 /// Returns the program's command with all its subcommands. Fails if memory is refused.

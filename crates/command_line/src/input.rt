@@ -3,7 +3,7 @@
 ghost use Rattle.std.specs.Prelude.{◌≡◌, ◌≢◌, codes};
 ghost use Rattle.command_line.specs.Inputs.{name_of};
 
-/// The word that names standard input, and standard output as an output.
+/// The word `-`. As an input it is standard input, and as an output standard output.
 pub const STANDARD: &str = "-";
 
 /// Where an input is read from.

@@ -1,4 +1,5 @@
-//! Checks of words that clap accepts. Each fails with the error that clap prints with the command's usage.
+//! Checks of words that clap accepts. Each fails with an error that clap prints with the command's
+//! usage, or with that of refused memory.
 
 use crate::commands::misuse_of;
 use crate::input::{InputPath, STANDARD};
@@ -29,7 +30,8 @@ pub fn check_tree(alloc: Global, command: &str, path: &str) -> Result<(), Error>
     Ok(())
 }
 
-/// Fails if a sentence has no name for its translation's file, or two have the same one.
+/// Fails if a sentence is standard input, from which its translation's file gets no name, or if the
+/// files of two sentences have the same name.
 pub fn check_sentences(alloc: Global, paths: &[&str]) -> Result<(), Error> {
     if paths.iter().any(|path| *path == STANDARD) {
         return Err(misuse_of(
@@ -50,8 +52,8 @@ pub fn check_sentences(alloc: Global, paths: &[&str]) -> Result<(), Error> {
     }
 }
 
-/// Returns two paths whose files have the same name in their folders, if there are some. Fails if memory is
-/// refused.
+/// Returns two paths for which `file_name_of` returns the same name, if there are two. Fails if
+/// memory is refused.
 fn doubled_name<'a>(
     alloc: Global,
     paths: &[&'a str],

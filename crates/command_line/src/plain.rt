@@ -2,8 +2,8 @@
 
 use std::fmt;
 
-/// A text in which each character that controls a terminal, but for line feeds, prints as an escape with its
-/// number, such as `\u{1b}`.
+/// A text in which each control character, except line feeds, prints as an escape with its code
+/// point in hexadecimal, such as `\u{1b}`.
 #[derive(Clone, Copy)]
 pub struct PlainLines<'a>(pub &'a str);
 

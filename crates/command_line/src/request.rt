@@ -19,7 +19,7 @@ use std::alloc::Global;
 /// A command line: what it asks for, and how messages are printed.
 #[derive(Drop)]
 pub struct CommandLine<'a> {
-    /// What it asks for.
+    /// The request: what the program has to do.
     pub request: Request<'a>,
     /// How messages are printed.
     pub messages: Messages,
@@ -30,7 +30,8 @@ pub struct CommandLine<'a> {
 pub struct Messages {
     /// When the fault's number and the place are marked with colour.
     pub color: Color,
-    /// Whether no progress is shown, and no message of a refusal is printed but those of a wrong command line.
+    /// Whether the progress and the messages of refusals are hidden. Messages about a wrong command
+    /// line are printed all the same.
     pub is_quiet: bool,
 }
 
@@ -48,7 +49,7 @@ pub enum Color {
 /// The request that a command line makes.
 #[derive(Drop)]
 pub enum Request<'a> {
-    /// Nothing more: help or the version was asked for, and was printed.
+    /// Nothing: help or the version has been printed.
     Nothing,
     /// The translation of the job on standard input.
     Job,
@@ -85,7 +86,7 @@ pub struct RunPaths<'a> {
     pub grammar: InputPath<'a>,
     /// The sentence.
     pub sentence: InputPath<'a>,
-    /// The file for the translation. If there is none, it is printed.
+    /// The file for the translation. If there is none, the translation is printed.
     pub output: Option<&'a str>,
     /// The folder for the tree files. If there is none, they are kept in memory.
     pub work: Option<&'a str>,
@@ -112,7 +113,7 @@ pub struct EvalPaths<'a> {
     pub grammar: InputPath<'a>,
     /// The tree file.
     pub tree: InputPath<'a>,
-    /// The file for the translation. If there is none, it is printed.
+    /// The file for the translation. If there is none, the translation is printed.
     pub output: Option<&'a str>,
     /// The folder for the tree files. If there is none, they are kept in memory.
     pub work: Option<&'a str>,
@@ -205,8 +206,8 @@ fn messages_of(matches: &ArgMatches<'_>) -> Messages {
     }
 }
 
-/// Returns the request that a command makes, by its name and its matches. Fails with what is wrong
-/// with words that clap accepts.
+/// Returns the request that a command makes, by its name and its matches. Fails with the error that
+/// clap prints if the words are wrong although clap accepts them, or with that of refused memory.
 fn request_of<'a>(
     alloc: Global,
     name: &str,
@@ -228,7 +229,7 @@ fn request_of<'a>(
         "show" => Request::Show(show_words(alloc, matches)?),
         "explain" => Request::Explain(explain_words(alloc, matches)?),
         "upgrade" => return upgrade_request(alloc, matches),
-        // clap passes on no other name
+        // clap accepts no other command
         _ => Request::Job,
     };
     Ok(request)
@@ -314,15 +315,17 @@ fn output_of<'a>(matches: &ArgMatches<'a>) -> Option<&'a str> {
     }
 }
 
-/// Returns the value of an argument, which is required: clap accepts no command line without it. If it is missing
-/// all the same, returns the empty text.
+/// Returns the value of an argument, or the empty text if it is missing. Clap accepts no command
+/// line without a required argument. So only G of the command `value`, which has no G, is missing,
+/// and nothing uses the empty text.
 fn value_of<'a>(matches: &ArgMatches<'a>, name: &str) -> &'a str {
     matches.get_str(name).unwrap_or("")
 }
 
-/// Prints help, the version, or what is wrong with the words. Fails with `Write` if help or the
-/// version can't be printed, with `Usage` if something is wrong with the words, and with `NoMemory` if the error is
-/// that of refused memory.
+/// Prints help, the version, or what is wrong with the words. Returns a command line whose request
+/// is `Nothing` if help or the version was printed. Fails with `Write` if help or the version can't
+/// be printed, with `Usage` if something is wrong with the words, and with `NoMemory` if the error
+/// is that of refused memory.
 fn print_error<'a, R: Print + Eprint>(
     rt: &R,
     alloc: Global,
@@ -347,7 +350,8 @@ fn print_error<'a, R: Print + Eprint>(
     Ok(CommandLine::nothing())
 }
 
-/// Prints what is wrong with the words of a command line.
+/// Prints on standard error what is wrong with the words of a command line. Control characters,
+/// except line feeds, are printed as escapes.
 fn print_misuse<R: Eprint>(rt: &R, alloc: Global, error: &Error) {
     // the status says enough if the message can't be printed
     if let Ok(text) = error.to_string(alloc) {

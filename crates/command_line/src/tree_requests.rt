@@ -7,7 +7,7 @@ use crate::tree_options::{AT, ATTRIBUTES, DEPTH, ERRORS, JSON, NODE, OF_SENTENCE
 use clap::{ArgMatches, Error};
 use std::alloc::Global;
 
-/// The greatest number of characters of a value without the option that limits them.
+/// The greatest number of characters of a value that is not a number, if `--width` is missing.
 const DEFAULT_WIDTH: usize = 60;
 
 /// The words that `show` takes.
@@ -17,7 +17,8 @@ pub struct ShowWords<'a> {
     pub grammar: InputPath<'a>,
     /// The tree file.
     pub tree: &'a str,
-    /// The greatest level that is printed; that of the first node is 0.
+    /// The greatest level that is printed, which is 1 less than `--depth`. The level of the first
+    /// node is 0.
     pub depth: u32,
     /// The path of the first node. If there is none, it is the root.
     pub node: Option<&'a str>,
@@ -32,7 +33,7 @@ pub struct ShowWords<'a> {
 /// How the words name a node.
 #[derive(Clone, Copy)]
 pub enum NodeWords<'a> {
-    /// Not at all: it is the root.
+    /// The words name no node; the node is the root.
     None,
     /// By its path.
     Path(&'a str),
@@ -56,17 +57,18 @@ pub struct PlaceInSentence<'a> {
 pub struct ExplainWords<'a> {
     /// The grammar.
     pub grammar: InputPath<'a>,
-    /// The tree file, or the folder of two.
+    /// The path of the tree file, or of the folder with two of them.
     pub tree: &'a str,
     /// The node.
     pub node: NodeWords<'a>,
-    /// Whether the rules in which errors arise are printed, and not a node.
+    /// Whether the rules in which errors arise are printed instead of a node.
     pub errors: bool,
     /// The names of the attributes. If there are none, all are explained.
     pub attributes: Vec<&'a str>,
 }
 
-/// Returns the words that `show` takes. Fails with the error that clap prints if one of them is wrong.
+/// Returns the words that `show` takes. Fails with the error that clap prints if one of them is
+/// wrong, or with that of refused memory.
 pub fn show_words<'a>(alloc: Global, matches: &ArgMatches<'a>) -> Result<ShowWords<'a>, Error> {
     let tree = matches.get_str(TREE).unwrap_or("");
     check_tree(alloc, "show", tree)?;
@@ -99,7 +101,8 @@ fn number_of(matches: &ArgMatches<'_>, name: &str, other: u32) -> Option<u32> {
     }
 }
 
-/// Returns the words that `explain` takes. Fails with the error that clap prints if one of them is wrong.
+/// Returns the words that `explain` takes. Fails with the error that clap prints if one of them is
+/// wrong, or with that of refused memory.
 pub fn explain_words<'a>(
     alloc: Global,
     matches: &ArgMatches<'a>,

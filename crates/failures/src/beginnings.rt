@@ -1,4 +1,5 @@
-//! Texts, listings, values and translations for a writer that doesn't accept all bytes: only a prefix is written.
+//! Texts, listings, values and translations for a writer that doesn't accept all bytes: only a
+//! prefix is written.
 
 use crate::endings::Ending;
 use crate::fractions::{FRACTION_SENTENCE, FRACTIONS, translator};
@@ -9,8 +10,8 @@ use rows::words::{Mistake, first_word, number};
 use std::alloc::Global;
 use treefile::MemDevice;
 
-/// Calls what a word names with the writer: a text, a grammar's counts, a plan, its code, the value 14, or a
-/// translation. Returns how the call ends.
+/// Calls the function that the verb `what` names, which writes a text, a grammar's counts, a plan,
+/// its code, the value 14 or a translation to the writer. Returns how the call ends.
 fn ending_of_writes(alloc: Global, what: &str, out: &mut NarrowWriter) -> Result<Ending, Mistake> {
     let fractions = FRACTIONS.as_bytes();
     match what {
@@ -50,8 +51,10 @@ fn ending_of_translation(alloc: Global, translator: &Translator, out: &mut Narro
     Ending::of(translator.translate(FRACTION_SENTENCE, &mut a, &mut b, out))
 }
 
-/// Calls what a word names with a writer that accepts a number of bytes, one in each call, and then none or, with
-/// `fails`, fails. Returns how the call ends, and the bytes that were written.
+/// Calls the function that the verb `what` names with a writer that accepts a number of bytes, one
+/// in each call. After them the writer accepts no byte, or fails if the row has the word `fails`.
+/// Returns how the call ends, and the bytes that were written. Fails with `Misspelt` if the row
+/// doesn't begin with a number.
 pub fn beginning_answer(alloc: Global, what: &str, spelled: &str) -> Result<String, Mistake> {
     let (room, rest) = first_word(spelled);
     let mut out = with_room(alloc, number(room)? as usize, rest == "fails")?;

@@ -40,9 +40,9 @@ impl Ending {
         }
     }
 
-    /// Returns how a call ended, and what it wrote, quoted.
+    /// Returns how a call ended, and what it wrote, quoted; a fixed text if that is not UTF-8.
     pub fn answer(self, alloc: Global, written: &[u8]) -> Result<String, AllocError> {
-        let written = str::from_utf8(written).unwrap_or("what is no text");
+        let written = str::from_utf8(written).unwrap_or("bytes that are not UTF-8");
         format!(in alloc; "{self:?} {written:?}")
     }
 }

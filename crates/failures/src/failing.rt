@@ -1,5 +1,6 @@
-//! Devices of which one call fails: first call 1, then call 2, and so on, until a run makes fewer calls. A run with
-//! a failed call writes no translation, and the next run with the same translator and devices succeeds.
+//! Devices of which one call fails: first call 1, then call 2, and so on, until a run makes too few
+//! calls to reach the failing one. A run with a failed call must write no
+//! translation, and the next run with the same translator and devices must succeed.
 
 use crate::endings::Ending;
 use crate::fractions::{
@@ -34,8 +35,9 @@ enum RunDevice {
     To,
 }
 
-/// Returns whether the first of two runs succeeds. Then the failing call must be one of the second run. If the first
-/// run fails, it must have written nothing, and the second run must succeed. Fails with `Unfit` in all other cases.
+/// Returns whether the first of two runs succeeds. Then the failing call must be one of the second
+/// run. If the first run fails, it must have written nothing, and the second run must succeed.
+/// Fails with `Unfit` in all other cases.
 fn first_succeeds(first: &str, second: &str) -> Result<bool, Mistake> {
     match (first, second) {
         ("Done \"868352\"", "Device \"\"") => Ok(true),
@@ -44,7 +46,8 @@ fn first_succeeds(first: &str, second: &str) -> Result<bool, Mistake> {
     }
 }
 
-/// Returns an empty device whose call number `call`, counted from 1, fails; no call fails if `call` is 0.
+/// Returns an empty device whose call number `call`, counted from 1, fails; no call fails if `call`
+/// is 0.
 fn fused(alloc: Global, call: u64) -> Fused {
     FuseDevice::new(MemDevice::new(alloc), call)
 }
@@ -61,7 +64,8 @@ fn translates_twice(
     first_succeeds(first.as_str(), second.as_str())
 }
 
-/// Translates the sentence twice over devices whose given calls fail. Returns whether the first translation succeeds.
+/// Translates the sentence twice over two devices. `a` and `b` are the numbers of their failing
+/// calls, from 1, or 0 if none fails. Returns whether the first translation succeeds.
 fn translates_without(
     alloc: Global,
     translator: &Translator,
@@ -73,8 +77,8 @@ fn translates_without(
     translates_twice(alloc, translator, &mut a, &mut b)
 }
 
-/// Evaluates the sentence's tree twice and returns whether the first evaluation succeeds. Fails with `Unfit` if the
-/// tree's device has changed.
+/// Evaluates the sentence's tree twice and returns whether the first evaluation succeeds. Fails
+/// with `Unfit` if the tree's device has changed.
 fn evaluates_twice(
     alloc: Global,
     translator: &Translator,
@@ -90,7 +94,8 @@ fn evaluates_twice(
     first_succeeds(first.as_str(), second.as_str())
 }
 
-/// Evaluates the tree twice over devices whose given calls fail. Returns whether the first evaluation succeeds.
+/// Evaluates the tree twice over three devices. `tree`, `a` and `b` are the numbers of their
+/// failing calls, from 1, or 0 if none fails. Returns whether the first evaluation succeeds.
 fn evaluates_without(
     alloc: Global,
     translator: &Translator,
@@ -105,9 +110,9 @@ fn evaluates_without(
     evaluates_twice(alloc, translator, &mut tree, &mut a, &mut b)
 }
 
-/// Upgrades the old tree twice and returns whether the first run succeeds. Then the second one must fail. If
-/// the first run fails, the second one must succeed. Fails with `Unfit` otherwise, or if the old tree's device
-/// has changed.
+/// Upgrades the old tree twice and returns whether the first run succeeds. Then the second one must
+/// fail. If the first run fails, the second one must succeed. Fails with `Unfit` otherwise, or if
+/// the old tree's device has changed.
 fn upgrades_twice(
     translator: &Translator,
     kept: &[u8],
@@ -128,7 +133,8 @@ fn upgrades_twice(
     }
 }
 
-/// Upgrades the old tree twice over devices whose given calls fail. Returns whether the first run succeeds.
+/// Upgrades the old tree twice over three devices. `old`, `mid` and `to` are the numbers of their
+/// failing calls, from 1, or 0 if none fails. Returns whether the first run succeeds.
 fn upgrades_without(
     alloc: Global,
     translator: &Translator,
@@ -143,7 +149,8 @@ fn upgrades_without(
     upgrades_twice(translator, kept.as_slice(), &mut old, &mut mid, &mut to)
 }
 
-/// Returns whether the first of two runs succeeds if a given call of one device fails.
+/// Returns whether the first of two runs succeeds if one device fails at its call with this number,
+/// from 1.
 fn first_succeeds_without(
     alloc: Global,
     translator: &Translator,
@@ -162,8 +169,9 @@ fn first_succeeds_without(
     }
 }
 
-/// Returns the first call of a device that a run doesn't make, counted from 1. Fails with `Unfit` if an earlier call
-/// doesn't fail as it should.
+/// Returns the number, from 1, of the first call of a device that a run doesn't make. Fails with
+/// `Unfit` if a run with an earlier failing call doesn't end as it should, or if a run makes 999
+/// calls of the device or more, which no run does.
 fn first_unmade_call(
     alloc: Global,
     translator: &Translator,
@@ -192,8 +200,9 @@ fn run_device(word: &str) -> Result<RunDevice, Mistake> {
     }
 }
 
-/// Returns whether a run makes at least the row's number of calls of a device. Fails with `Unfit` if one of these calls
-/// doesn't fail as it should.
+/// Returns whether a run makes at least the row's number of calls of a device. Fails with
+/// `Misspelt` if the row names no device or no number, and with `Unfit` as `first_unmade_call`
+/// does.
 pub fn failing_answer(alloc: Global, spelled: &str) -> Result<String, Mistake> {
     let (word, least) = first_word(spelled);
     let device = run_device(word)?;

@@ -26,15 +26,18 @@ B = \"1\" { $0.bit = 1; }
 /// A sentence of this grammar, 13.25. Its translation is 868352.
 pub const FRACTION_SENTENCE: &[u8] = b"1101.01";
 
-/// The file of its tree before the first pass: nodes of the productions 7, 7, 6, 7, 4, 5, 5, 5, 3, 6, 7, 4, 5, 3, 2
-/// and 0.
+/// The file of its tree before the first pass: the header `AGT2` with pass 0, and after it the
+/// records of nodes of the productions 7, 7, 6, 7, 4, 5, 5, 5, 3, 6, 7, 4, 5, 3, 2 and 0, which are
+/// numbered from 0. Each record has a byte 0 for a node and the production's number in two bytes,
+/// and is followed by its length, 3, in four bytes.
 pub const FRACTION_TREE: &[u8] = b"AGT2\0\0\
     \0\0\x07\0\0\0\x03\0\0\x07\0\0\0\x03\0\0\x06\0\0\0\x03\0\0\x07\0\0\0\x03\
     \0\0\x04\0\0\0\x03\0\0\x05\0\0\0\x03\0\0\x05\0\0\0\x03\0\0\x05\0\0\0\x03\
     \0\0\x03\0\0\0\x03\0\0\x06\0\0\0\x03\0\0\x07\0\0\0\x03\0\0\x04\0\0\0\x03\
     \0\0\x05\0\0\0\x03\0\0\x03\0\0\0\x03\0\0\x02\0\0\0\x03\0\0\0\0\0\0\x03";
 
-/// Returns the file of the same tree in version 1. The tree has no tokens, so only the version's number differs.
+/// Returns the file of the same tree in version 1. The tree has no tokens, so only the version's
+/// number differs: the fourth byte is `1` in place of `2`.
 pub fn old_tree(alloc: Global) -> Result<Vec<u8>, Mistake> {
     let mut bytes = FRACTION_TREE.to_vec(alloc)?;
     if let Some(version) = bytes.get_mut(3) {
@@ -69,20 +72,23 @@ pub fn evaluated<D: Device>(
     Ok(ending.answer(alloc, out.as_slice())?)
 }
 
-/// Parses `1` over a device whose given call fails, and returns how the call ends.
+/// Parses `1` over a device that fails at its call number `call`, counted from 1, and returns how
+/// `parse_tree` ends.
 fn parsed_without(alloc: Global, translator: &Translator, call: u64) -> Ending {
     let mut device = FuseDevice::new(MemDevice::new(alloc), call);
     Ending::of(translator.parse_tree(b"1", &mut device))
 }
 
-/// Builds a translator, parses `1` over a device whose given call fails, and returns how the call of the parser ends.
+/// Builds a translator, parses `1` over a device that fails at the row's call, and returns how
+/// `parse_tree` ends.
 pub fn parse_without_answer(alloc: Global, call: &str) -> Result<String, Mistake> {
     let call = number(call)? as u64;
     let translator = translator(alloc, FRACTIONS)?;
     printed(alloc, &parsed_without(alloc, &translator, call))
 }
 
-/// Returns the translator of a grammar's text. Fails with `Unfit` if it has none.
+/// Returns the translator of a grammar's text. Fails with `Unfit` if no translator can be built
+/// from it.
 pub fn translator(alloc: Global, text: &str) -> Result<Translator, Mistake> {
     match Translator::build(alloc, text.as_bytes()) {
         Ok(translator) => Ok(translator),

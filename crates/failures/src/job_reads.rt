@@ -1,4 +1,5 @@
-//! Jobs from a reader of which one read fails: first read 1, then read 2, and so on, until a job makes fewer reads.
+//! Jobs from a reader that fails from one of its reads on: first from read 1, then from read 2, and
+//! so on, until the job makes too few reads to reach the failing ones.
 
 use crate::endings::Ending;
 use crate::fractions::FRACTIONS;
@@ -8,7 +9,8 @@ use std::alloc::Global;
 use std::io::{self, Read};
 use treefile::MemDevice;
 
-/// A reader that returns at most `step` bytes in a read, and fails when `reads_left` reaches 0.
+/// A reader that returns at most `step` bytes in a read. If `reads_left` is k at first, read k and
+/// all later ones fail; if k is 0, all fail.
 #[derive(Drop)]
 struct FalteringReader<'a> {
     bytes: &'a [u8],
@@ -37,8 +39,8 @@ fn ending_of_job(alloc: Global, reader: FalteringReader<'_>, out: &mut Vec<u8>) 
     Ending::of(run_job(alloc, reader, out, &mut a, &mut b))
 }
 
-/// Runs a job from a reader that returns at most `step` bytes in a read and whose given read fails. Returns how
-/// the call ends, and what was written.
+/// Runs a job from a reader that returns at most `step` bytes in a read, and fails from read number
+/// `read` on, counted from 1. Returns how the call ends, and what was written.
 fn job_ending(alloc: Global, bytes: &[u8], step: usize, read: u64) -> Result<String, Mistake> {
     let reader = FalteringReader {
         bytes,
@@ -50,8 +52,8 @@ fn job_ending(alloc: Global, bytes: &[u8], step: usize, read: u64) -> Result<Str
     Ok(ending.answer(alloc, out.as_slice())?)
 }
 
-/// Returns whether a job succeeds if a given read fails. Otherwise it must fail with J2 and write nothing; in
-/// all other cases this fails with `Unfit`.
+/// Returns whether a job succeeds if its reader fails from read number `read` on. If it doesn't
+/// succeed, it must fail with J2 and write nothing. Fails with `Unfit` in all other cases.
 fn is_done(alloc: Global, job: &[u8], step: usize, read: u64) -> Result<bool, Mistake> {
     let answer = job_ending(alloc, job, step, read)?;
     match answer.as_str() {
@@ -61,8 +63,9 @@ fn is_done(alloc: Global, job: &[u8], step: usize, read: u64) -> Result<bool, Mi
     }
 }
 
-/// Returns the first read that a job doesn't make, counted from 1. Fails with `Unfit` if an earlier read
-/// doesn't fail as it should.
+/// Returns the number, from 1, of the first read that a job doesn't make. Fails with `Unfit` if a
+/// job with an earlier failing read doesn't end as it should, or if it makes 999 reads or more,
+/// which no job of the rows does.
 fn first_unmade_read(alloc: Global, job: &[u8], step: usize) -> Result<u64, Mistake> {
     for read in 1..1000 {
         if is_done(alloc, job, step, read)? {
@@ -72,8 +75,8 @@ fn first_unmade_read(alloc: Global, job: &[u8], step: usize) -> Result<u64, Mist
     Err(Mistake::Unfit)
 }
 
-/// Returns whether a job of binary fractions makes at least the row's number of reads. Fails with `Unfit` if one of
-/// these reads doesn't fail as it should.
+/// Returns whether a job of binary fractions makes at least the row's number of reads. Fails with
+/// `Misspelt` if the row doesn't have two numbers, and with `Unfit` as `first_unmade_read` does.
 pub fn job_reads_answer(alloc: Global, spelled: &str) -> Result<String, Mistake> {
     let (step, least) = first_word(spelled);
     let step = number(step)? as usize;

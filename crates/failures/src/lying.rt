@@ -1,5 +1,5 @@
-//! Devices that lie, which means that they return wrong lengths or bytes. Each call over them returns, and a call that
-//! fails writes nothing.
+//! Devices that lie, which means that they return wrong lengths or bytes. Each call over them must
+//! return. If it fails, and not because of the writer, it must write nothing.
 
 ghost use Rattle.std.specs.Prelude.{[], false, Some};
 
@@ -23,7 +23,8 @@ enum Lie {
     Shrinking,
     /// Its length is greater in each call.
     Growing,
-    /// Its bytes after offset 0 differ from read to read.
+    /// A read at an offset above 0 adds the number of calls so far, modulo 5, to each byte. So two
+    /// reads of the same bytes can differ.
     Changing,
 }
 
@@ -60,7 +61,7 @@ impl Device for LyingDevice {
     fn read_at(&mut self, at: u64, out: &mut [u8]) -> Result<(), DeviceFault> {
         self.calls = self.calls.saturating_add(1);
         self.file.read_at(at, out)?;
-        // the header is not changed, so that a reader accepts the file
+        // a read at offset 0 is not changed, so that a reader accepts the header
         if matches!(self.lie, Lie::Changing) && at > 0 {
             for byte in out {
                 *byte = byte.wrapping_add((self.calls % 5) as u8);
@@ -165,8 +166,8 @@ fn upgrade_lying(alloc: Global, translator: &Translator, lie: Lie) -> Result<(),
     Ok(())
 }
 
-/// Makes all calls of a translator over devices that lie. Returns whether the translation and the evaluation wrote
-/// nothing, unless they succeeded or their writer failed.
+/// Makes all calls of a translator over devices that lie. Returns whether the translation and the
+/// evaluation wrote nothing, unless they succeeded or their writer failed.
 fn leave_no_output(alloc: Global, translator: &Translator, lie: Lie) -> Result<bool, Mistake> {
     run_lying_passes(alloc, translator, lie)?;
     upgrade_lying(alloc, translator, lie)?;
@@ -175,7 +176,9 @@ fn leave_no_output(alloc: Global, translator: &Translator, lie: Lie) -> Result<b
     Ok(is_clean(translation.as_str()) && is_clean(evaluation.as_str()))
 }
 
-/// Runs passes, `translate`, `evaluate_tree` and `upgrade`. Returns whether the calls that failed wrote nothing.
+/// Runs passes, `translate`, `evaluate_tree` and `upgrade` over devices with the lie that a word
+/// names. Returns whether `translate` and `evaluate_tree` wrote nothing, unless they succeeded or
+/// their writer failed. Fails with `Misspelt` if the word names no lie.
 pub fn lie_answer(alloc: Global, word: &str) -> Result<String, Mistake> {
     let lie = lie_named(word)?;
     let translator = translator(alloc, FRACTIONS)?;
@@ -191,13 +194,15 @@ fn reverse_lying(alloc: Global, lie: Lie) -> Result<(), Mistake> {
     Ok(())
 }
 
-/// Reverses a file over devices that lie, and returns `returned`.
+/// Reverses a file over devices with the lie that a word names, and returns the text `returned`,
+/// whether that fails or not. Fails with `Misspelt` if the word names no lie.
 pub fn lie_turn_answer(alloc: Global, word: &str) -> Result<String, Mistake> {
     reverse_lying(alloc, lie_named(word)?)?;
     Ok(String::from_str(alloc, "returned")?)
 }
 
-/// Returns the number of bodies that a reader returns, calling it at most 1,000 times.
+/// Returns the number of bodies that a `Back`, which reads a file from its end, returns in at most
+/// 1,000 calls. Fails with `Unfit` if it rejects the device at once.
 fn count_bodies(alloc: Global, device: &mut LyingDevice) -> Result<u64, Mistake> {
     let Ok(mut back) = Back::start(alloc, device) else {
         return Err(Mistake::Unfit);
@@ -210,7 +215,8 @@ fn count_bodies(alloc: Global, device: &mut LyingDevice) -> Result<u64, Mistake>
     Ok(back.records())
 }
 
-/// Returns whether a reader returns no more bodies than the file has frames: its 118 bytes contain 16.
+/// Returns whether a `Back` returns at most 16 bodies, which is the number of frames in the 118
+/// bytes of the file. Fails with `Misspelt` if the word names no lie.
 pub fn lie_back_answer(alloc: Global, word: &str) -> Result<String, Mistake> {
     let mut device = lying_device(alloc, FRACTION_TREE, lie_named(word)?)?;
     let lent = count_bodies(alloc, &mut device)?;

@@ -1,5 +1,5 @@
-//! Runs the rows about devices, readers, writers and files that fail or return wrong results. `tests/README.md` lists
-//! the verbs.
+//! Runs the rows about devices, readers, writers and files that fail or return wrong results.
+//! `tests/README.md` lists the verbs.
 #![tactic(auto)]
 
 mod beginnings;

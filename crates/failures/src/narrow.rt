@@ -3,14 +3,15 @@
 use std::alloc::{AllocError, Global};
 use std::io::{self, Write};
 
-/// A writer that accepts `room` bytes, one in each call, and then none, or fails.
+/// A writer that accepts `room` bytes, one in each call. After them it accepts no byte, or each
+/// write fails.
 #[derive(Drop)]
 pub struct NarrowWriter {
     /// The bytes that were written.
     pub taken: Vec<u8>,
     /// The number of bytes that are accepted.
     room: usize,
-    /// Whether a write after that fails, instead of accepting no byte.
+    /// Whether a write after these bytes fails, instead of accepting no byte.
     fails: bool,
 }
 

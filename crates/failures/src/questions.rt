@@ -15,7 +15,7 @@ use rows::words::{Mistake, bytes_of};
 use std::alloc::Global;
 use std::rt::Files;
 
-/// Answers questions about failures. One of them reads files of the runtime `rt`.
+/// Answers questions about failures. The question `source-of` reads a file of the runtime `rt`.
 #[derive(Drop)]
 pub struct Failures<'a, R: Files> {
     pub rt: &'a R,

@@ -7,9 +7,9 @@ use shared_bytes::{Body, SharedBytes};
 use std::alloc::Global;
 use treefile::{Device, DeviceFault, SharedDevice};
 
-/// A device that forwards its calls to a `SharedDevice`, except one, which fails and does nothing. Unlike
-/// `FuseDevice` it forwards `append_parts` and `lend_before` too, so that large values stay shared.
-/// Calls of `lend_before` are not counted, and none of them fails.
+/// A device that forwards its calls to a `SharedDevice`, except one, which fails and does nothing.
+/// Unlike `FuseDevice` it forwards `append_parts` and `lend_before` too, so that large values stay
+/// shared. Calls of `lend_before` are not counted, and none of them fails.
 #[derive(Drop)]
 pub struct SharedFuse {
     inner: SharedDevice,

@@ -1,4 +1,5 @@
-//! Translations over two devices that share values, of which one call fails: first call 1, then call 2, and so on.
+//! Translations over two devices that share values. One call of one device fails: first call 1,
+//! then call 2, and so on.
 
 use crate::fractions::{translated, translator};
 use crate::shared_fuse::SharedFuse;
@@ -30,7 +31,8 @@ const DONE: &str = "Done \"6\"";
 /// The ending of a translation if a call of a device fails.
 const FAILED: &str = "Device \"\"";
 
-/// Returns two devices. Call `call` fails of the one that a word names.
+/// Returns two devices. The one that a word names fails at its call number `call`, counted from 1.
+/// Fails with `Misspelt` if the word is neither `first` nor `second`.
 fn devices(alloc: Global, word: &str, call: u64) -> Result<(SharedFuse, SharedFuse), Mistake> {
     let (first, second) = match word {
         "first" => (call, 0),
@@ -43,9 +45,9 @@ fn devices(alloc: Global, word: &str, call: u64) -> Result<(SharedFuse, SharedFu
     ))
 }
 
-/// Translates the sentence twice over the same devices, of which one call fails. Returns whether that call is one
-/// of the second translation. Fails with `Unfit` if the other translation doesn't succeed, or if a device shared
-/// no value.
+/// Translates the sentence twice over the same two devices, of which one fails at one call. Returns
+/// whether that call is one of the second translation. Fails with `Unfit` unless exactly one of the
+/// translations fails, with D1 and without output, and each device got a record with shared values.
 fn fails_later(
     alloc: Global,
     translator: &Translator,
@@ -65,8 +67,9 @@ fn fails_later(
     }
 }
 
-/// Returns the first call of a device that the first translation doesn't make, counted from 1. Fails with `Unfit` if an
-/// earlier call doesn't fail as it should.
+/// Returns the number, from 1, of the first call of a device that the first translation doesn't
+/// make. Fails with `Unfit` as `fails_later` does, or if a translation makes 999 calls of the
+/// device or more, which none does.
 fn first_unmade_call(alloc: Global, translator: &Translator, word: &str) -> Result<u64, Mistake> {
     for call in 1..1000 {
         if fails_later(alloc, translator, word, call)? {
@@ -83,8 +86,9 @@ fn translated_in_memory(alloc: Global, translator: &Translator) -> Result<String
     translated(alloc, translator, SENTENCE, &mut a, &mut b)
 }
 
-/// Returns whether a translation makes at least the row's number of calls of a device. Fails with `Unfit` if one of
-/// these calls doesn't fail as it should.
+/// Returns whether a translation makes at least the row's number of calls of a device. Fails with
+/// `Misspelt` if the row names no device or no number, and with `Unfit` as `first_unmade_call`
+/// does.
 pub fn sharing_answer(alloc: Global, spelled: &str) -> Result<String, Mistake> {
     let (word, least) = first_word(spelled);
     let least = number(least)? as u64;

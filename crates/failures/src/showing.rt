@@ -15,8 +15,9 @@ fn shown_over<D: Device>(alloc: Global, text: &str, device: &mut D) -> Result<St
     Ok(ending.answer(alloc, out.as_slice())?)
 }
 
-/// Shows 14 over a device whose given call fails. Returns how `show_value` ends, and what was written. `show_value`
-/// makes eight calls of the device, which clear it, append to it, return its length, and read it.
+/// Shows 14 over a device that fails at the row's call, counted from 1. Returns how `show_value`
+/// ends, and what was written. `show_value` makes eight calls of the device: they clear it, append
+/// to it, return its length, and read it.
 pub fn show_without_answer(alloc: Global, call: &str) -> Result<String, Mistake> {
     let call = number(call)? as u64;
     let mut device = FuseDevice::new(MemDevice::new(alloc), call);

@@ -6,7 +6,8 @@ use rows::words::{Mistake, bytes_of, printed};
 use std::alloc::Global;
 use std::rt::Files;
 
-/// Reads the file whose path is spelled by its bytes, and returns how the call ends. Fails with `Unfit` if the
+/// Reads the file whose path is spelled with two hexadecimal digits for each byte, and returns how
+/// `source_of` ends. Fails with `Misspelt` if these are not such digits, and with `Unfit` if the
 /// path is not UTF-8.
 pub fn source_of_answer<R: Files>(rt: &R, alloc: Global, spelled: &str) -> Result<String, Mistake> {
     let path = bytes_of(alloc, spelled)?;

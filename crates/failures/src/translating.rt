@@ -6,7 +6,8 @@ use rows::words::Mistake;
 use std::alloc::Global;
 use treefile::MemDevice;
 
-/// Translates three sentences over the same devices, of which the second is rejected. Returns how each call ends.
+/// Translates three sentences over the same devices, of which the second is rejected. Returns how
+/// each call ends.
 fn three_answer(
     alloc: Global,
     translator: &Translator,

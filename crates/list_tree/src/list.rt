@@ -128,8 +128,8 @@ impl ListTree {
         Some(item)
     }
 
-    /// Returns the items of a list and then those of another one, or `None` if the weight of that list
-    /// would exceed `MAX_WEIGHT`. Takes time that grows with the difference of the heights. Fails with
+    /// Returns the list of the items of `left` and then those of `right`, or `None` if its weight would
+    /// exceed `MAX_WEIGHT`. Takes time that grows with the difference of the heights. Fails with
     /// NoMemory.
     pub fn join(
         alloc: Global,

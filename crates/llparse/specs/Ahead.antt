@@ -1,5 +1,5 @@
 -- Look-ahead (the textbook): nullable symbols, FIRST, FOLLOW, the predictions of productions, and conflicts.
--- Each relation is the least one that its rules make.
+-- Each relation is the least one that its cases make.
 use Rattle.std.specs.Prelude.{◌≡◌, ◌<◌, ℕ, List, [], ◌∷◌, ◌++◌, ◌⊎◌}
 use Rattle.ag_grammar.specs.declared.grammar.Item.TheVariants as item
 use Rattle.ag_grammar.specs.declared.grammar.Item.{Item}
@@ -33,7 +33,7 @@ mutual
     later : {s : ℕ} {a : Terminal} {xs : List Item} → IsNullable g s → InFirstOf g xs a → InFirstOf g (item.Symbol s ∷ xs) a
 
 -- FOLLOW of a symbol: the end follows the start symbol; a terminal in FIRST of the rest of a right side after
--- the symbol follows it; and if that rest is nullable, each look-ahead that follows the left side does.
+-- the symbol follows it; and if that rest is nullable, each look-ahead that follows the left side follows the symbol too.
 pub data InFollow (g : Grammar) : ℕ → Ahead → Type 0 where
   at_end : InFollow g g.start ahead.End
   next : (p : ℕ) (q : Production) {s : ℕ} {a : Terminal} (xs ys : List Item) → IsProduction g p q
@@ -62,7 +62,7 @@ pub record IsConflict (g : Grammar) (first second : ℕ) (x : Ahead) : Type 0 wh
   pub one_predicts : Predicts g one x
   pub other_predicts : Predicts g other x
 
--- no look-ahead is a conflict of two productions
+-- no two productions are in conflict at any look-ahead
 abbrev pub HasNoConflict : Grammar → Type 0
 HasNoConflict g = (first second : ℕ) (x : Ahead) → IsConflict g first second x → ⊥
 

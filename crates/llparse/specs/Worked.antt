@@ -20,7 +20,7 @@ production_more = production_of (item.Symbol 0 ∷ item.Terminal (Literal 0) ∷
 abbrev pub production_one : Production
 production_one = production_of (item.Terminal (Literal 0) ∷ [])
 
--- the grammar of the two
+-- the grammar of the two; 120 is the ASCII code of x
 abbrev pub left_recursive : Grammar
 left_recursive =
     record {

@@ -15,8 +15,8 @@ pub fn one_tree()
     ensures { OneTree }
 {}
 
-/// States that if words leave only trees beyond a limit, as P2 and P3 state, each tree of these words
-/// is beyond it.
+/// States that if words leave only trees beyond a limit (`LeavesOnly`, which P2 and P3 state of the
+/// words of a sentence), each tree of these words is beyond the limit.
 pub fn left_trees_are_beyond_the_limit()
     ensures { LeftTreesAreBeyondTheLimit }
 {}
@@ -37,8 +37,8 @@ pub fn sample_is_free()
     ensures { HasNoConflict sample }
 {}
 
-/// Worked example: the conflict of `L = L "x"` and `L = "x"` at `x` is the least one of that grammar,
-/// and its symbol has the number 0.
+/// Worked example: the conflict of `L = L "x"` and `L = "x"` at `x` is the least one of that
+/// grammar, and its symbol has the number 0.
 #[tactic(auto, using(crate::proofs::Examples::left_recursion_least))]
 pub fn left_recursion_is_least()
     ensures { IsLeastConflict left_recursive 0 0 1 (ahead.Terminal (Literal 0)) }
@@ -50,8 +50,8 @@ pub fn left_recursion_is_a_choice()
     ensures { IsChoice left_recursive 0 (ahead.Terminal (Literal 0)) 0 }
 {}
 
-/// Worked example: the choices of small tables at a literal, at the end, at a class where they have no
-/// production, and at a literal that the grammar does not have.
+/// Worked example: the choices of small tables at a literal, at the end, at a class where they have
+/// no production, and at a literal that the grammar does not have.
 pub fn small_tables_are_read()
     ensures literal { choice_of small_tables 0 (ahead.Terminal (Literal 0)) ≡ Some 0 }
     ensures end { choice_of small_tables 0 ahead.End ≡ Some 1 }

@@ -1,4 +1,4 @@
-//! Parsing a sentence by tables, and the look-aheads expected where one is rejected.
+//! Parsing a sentence by tables, and the look-aheads expected where a sentence is refused.
 
 pub mod expected;
 pub mod language;

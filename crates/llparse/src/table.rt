@@ -4,7 +4,8 @@
 //! Symbols and look-aheads are numbered as the nodes of graphs (`nodes`). For one look-ahead, the
 //! symbols that have it in FIRST are those that the edges of one graph reach from its node, and the
 //! symbols that have it in FOLLOW are those that the edges of another graph reach from seeds
-//! (`follow`). A set of nodes is a list of marks: `true` at the numbers of its nodes.
+//! (`follow`). These nodes are not nodes of trees. A set of nodes is stored as a list of marks,
+//! which has `true` at the numbers of the set's nodes.
 
 pub mod building;
 pub mod choosing;

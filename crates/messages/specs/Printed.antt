@@ -32,11 +32,11 @@ first_separator (location.At position) = codes ": "
 abbrev pub part_text : List ℕ → List ℕ → List ℕ
 part_text separator part = if length part == 0 then [] else separator ++ part
 
--- the separator before the part after this one: an empty part leaves its own separator unused
+-- the separator that follows a part, by the separator before it: an empty part is left out with its separator
 abbrev pub next_separator : List ℕ → List ℕ → List ℕ
 next_separator separator part = if length part == 0 then separator else codes ", "
 
--- three parts, each after its separator; the first one is after `separator`
+-- three parts, each after its separator; `separator` is that of the first one
 abbrev pub three_parts : List ℕ → List ℕ → List ℕ → List ℕ → List ℕ
 three_parts separator first second third =
     part_text separator first

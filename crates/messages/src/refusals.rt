@@ -103,7 +103,7 @@ impl FaultReport {
     ) -> FaultReport
         ensures content { LeavesContent (D.is_honest tree.new)
             (D.content tree.old) (D.content tree.new) }
-        // ⊥: the result does not say that a call of the device failed
+        // the last argument is ⊥, since a report does not say whether a call of the device failed
         ensures persists { Persists (D.is_honest tree.old) (D.is_honest tree.new)
             (D.failures tree.old) (D.failures tree.new) ⊥ }
     {
@@ -126,7 +126,7 @@ impl FaultReport {
     ) -> FaultReport
         ensures content { LeavesContent (D.is_honest old.new)
             (D.content old.old) (D.content old.new) }
-        // ⊥: the result does not say that a call of the device failed
+        // the last argument is ⊥, since a report does not say whether a call of the device failed
         ensures persists { Persists (D.is_honest old.old) (D.is_honest old.new)
             (D.failures old.old) (D.failures old.new) ⊥ }
     {

@@ -1,5 +1,7 @@
--- Small raw grammars, and the first fault of each, if it has one: the symbols are S with the synthesized attribute `out`, from
--- offset 16 on, and A with the inherited attribute i, from 34 on.
+-- Small raw grammars, and the first failing check of each, only among N1 to N3 or only among N6 to N10. N4 and N5 are not
+-- checked. A name of one character is written as its ASCII code: 83 is S, 65 is A, 84 is T, and 105 is i. Unless an example
+-- says otherwise, the symbols are S, at offset 16, with the synthesized attribute `out`, and A, at offset 34, with the inherited
+-- attribute i.
 use Rattle.std.specs.Prelude.{ℕ, ◌≡◌, Option, Some, None, List, [], ◌∷◌}
 use Rattle.ag_grammar.specs.declared.syntax.node.Node.{Node}
 use Rattle.ag_grammar.specs.declared.syntax.occurrence.Occ.{Occ}
@@ -61,7 +63,7 @@ WorkedNames = (names_fault (with_production 83 (raw_item.Name (name_at 84 50) �
     × (names_fault (with_symbols 65 the_symbols) ≡ Some fault.BadStart)
 
 -- N6: S = {}. N7: S = { $0.out = e; $0.out = e; }. N8: A = { $0.i = e; }. N9: S = { $0.out = e; }, where
--- the occurrence `$0.out` is listed with e. No fault: S = { $0.out = e; }.
+-- the occurrence `$0.out` is listed with e. None of N6 to N10: S = { $0.out = e; }.
 abbrev pub WorkedRules : Type 0
 WorkedRules = (e : Node) →
     (rules_fault (with_production 83 [] []) ≡ Some (fault.RuleMissing 0 0 0))

@@ -26,6 +26,7 @@ abbrev pub NoFirstFaultWithoutFault : Type 0
 NoFirstFaultWithoutFault = (raw : RawGrammar) (f : NormalFault) → IsFirstFault raw f → HasNoFault raw → ⊥
 
 -- The production S = "x" NAME "y" "x" S of one symbol S: the second "x" has the number of the first, and S the number 0.
+-- Texts are lists of ASCII codes: 83 is S, 120 is x, and 121 is y.
 abbrev named : ℕ → Named
 named c = record { name = c ∷ []; at = 0 }
 

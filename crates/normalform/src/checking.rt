@@ -32,7 +32,7 @@ use std::alloc::Global;
 /// The first fault, as it is found: N4 and N5 have the number of the symbol, and not yet its name.
 #[derive(Debug, Drop)]
 enum Found {
-    /// This fault, of any other kind.
+    /// A fault of any kind except N4 and N5.
     Fault(NormalFault),
     /// N4: the symbol with this number is not productive.
     Unproductive(usize),
@@ -239,9 +239,9 @@ fn refusal(found: Found, raw: RawGrammar) -> NormalFault
     }
 }
 
-/// Checks a raw grammar, which has to be readable (`is_readable`), and returns the numbered grammar.
-/// That is accepted, with its classes ascending and its literals in the order of their first
-/// appearance; names and expressions are moved into it.
+/// Checks a raw grammar, which has to be readable (`is_readable`), and returns the numbered
+/// grammar, which is accepted. Its classes ascend, and its literals are in the order of their first
+/// appearance. Names and expressions are moved into it.
 ///
 /// Fails with the first fault: the first one of the first kind that occurs, in the order of
 /// `NormalFault`; that type says which fault is the first of a kind. Then the numbered grammar is

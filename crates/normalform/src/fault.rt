@@ -1,4 +1,4 @@
-//! The reasons why a raw grammar is rejected.
+//! The reasons why a raw grammar is refused.
 ghost use Rattle.std.specs.Prelude.{◌≡◌};
 ghost use Rattle.normalform.specs.declared.fault.NormalFault.TheVariants as fault;
 
@@ -24,15 +24,16 @@ pub enum LimitKind {
     Literals,
 }
 
-/// The reasons why a raw grammar is rejected. The kinds are checked in this order. Within a kind, the
-/// first fault in the order of the lists, which is that of the text, is reported; for N4 and N5 the
-/// first declared symbol; for N6 the first by production, place and attribute; for N10 the first
-/// limit. Offsets are in bytes from the beginning of the text.
+/// The reasons why a raw grammar is refused. The kinds are checked in this order. Within a kind,
+/// the first fault in the order of the lists, which is that of the text, is reported; for N4 and N5
+/// the first declared symbol; for N6 the first by production, place and attribute; for N10 the
+/// first limit. Offsets are in bytes from the beginning of the text. Place 0 is the left side of a
+/// production; its children (symbols and classes of the right side) have the places from 1 on.
 #[derive(Debug, Drop)]
 pub enum NormalFault {
-    /// N1: the symbol at this offset in a production is not declared, or the occurrence at this
-    /// offset has a place or an attribute that does not exist. A symbol that is declared twice
-    /// counts by its first declaration.
+    /// N1: the symbol at this offset in a production is not declared, or the target or argument of
+    /// a rule at this offset names a place or an attribute that does not exist. If a symbol is
+    /// declared twice, its attributes are those of the first declaration.
     UnknownName(usize),
     /// N2: at this offset a symbol is declared again, or an attribute is declared again in its
     /// symbol.
@@ -44,15 +45,16 @@ pub enum NormalFault {
     Unproductive(Named),
     /// N5: the first declared symbol that is not reached from the start symbol.
     Unreachable(Named),
-    /// N6: the production with this number (the first field) has no rule for the attribute with this
-    /// number (the third) at this place (the second): a synthesized one at place 0, or an inherited
-    /// one at a later place. Productions and attributes are numbered from 0.
+    /// N6: the production with this number (the first field) has no rule for the attribute with
+    /// this number (the third) at this place (the second): a synthesized one at place 0, or an
+    /// inherited one at a later place. Productions and attributes are numbered from 0.
     RuleMissing(usize, usize, usize),
     /// N7: the target at this offset is that of an earlier rule of the production.
     RuleDoubled(usize),
     /// N8: the target at this offset is inherited at place 0, or synthesized at a later place.
     NotDefinedHere(usize),
-    /// N9: the occurrence at this offset is synthesized at place 0, or inherited at a later place.
+    /// N9: the argument of a rule at this offset is synthesized at place 0, or inherited at a later
+    /// place.
     NotNormal(usize),
     /// N10: this limit is exceeded.
     Limit(LimitKind),

@@ -5,8 +5,9 @@ ghost use Rattle.normalform.specs.Laws.{AcceptedWithoutFault, NoFaultWhereAccept
 ghost use Rattle.normalform.specs.Laws.{OneFirstFault, NoFirstFaultWithoutFault};
 ghost use Rattle.normalform.specs.Laws.{WorkedNumbers};
 
-/// States that if a raw grammar has no fault, the numbered grammar is accepted: for raw grammars that are
-/// readable, and whose numbered rules list their occurrences and have no unbound name (`AreListedIn`).
+/// States that if a raw grammar has no fault, the numbered grammar is accepted: for raw grammars
+/// that are readable, and whose numbered rules list their occurrences and have no unbound name
+/// (`AreListedIn`).
 #[tactic(auto, using(crate::proofs::numbered::Accepting::accepted_without_fault))]
 pub fn accepted_without_fault()
     ensures { AcceptedWithoutFault }
@@ -34,12 +35,12 @@ pub fn worked_numbers()
     ensures { WorkedNumbers }
 {}
 
-/// Worked examples: the faults of wrong names and of a wrong start symbol in small grammars.
+/// Worked examples: the first faults among N1 to N3 (names and the start symbol) of small grammars.
 pub fn worked_names()
     ensures { WorkedNames }
 {}
 
-/// Worked examples: the faults of wrong rules in small grammars.
+/// Worked examples: the first faults among N6 to N10 (rules and limits) of small grammars.
 pub fn worked_rules()
     ensures { WorkedRules }
 {}

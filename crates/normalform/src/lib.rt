@@ -1,7 +1,9 @@
 //! Numbering the names of a grammar, and checking that it is accepted: that its names are declared
-//! once and its start symbol fits, and that it is complete, normal, reduced and within the limits.
+//! once, that its start symbol has a synthesized `out` and no inherited attribute, and that it is
+//! complete, normal, reduced and within the limits.
 //!
-//! A function whose error is the type `NoMemory` fails only if memory is refused; no contract says so.
+//! A function whose error is the type `NoMemory` fails only if memory is refused; no contract says
+//! so.
 #![tactic(auto)]
 
 mod checking;

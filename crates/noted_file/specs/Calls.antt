@@ -7,7 +7,7 @@ use Rattle.std.specs.Prelude.{length, take, drop, slice_index, bytes_eq, refl}
 abbrev pub Event : Type 0
 Event = ℕ × ℕ × Bool × List ℕ
 
--- before all calls: the content of the file when it is opened
+-- before all calls: an initial content of the file
 abbrev pub initial_event : List ℕ → Event
 initial_event bytes = (0, 0, true, bytes)
 
@@ -57,7 +57,7 @@ after_call (suc (suc (suc (suc zero)))) at ok bytes file =
     record file { is_honest = file.is_honest && (not ok || has_bytes_at file.stored at bytes) }
 after_call (suc (suc (suc (suc (suc more))))) number ok bytes file = record file { stored = if ok then [] else file.stored }
 
--- the replay of these calls, newest first
+-- the replay of these calls; the list has the newest call first
 abbrev pub replay : List Event → Replay
 replay [] = record { stored = []; is_honest = true }
 replay (e ∷ earlier) = after_call e.0 e.1 e.2 e.3 (replay earlier)

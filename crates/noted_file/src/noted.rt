@@ -1,8 +1,9 @@
-//! A file that records the calls made on it. Each method of `NotedFile` performs one operation on the
-//! file of the operating system, and then adds one entry with the result to the record; `read_at` moves
-//! the file's position before it reads. An `open` that fails records nothing. One clause says what the
-//! file itself received: `taken` of `append`, where a contract can name the file's bytes. No other clause
-//! can say that an operation was performed as recorded: a reviewer has to compare the two in each body.
+//! A file that records the calls made on it. Each method of `NotedFile` makes one call to the
+//! operating system, and then adds one entry with the result to the record. `read_at` makes two: it
+//! moves the position in the file, and reads. An `open` that fails records nothing. One clause says
+//! what the file itself received: `taken` of `append`, where a contract can name the file's bytes.
+//! No other clause can say that an operation was performed as recorded: a reviewer has to compare
+//! the two in each body.
 ghost use Rattle.std.specs.Prelude.{◌≡◌, ◌∷◌, true, false, is_ok, length, IfOk, MatchResult, OnOk};
 ghost use Rattle.std.specs.Io.KnownBytes.{Appends};
 ghost use Rattle.noted_file.specs.Calls.{append_event, length_event, open_event, read_event};
@@ -14,7 +15,8 @@ use std::io::{self, Read, Seek, SeekFrom, Write};
 use std::marker::Model;
 use std::rt::Files;
 
-// the kinds of calls, as in `specs/Calls.antt`; 0 is the initial content of the file
+// the kinds of calls from 1 to 5, as in `specs/Calls.antt`, where the kind 0 is the initial content
+// of the file
 const OPEN: u64 = 1;
 
 const LENGTH: u64 = 2;
@@ -85,10 +87,11 @@ impl<F: Read + Write + Seek + OpenFile> NotedFile<F> {
         }
     }
 
-    /// Appends bytes to the file, which has to be open for appending (`OpenOptions::append`): in another
-    /// file they would be written at its current position, which `read_at` moves. No clause requires
-    /// that. Fails with the system's error; a failure is recorded too. The file may then have a prefix of
-    /// the bytes, though a replay of the record adds none of them.
+    /// Appends bytes to the file, which has to be open for appending (`OpenOptions::append`). No
+    /// clause requires this. A file that is not open for appending would get the bytes at its
+    /// current position, which `read_at` moves. Fails with the system's error; a failure is
+    /// recorded too. The file may then have a prefix of the bytes, though a replay of the record
+    /// adds none of them.
     pub fn append(&mut self, bytes: &[u8]) -> io::Result<()>
         ensures noted { self.new.events
             ≡ append_event (is_ok result) bytes.now ∷ self.old.events }

@@ -5,8 +5,9 @@ ghost use Rattle.noted_file.specs.Calls.{Event, IsFresh, event_of};
 
 use std::marker::{Model, PhantomData};
 
-/// The calls on one file with their results, newest first. The oldest entry has the content that the file
-/// had when it was first opened. The record occupies no memory: only contracts can read it.
+/// The calls on one file with their results, newest first. The oldest entry has an initial content
+/// of the file. No clause says that the file had this content when it was first opened. The record
+/// occupies no memory: only contracts can read it.
 #[derive(Drop)]
 pub struct CallRecord {
     marker: PhantomData<u8>,
@@ -28,9 +29,9 @@ impl CallRecord {
         }
     }
 
-    /// Adds a call to the record. `_numbers` has its kind, an offset or a length in bytes, and 1 for
-    /// success or 0 for failure; `_bytes` has the bytes that it wrote, read or took as a path. The body
-    /// is empty, since the record is ghost state: a proof by hand sets it.
+    /// Adds a call to the record. `_numbers` has the kind of the call, an offset or a length in
+    /// bytes, and 1 for success or 0 for failure. `_bytes` has the bytes that were written or read,
+    /// or the path. The body is empty, since the record is ghost state: a proof by hand sets it.
     pub(crate) fn note(&mut self, _numbers: &[u64], _bytes: &[u8])
         ensures { self.new.events ≡ event_of _numbers.now _bytes.now ∷ self.old.events }
     {}

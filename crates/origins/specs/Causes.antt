@@ -16,8 +16,8 @@ use Rattle.ag_grammar.specs.grammars.Tree.{Forest, IsTreeOf, Tree, leaf, node, n
 use Rattle.origins.specs.Arising.{Table, environment, exchanged, is_arising, is_same_error}
 use Rattle.origins.specs.Origins.{child_of}
 
--- The instance that a rule's target or argument stands for at the node of a path: the path of its node. Place 0 is the node
--- itself.
+-- The path of the node at a place of the node with the given path. Place 0 is the node itself, and place i + 1 its child number
+-- i, from 0. A rule's target or argument is an attribute of the node at its place.
 abbrev pub place_path : List ℕ → ℕ → List ℕ
 place_path path zero = path
 place_path path (suc i) = path ++ i ∷ []
@@ -32,8 +32,8 @@ is_still r e n =
     is_same_error (fault_of (value_of r.expr.0 (environment r e)))
     (fault_of (value_of r.expr.0 (exchanged_below n (environment r e))))
 
--- A rule's error is passed on from the argument of this number: it is the same error with other errors in the place of
--- those before it, and not with another one in its place too.
+-- A rule's error is passed on from argument k, from 0. If the errors among the arguments before k are replaced by others, the
+-- rule has the same error. If the error of argument k is replaced as well, the rule does not have this error.
 pub record IsSource (r : Rule) (e : Table) (k : ℕ) : Type 0 where
   pub before : is_still r e k ≡ true
   pub after : is_still r e (suc k) ≡ false
@@ -62,8 +62,8 @@ pub record IsRuleAt (g : Grammar) (t : Tree) (v : Valuation) (path : List ℕ) (
   pub rule : IsRule of r
   pub values : e ≡ at (values_at v path)
 
--- The error of an attribute instance has a cause: it arises in the rule that gives it, or is passed on by that rule
--- from an argument, whose error has one.
+-- The error of an attribute of the node with a path has a cause: the error arises in the rule that defines the attribute there,
+-- or this rule passes it on from an argument whose error has a cause.
 pub data HasCause (g : Grammar) (t : Tree) (v : Valuation) : List ℕ → ℕ → Type 0 where
   here : (path : List ℕ) (r : Rule) (e : Table) → IsRuleAt g t v path r e → is_arising e r ≡ true
       → HasCause g t v (place_path path r.target.place) r.target.attr
@@ -71,7 +71,8 @@ pub data HasCause (g : Grammar) (t : Tree) (v : Valuation) : List ℕ → ℕ �
       → slice_get r.args k ≡ Some o → HasCause g t v (place_path path o.place) o.attr
       → HasCause g t v (place_path path r.target.place) r.target.attr
 
--- at each node of a tree something holds of the attributes of its symbol, with their passes
+-- R holds of the path of each node of a tree and the list of the passes of the node's attributes; for a token this list is the
+-- one pass 0, that of its `lex`
 abbrev mutual
   pub HoldsAt : (List ℕ → List ℕ → Type 0) → Grammar → Passes → Tree → List ℕ → Type 0
   HoldsAt R g m (leaf c x) path = R path (0 ∷ [])
@@ -81,7 +82,7 @@ abbrev mutual
   HoldsIn R g m none path n = Unit {0}
   HoldsIn R g m (more t ts) path n = HoldsAt R g m t (path ++ n ∷ []) × HoldsIn R g m ts path (suc n)
 
--- each error of a tree has a cause
+-- In an accepted grammar with a legal assignment each error of a solution has a cause.
 abbrev pub ErrorsHaveCauses : Type 0
 ErrorsHaveCauses = (g : Grammar) (m : Passes) (t : Tree) (v : Valuation) → IsAccepted g → IsLegal g m → IsTreeOf g t
     → Solves AnyRule g t v

@@ -16,8 +16,8 @@ use Rattle.ag_grammar.specs.values.Operators.{operation_result}
 use Rattle.origins.specs.declared.forms.Known.{Known}
 use Rattle.origins.specs.declared.forms.Known.TheVariants as known
 
--- An error is like any error, and any other value only like itself. The first argument is the error that the second one is,
--- if it is one.
+-- w is like v: an error is like any error, and any other value is only like itself. The first argument is the error code of v,
+-- or None if v is not an error.
 abbrev pub IsLike : Option ErrorCode → Value → Value → Type 0
 IsLike None v w = w ≡ v
 IsLike (Some c) v w = has_fault (fault_of w) ≡ true
@@ -33,17 +33,18 @@ Holds env known.Clean v = fault_of v ≡ None
 Holds env (known.ErrorOf k) v = (fault_of v ≡ fault_of (env k)) × (has_fault (fault_of (env k)) ≡ true)
 Holds env known.Nothing v = Unit {0}
 
--- the same of a value that depends on no environment
+-- what is known is true of a value that depends on no environment
 abbrev pub States : Value → Known → Type 0
 States v (known.Number n) = v ≡ value.Num n
 States v known.Clean = fault_of v ≡ None
 States v (known.ErrorOf k) = ⊥
 States v known.Nothing = Unit {0}
 
+-- the same as `States`, as a record
 pub record IsStated (v : Value) (r : Known) : Type 0 where
   pub states : States v r
 
--- the same of the value of occurrence k
+-- what is known is true of the value v of occurrence k
 abbrev pub Describes : Value → ℕ → Known → Type 0
 Describes v k (known.Number n) = v ≡ value.Num n
 Describes v k known.Clean = fault_of v ≡ None
@@ -57,7 +58,7 @@ Spells v known.Clean = ⊥
 Spells v (known.ErrorOf k) = ⊥
 Spells v known.Nothing = Unit {0}
 
--- What is known of an expression is true in each environment like one, whatever names are bound around it.
+-- What is known of an expression is true in each environment that is like `base`, whatever names are bound around the expression.
 pub record IsKnown (base : ℕ → Value) (e : Node) (r : Known) : Type 0 where
   pub holds : (env : ℕ → Value) (bound : List Value) → AreAlike base env → Holds env r (value_in e env bound)
 
@@ -66,8 +67,8 @@ pub record Continues (base : ℕ → Value) (a : Known) (others : List (Operator
   pub holds : (env : ℕ → Value) (bound : List Value) (v : Value) → AreAlike base env → Holds env a v
       → Holds env r (chain_value env bound v (map (λ p. (p.0, value_in p.1)) others))
 
--- What follows from what is known of the value before the rest of these operands (b) also follows from what is known of it
--- before all of them (a).
+-- In a chain, a is known of the value before the operands `others`, and b of the value before `rest`, the last of these operands.
+-- If b and `rest` show that r is known of the whole chain, then so do a and `others`.
 pub record Reaches (base : ℕ → Value) (a : Known) (others : List (Operator × Node)) (b : Known) (rest : List (Operator × Node))
     : Type 0 where
   pub onward : (r : Known) → Continues base b rest r → Continues base a others r

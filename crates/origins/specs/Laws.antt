@@ -9,7 +9,7 @@ use Rattle.ag_grammar.specs.grammars.Tree.{IsTreeOf, Tree}
 use Rattle.origins.specs.Causes.{HasCause, HoldsAt, values_at}
 use Rattle.origins.specs.Origins.{HasOrigin, IsFirst, origin_count}
 
--- A cause ends at an origin.
+-- If an error of a tree has a cause, the tree has an origin.
 abbrev pub CausesHaveOrigins : Type 0
 CausesHaveOrigins = (g : Grammar) (t : Tree) (v : Valuation) (path : List ℕ) (a : ℕ) → HasCause g t v path a
     → (origin : List ℕ) × HasOrigin g origin (Some t) v

@@ -108,7 +108,9 @@ abbrev pub IsNotBefore : Option (List ℕ) → List ℕ → Type 0
 IsNotBefore None path = ⊥
 IsNotBefore (Some first) path = is_before path first ≡ false
 
--- The walk over a tree has come so far. What it found, and what is to come, are all origins of the tree.
+-- The walk over a tree has come so far. The rules that were counted and those to come are all rules of the tree in which an error
+-- arises. The first origin that was found, and those to come, are origins of the tree. Each origin of the tree is to come, or
+-- does not come before the first one that was found.
 pub record IsSoFar (g : Grammar) (m : Passes) (k : ℕ) (d : Direction) (t : Tree) (v : Valuation) (content : List ℕ) (at : ℕ)
     (open_nodes : List Open) (first : Option (List ℕ)) (count : ℕ) : Type 0 where
   pub families : List Family
@@ -137,7 +139,8 @@ pub record IsPending (g : Grammar) (m : Passes) (k : ℕ) (d : Direction) (t : T
       → ((deeper : List ℕ) × (path ≡ way d open_nodes ++ deeper) × HasOrigin g deeper (Some tree) values)
       ⊎ ArePending g d open_nodes families path ⊎ IsNotBefore first path
 
--- So it is of each tree and values whose file of the last pass the content is.
+-- P holds for each legal assignment, each tree and all values, if the content is their file of the last pass and the number of
+-- this pass is below 2^16.
 abbrev pub OfEach : (Passes → ℕ → Tree → Valuation → Type 0) → Grammar → List ℕ → Type 0
 OfEach P g content = (m : Passes) (k : ℕ) (t : Tree) (v : Valuation) → k < 2 ^ 16 → IsLegal g m → IsLastPass k m → IsTreeOf g t
     → IsFileOfTree version_two g m k t v content → P m k t v
@@ -156,7 +159,7 @@ pub record IsReady (honest : Bool) (content : List ℕ) (state : BackState) : Ty
   pub version : state.progress.version ≡ version_two
   pub unbroken : state.progress.fault ≡ None
 
--- A record was read: its body is before the offset.
+-- A record was read: the frame of its body ends at the old offset, and begins at the new one.
 pub record HasFetched (g : Grammar) (honest : Bool) (content : List ℕ) (old new : BackState) (r : LastRecord) : Type 0 where
   pub body : List ℕ
   pub found : WhenHonest honest (next_before version_two content old.progress.at ≡ Ok (Some body))
@@ -168,7 +171,7 @@ abbrev pub earlier : Option (List ℕ) → List ℕ → List ℕ
 earlier None path = path
 earlier (Some first) path = if is_before path first then path else first
 
--- the first path after a node in which errors arise in n rules
+-- the path of the first origin found, after the node at `path` was read, which has n rules in which an error arises
 abbrev pub first_after : Option (List ℕ) → ℕ → List ℕ → Option (List ℕ)
 first_after first zero path = first
 first_after first (suc n) path = Some (earlier first path)

@@ -91,9 +91,11 @@ impl<'a> Row<'a> {
         eval(alloc, &rule.expr, &first, &mut meter)
     }
 
-    /// Returns whether an error arises in a rule at the node: its value is an error, and would be the same one
-    /// if every error among its arguments were another. Evaluates the rule, and a second time if its value is
-    /// an error; a rule that only copies an argument is not evaluated. Fails if memory is refused.
+    /// Returns whether an error arises in a rule at the node: the rule's value is an error, and
+    /// would be the same error if every error among the rule's arguments were another error.
+    /// Evaluates the rule, and a second time if its value is an error; a rule that only copies an
+    /// argument is not evaluated. Requires an argument for each occurrence of the rule's
+    /// expression. Fails with NoMemory if memory is refused.
     pub fn is_arising(&self, alloc: Global, rule: &Rule) -> Result<bool, NoMemory>
         requires arguments { length rule.now.args ≡ length rule.now.expr.1 }
         ensures { IfOk result (λ arises. arises ≡ is_arising
@@ -189,7 +191,8 @@ impl<'a> Row<'a> {
         self.known_of(rule, rule.expr.tree())
     }
 
-    /// Returns the argument of an index, whose error is known to be the value of the rule.
+    /// Returns the argument with this number, from 0, whose error is known to be the value of the
+    /// rule. Returns `None` if the rule has no such argument.
     fn known_source(&self, rule: &Rule, number: usize) -> Option<Target>
         requires { IsKnown (environment rule.now (table_of self.now.grammar.now
             self.now.production.now self.now.values.now)) rule.now.expr.0 (Known.ErrorOf number) }
@@ -203,12 +206,14 @@ impl<'a> Row<'a> {
         Some(args[number])
     }
 
-    /// Returns the argument that passes its error on to a rule. Returns `None` if the rule's value is not
-    /// an error, or the error arises in the rule. Fails if memory is refused.
+    /// Returns the argument that passes its error on to a rule. Returns `None` if the rule's value
+    /// is not an error, or the error arises in the rule. Requires an argument for each occurrence
+    /// of the rule's expression. Fails with NoMemory if memory is refused.
     ///
-    /// Evaluates nothing if the result is known without it, as for a rule that copies an argument, or adds an
-    /// argument to a number. Else evaluates the rule and, if its value is an error, once more for each argument
-    /// that is an error, up to the one that passes it on.
+    /// Evaluates nothing if the result is known without an evaluation: for example if the rule
+    /// copies an argument, or adds an argument that is an error to a number. Otherwise evaluates
+    /// the rule and, if its value is an error, once more for each argument that is an error, up to
+    /// the one that passes its error on.
     #[tactic(auto, using(crate::proofs::Sources::known_values))]
     pub fn source_of(&self, alloc: Global, rule: &Rule) -> Result<Option<Target>, NoMemory>
         requires arguments { length rule.now.args ≡ length rule.now.expr.1 }

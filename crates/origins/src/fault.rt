@@ -31,9 +31,10 @@ impl From<ValueFault> for DecodeFault {
 /// Why a walk over a tree file failed.
 #[derive(Clone, Copy, Debug, PartialEq, Eq)]
 pub enum WalkFault {
-    /// R1: the content is not the file of the last pass of a tree of the grammar. The offset in bytes is 0
-    /// if the content does not begin as a tree file. Else it is the end of the first frame, read from the end
-    /// of the content on, that shows this, or the offset at which a frame should end and none does.
+    /// R1: the content is not the file of the last pass of a tree of the grammar. The offset in
+    /// bytes is 0 if the content does not begin as a tree file. Otherwise the frames are read from
+    /// the last to the first, and the offset is the end of the frame that shows this (a wrong
+    /// record, or one left over), or the offset at which a frame should end and none does.
     Damaged(u64),
     /// P2: no tree of at most `MAX_DEPTH` levels has this file.
     TooDeep,

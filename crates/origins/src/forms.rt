@@ -17,11 +17,11 @@ use ag_value::{MAX_VALUE_DEPTH, MAX_WEIGHT, Value, depth, weight};
 /// What is known of the value of an expression, or of a part of one.
 #[derive(Clone, Copy)]
 pub(crate) enum Known {
-    /// It is this number.
+    /// The value is this number.
     Number(i64),
-    /// It is not an error.
+    /// The value is not an error.
     Clean,
-    /// It is the error of the argument of this index.
+    /// The value is the error of the argument with this index, from 0.
     ErrorOf(usize),
     /// Nothing is known.
     Nothing,
@@ -112,7 +112,8 @@ impl<'a> Row<'a> {
         }
     }
 
-    /// Returns the number that the argument of an index spells, if it is a text that spells one.
+    /// Returns the number that the argument of an index spells, if the argument is a text that
+    /// spells one, and otherwise that nothing is known.
     #[tactic(auto, using(crate::proofs::Knowing::known_parsed))]
     fn argument_parsed(&self, rule: &Rule, number: usize) -> Known
         ensures { IsKnown (environment rule.now (table_of self.now.grammar.now self.now.production.now
@@ -151,7 +152,8 @@ fn describe(value: &Value, number: usize) -> Known
     }
 }
 
-/// Returns the number that a value spells, if it is a text that spells one.
+/// Returns the number that a value spells, if the value is a text that spells one, and otherwise
+/// that nothing is known.
 fn parsed(value: &Value) -> Known
     ensures { Spells value.now result }
 {
@@ -176,8 +178,8 @@ fn spelled_number(text: &str) -> Option<i64>
     text.parse::<i64>().ok()
 }
 
-/// Returns what is known of a literal: nothing if it is beyond the limits, else the number that it is, or that
-/// it is not an error.
+/// Returns what is known of a literal. Of a number within the limits of values the number is known,
+/// and of a text within them that it is not an error. Of any other literal nothing is known.
 #[tactic(auto, using(crate::proofs::Knowing::known_literal))]
 fn literal_known(literal: &Literal) -> Known
     ensures { (base : ℕ → AttributeValue) → IsKnown base (node.Literal literal.now) result }
@@ -227,7 +229,7 @@ fn operator_known(operator: Operator, left: i64, right: i64) -> Known
     }
 }
 
-/// Returns the sum, if it is within the range.
+/// Returns the sum if it is a number of 64 bits, and otherwise that nothing is known.
 fn sum_known(left: i64, right: i64) -> Known
     ensures { IsStated (number_value (left +ℤ right)) result }
 {
@@ -237,7 +239,7 @@ fn sum_known(left: i64, right: i64) -> Known
     }
 }
 
-/// Returns the difference, if it is within the range.
+/// Returns the difference if it is a number of 64 bits, and otherwise that nothing is known.
 fn difference_known(left: i64, right: i64) -> Known
     ensures { IsStated (number_value (left -ℤ right)) result }
 {
@@ -247,7 +249,7 @@ fn difference_known(left: i64, right: i64) -> Known
     }
 }
 
-/// Returns the product, if it is within the range.
+/// Returns the product if it is a number of 64 bits, and otherwise that nothing is known.
 fn product_known(left: i64, right: i64) -> Known
     ensures { IsStated (number_value (left *ℤ right)) result }
 {

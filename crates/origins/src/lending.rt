@@ -11,8 +11,8 @@ use ag_eval::Environment;
 use ag_grammar::Target;
 use ag_value::{ErrorCode, Value};
 
-/// Lends the values of a rule's arguments, which are in the record of a node; `spare` for an argument that
-/// the record does not have.
+/// Lends the values of a rule's arguments, which are in the record of a node. Lends `spare` for an
+/// argument that the record does not have.
 #[derive(Drop)]
 pub(crate) struct Arguments<'a> {
     pub(crate) row: &'a Row<'a>,
@@ -38,8 +38,8 @@ impl<'a> Environment for Arguments<'a> {
     }
 }
 
-/// Lends the same values, with another error in place of each error: `divide` in place of overflow, and
-/// `overflow` in place of any other.
+/// Lends the values that `arguments` lends, with another error in place of each error: `divide` in
+/// place of overflow, whose number is 1, and `overflow` in place of any other.
 #[derive(Drop)]
 pub(crate) struct ExchangedErrors<'a> {
     pub(crate) arguments: &'a Arguments<'a>,
@@ -73,7 +73,8 @@ impl<'a> Environment for ExchangedErrors<'a> {
     }
 }
 
-/// Lends the same values, with another error in place of each error among the first `count` ones.
+/// Lends the values of the first `count` arguments as `exchanged` does, with another error in place
+/// of each error, and the values of the other arguments unchanged.
 #[derive(Drop)]
 pub(crate) struct FirstExchanged<'a> {
     pub(crate) exchanged: &'a ExchangedErrors<'a>,

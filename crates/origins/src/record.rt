@@ -23,13 +23,15 @@ pub enum LastRecord {
 
 /// Reads values from their spellings, which follow one another to the end of the bytes.
 ///
-/// Fails with Damaged if the bytes are not such spellings, or are those of more values than a record may have.
+/// Fails with Damaged if the bytes are not such spellings, or are those of more values than a
+/// record may have (`MAX_VALUES`). Fails with NoMemory if memory is refused.
 fn values_in(alloc: Global, bytes: &[u8]) -> Result<Items<Value>, DecodeFault>
     ensures well { IfOk result (λ values. All IsWell values) }
     ensures spelled { IfOk result (λ values. bytes.now ≡ flat_map spelling_of values) }
 {
     let mut values = Vec::new(alloc);
     let mut rest = bytes;
+    // one turn for each value, and one that finds the end of the bytes
     for _value in 0..MAX_VALUES + 1 {
         if rest.is_empty() {
             return Ok(Items::from_vec(values));
@@ -45,8 +47,13 @@ fn values_in(alloc: Global, bytes: &[u8]) -> Result<Items<Value>, DecodeFault>
 
 /// Reads a body as the record of an item.
 ///
-/// Fails with Damaged if it is not one: a production of the symbol with spellings of well values after it,
-/// or a token of the class.
+/// For a symbol the body has to have the number of a production of the symbol, and then at most
+/// `MAX_VALUES` spellings of well values. For a class it has to be that of a token of the class.
+/// The number of values that the production needs is not checked, and neither is the text of a
+/// token.
+///
+/// Fails with Damaged if the body is not so, or the item is a literal. Fails with NoMemory if
+/// memory is refused.
 pub fn record_of(
     alloc: Global,
     grammar: &Grammar,

@@ -64,7 +64,7 @@ fn copies_before(grammar: &Grammar, items: &[Item], children: u16) -> usize
     }
 }
 
-/// Returns the index at which the values at a place begin.
+/// Returns the index in a node's record at which the values at a place begin, from 0.
 fn start_of(grammar: &Grammar, production: &Production, place: u16) -> usize
     requires { length production.now.items ≤ max_items }
     ensures start { result ≡ start grammar.now production.now place }
@@ -77,7 +77,7 @@ fn start_of(grammar: &Grammar, production: &Production, place: u16) -> usize
     own + copies_before(grammar, production.items.as_slice(), place - 1)
 }
 
-/// Returns the index of the value of an argument.
+/// Returns the index of the value of an argument in a node's record, from 0.
 pub(crate) fn slot_of(grammar: &Grammar, production: &Production, argument: Target) -> usize
     requires { length production.now.items ≤ max_items }
     ensures { result ≡ slot grammar.now production.now argument }

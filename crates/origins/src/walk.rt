@@ -21,8 +21,8 @@ use backreader::Back;
 use std::alloc::Global;
 use treefile::Device;
 
-/// A bound of the number of turns of a whole walk: one for each record but the root's, one to leave each node, and
-/// one in which no node is open.
+/// A bound of the number of turns of the loop in `find_origins`: one for each record but the
+/// root's, one to leave each node, and one in which no node is open.
 const MAX_TURNS: u32 = 2 * MAX_NODES + 1;
 
 /// Where errors arise in a tree.
@@ -36,8 +36,9 @@ pub struct Origins {
 }
 
 impl Origins {
-    /// Adds a node that is read below open nodes, and in `count` of whose rules an error arises. Changes nothing
-    /// if `count` is 0.
+    /// Adds the node that was read last, which has `count` rules in which an error arises. `nodes`
+    /// are the open nodes above it, from the root down. Changes nothing if `count` is 0. Fails with
+    /// P3 if the number of all such rules is 2^64 or more, and with NoMemory if memory is refused.
     fn add_node(
         &mut self,
         alloc: Global,
@@ -60,8 +61,8 @@ impl Origins {
         }
     }
 
-    /// Adds the node at the end of a path, in `count` of whose rules an error arises. Returns `None` if the number
-    /// of all such rules is 2^64 or more.
+    /// Adds the node at the end of a path, which has `count` rules in which an error arises.
+    /// Returns `None` if the number of all such rules is 2^64 or more.
     fn add(&mut self, path: Items<u16>, count: usize) -> Option<()>
         ensures first { IfSome result (λ _. self.new.first ≡ Some (earlier self.old.first path)) }
         ensures count { IfSome result (λ _. self.new.count ≡ self.old.count + count) }
@@ -102,7 +103,7 @@ pub(crate) struct Open {
 }
 
 impl Open {
-    /// Returns the number of the child that was visited last.
+    /// Returns the number of the child that was visited last, from 0, counted from the left.
     pub(crate) fn last(self, direction: Direction) -> u16
         ensures { result ≡ last_of direction self }
     {
@@ -114,7 +115,8 @@ impl Open {
     }
 }
 
-/// Returns the path of the node that is read below open nodes.
+/// Returns the path of the node that was read last. `nodes` are the open nodes above it, from the
+/// root down. Fails with NoMemory if memory is refused.
 fn path_below(alloc: Global, direction: Direction, nodes: &[Open]) -> Result<Items<u16>, NoMemory>
     ensures { IfOk result (λ path. path ≡ map (last_of direction) nodes.now) }
 {
@@ -139,7 +141,8 @@ pub(crate) fn stored_among(items: &[Item]) -> u16
     count
 }
 
-/// Returns the item of the child with index `index`, from 0, of a node of the production `number`.
+/// Returns the item of the child with index `index`, from 0, of a node of the production `number`,
+/// or `None` if the production or the child does not exist.
 pub(crate) fn child_at(grammar: &Grammar, number: u16, index: u16) -> Option<Item>
     requires { index < 65535 }
     ensures { IfSome result (λ x. (q : TheProduction) → IsProduction grammar.now number q
@@ -165,7 +168,10 @@ struct Walk {
 }
 
 impl Walk {
-    /// Reads the next record, that of an item.
+    /// Reads the next record, that of an item. Fails with P2 if `MAX_DEPTH` nodes are open, with P3
+    /// if `MAX_NODES` records were read before, and with R1 if no frame ends at the reader's offset
+    /// or its body is not a record of the item. Fails with D1 if the device fails, and with
+    /// NoMemory if memory is refused.
     fn fetch<D: Device>(
         &mut self,
         alloc: Global,

@@ -36,16 +36,16 @@ IsOneOf some (Some (item.Terminal t)) a = ⊥
 abbrev pub IsSameOrLater : Direction → (j i : ℕ) → Type 0
 IsSameOrLater d j i = (1 ≤ j) × (1 ≤ i) × ((i ≡ j) ⊎ IsBefore d j i)
 
--- The reason why an argument keeps a rule's target at place j out of a pass of this direction, whose
--- candidates have no earlier pass: the argument is struck itself; or it is a candidate at the target's child
--- or at one that the pass visits later, so it is not computed before the pass enters the target's child
--- (after Jazayeri and Walter 1975, where every argument at a later child is a reason).
+-- Argument o is a reason why a pass of this direction can't compute the target, at place j, of a rule of production q.
+-- There are two cases. The argument is struck itself. Or it is a candidate, so it has no earlier pass, and is at the target's
+-- child or at one that the pass visits later; so it is not computed before the pass enters the target's child (after Jazayeri
+-- and Walter 1975, where every argument at a later child is a reason).
 abbrev pub IsReasonWhere : Direction → (candidate struck : Attributes) → Production → ℕ → Target → Type 0
 IsReasonWhere d candidate struck q j o =
     IsOneOf struck (item_at q o.place) o.attr
     ⊎ (IsSameOrLater d j o.place × IsOneOf candidate (item_at q o.place) o.attr)
 
--- an argument is such a reason if the attributes that a list strikes are struck
+-- the same, where the struck attributes are those that a list strikes
 abbrev pub IsReason : Direction → Attributes → List Strike → Production → ℕ → Target → Type 0
 IsReason d candidate struck q j o = IsReasonWhere d candidate (IsStruckBy struck) q j o
 
@@ -73,14 +73,14 @@ AreGood g d candidate struck (x ∷ xs) =
     candidate x.symbol x.attr × (IsStruckBy struck x.symbol x.attr → ⊥) × IsGood g d candidate struck x
     × AreGood g d candidate (x ∷ struck) xs
 
--- Good strikes, one after the other, of each attribute of `later`, and of no others, in a pass of this
--- direction with these candidates: the candidates of `later` can't have this pass (this project's).
+-- A list of good strikes in a pass of this direction with these candidates. It strikes exactly the attributes of `later`, which
+-- therefore can't have this pass (this project's).
 pub record StrikesExactly (g : Grammar) (d : Direction) (candidate later : Attributes) (xs : List Strike) : Type 0 where
   pub good : AreGood g d candidate [] xs
   pub all : (s a : ℕ) → later s a → IsStruckBy xs s a
   pub only : (s a : ℕ) → IsStruckBy xs s a → later s a
 
--- such strikes of all candidates: the pass is assigned to none of them
+-- the list strikes all candidates: the pass is assigned to none of them
 abbrev pub StrikesAll : Grammar → Direction → Attributes → List Strike → Type 0
 StrikesAll g d candidate xs = StrikesExactly g d candidate candidate xs
 

@@ -46,17 +46,18 @@ pub record WaitsFor (g : Grammar) (d : Direction) (x : Strike) (s a : ℕ) : Typ
   pub symbol : item_at production argument.place ≡ Some (item.Symbol s)
   pub attr : argument.attr ≡ a
 
--- a strike waits for no attribute
+-- a strike waits for no attribute: its argument, if it is an attribute of a symbol, is at the target's child or at one that is
+-- visited later
 abbrev pub WaitsForNone : Grammar → Direction → Strike → Type 0
 WaitsForNone g d x = (q : Production) (u : Rule) (o : Target) (s : ℕ) → Names g x q u o → item_at q o.place ≡ Some (item.Symbol s)
     → IsSameOrLater d u.target.place o.place
 
--- the attribute that a strike waits for; for None, it waits for none
+-- the attribute that a strike waits for; `None` means that the strike waits for no attribute
 abbrev pub IsWait : Grammar → Direction → Strike → Option (ℕ × ℕ) → Type 0
 IsWait g d x None = WaitsForNone g d x
 IsWait g d x (Some w) = WaitsFor g d x w.0 w.1
 
--- the attribute that a strike by this argument of a rule waits for; for None, it waits for none
+-- the attribute that a strike by this argument of a rule waits for; `None` means that the strike waits for no attribute
 abbrev pub IsAwaited : Direction → Production → Rule → Target → Option (ℕ × ℕ) → Type 0
 IsAwaited d q u o None = (s : ℕ) → item_at q o.place ≡ Some (item.Symbol s) → IsSameOrLater d u.target.place o.place
 IsAwaited d q u o (Some w) =

@@ -43,7 +43,7 @@ table_slot (Some s) a = Some (slot_of s a)
 abbrev pub dependency_of : Strike → (j i k from : ℕ) → Dependency
 dependency_of head j i k from = record { strike = record head { arg = i }; place = j; argument = k; from = from }
 
--- some element of a list, with its index, is related to y
+-- the relation R holds of y and of some element of a list and its index
 abbrev pub OfEach : {X Y : Type 0} → (ℕ → X → Y → Type 0) → List X → Y → Type 0
 OfEach {X} R xs y = (i : ℕ) × (x : X) × (slice_get xs i ≡ Some x) × R i x y
 

@@ -59,20 +59,21 @@ abbrev pub RestIsStuck : Type 0
 RestIsStuck = (g : Grammar) (k : ℕ) (m : Partial) (first second : List Strike) → AreIdle g k m first second → (s a : ℕ)
     → IsOpen g m s a → IsStuck g s a
 
--- The stuck attributes are exactly those left open by two consecutive passes that assign nothing, if passes have made
--- the assignment before these two, and each production is complete and normal.
+-- The stuck attributes are exactly those left open by two consecutive passes that assign nothing, if the passes before these
+-- two were made from pass 1 on, and each production is complete and normal.
 abbrev pub StuckIsLeft : Type 0
 StuckIsLeft = (g : Grammar) (k : ℕ) (m : Partial) (first second : List Strike) → Each (IsComplete g) g.productions
     → Each (IsNormal g) g.productions → IsMade g k m → AreIdle g k m first second → (s a : ℕ) → IsAttribute g s a
     → (m s a ≡ None) ↔ IsStuck g s a
 
--- A list of the attributes that two such passes leave open, if there are any, is certified by their strikes.
+-- The strikes of two consecutive passes that assign nothing are a certificate of the attributes that these passes leave open, if
+-- there are any.
 abbrev pub RestIsCertified : Type 0
 RestIsCertified = (g : Grammar) (k : ℕ) (m : Partial) (first second : List Strike) → AreIdle g k m first second
     → (set : List (ℕ × ℕ)) → Differ set → ((x : ℕ × ℕ) × Has set x) → ((s a : ℕ) → Members set s a ↔ IsOpen g m s a)
     → IsCertificate g (stuck_of (direction_of k) set first second)
 
--- A list of good strikes is continued by a good one of a candidate that it does not strike.
+-- A list of good strikes stays one if a good strike of another candidate is appended.
 abbrev pub StrikesGrow : Type 0
 StrikesGrow = (g : Grammar) (d : Direction) (m : Partial) (xs : List Strike) (x : Strike) → AreGood g d (IsOpen g m) [] xs
     → IsOpen g m x.symbol x.attr → (IsStruckBy xs x.symbol x.attr → ⊥) → IsGood g d (IsOpen g m) xs x
@@ -95,15 +96,15 @@ abbrev pub StrikesShowLeast : Type 0
 StrikesShowLeast = (g : Grammar) (rows : List (List ℕ)) (lists : List (List Strike)) → IsLegal g (passes_of rows)
     → AreStrikesOf g rows lists → IsLeast g (passes_of rows)
 
--- If exactly the members of a certificate have pass k or a later one, and none has pass k, the certificate's list for the
--- direction of pass k has the strikes of pass k.
+-- If an assignment gives no attribute pass k, and exactly the members of a certificate a later pass, the certificate's list for
+-- the direction of pass k has the strikes of pass k.
 abbrev pub CertificatesAreStrikes : Type 0
 CertificatesAreStrikes = (g : Grammar) (c : Stuck) (m : Passes) (k : ℕ) → IsCertificate g c
     → ((s a : ℕ) → Members c.set s a ↔ HasPassFrom m k s a) → ((s a : ℕ) → Members c.set s a ↔ HasPassAfter m k s a)
     → AreStrikesAt g m k (list_for c (direction_of k))
 
--- A chain shows that its attribute has a later pass in every legal assignment, if strikes show that its candidates have no
--- earlier pass than this one.
+-- If an assignment has strikes, the first attribute of a chain for one of its passes has a later pass than this one in every
+-- legal assignment. In the statement this is pass k + 1.
 abbrev pub ChainsShowLater : Type 0
 ChainsShowLater =
     (g : Grammar) (rows : List (List ℕ)) (lists : List (List Strike)) (k s a : ℕ) (xs : List Strike) (other : Passes)

@@ -23,7 +23,7 @@ partial_of m s a = slice_get (m s) a
 abbrev pub IsAttribute : Grammar → ℕ → ℕ → Type 0
 IsAttribute g s a = (k : Kind) × (slice_get (symbol_kinds (slice_get g.symbols s)) a ≡ Some k)
 
--- it assigns passes only to attributes that exist
+-- a partial assignment assigns passes only to attributes that exist
 abbrev pub AssignsOnlyAttributes : Grammar → Partial → Type 0
 AssignsOnlyAttributes g n = (s a p : ℕ) → n s a ≡ Some p → IsAttribute g s a
 
@@ -38,8 +38,8 @@ pass_at n (Some (item.Terminal (Literal l))) a = None
 abbrev pub HasPassIn : Partial → Production → Target → ℕ → Type 0
 HasPassIn n q o p = pass_at n (item_at q o.place) o.attr ≡ Some p
 
--- A legal partial assignment: it assigns passes of at least 1 to attributes that exist, and the arguments of
--- their rules have passes too, which the rules may use (after Jazayeri and Walter 1975).
+-- A legal partial assignment. It assigns passes of at least 1, and only to attributes that exist. Each argument of a rule for
+-- one of these attributes has a pass too, one that the rule may use (after Jazayeri and Walter 1975).
 pub record IsLegalPartial (g : Grammar) (n : Partial) : Type 0 where
   pub known : AssignsOnlyAttributes g n
   pub positive : (s a p : ℕ) → n s a ≡ Some p → 1 ≤ p

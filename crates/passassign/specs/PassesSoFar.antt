@@ -31,7 +31,7 @@ pub record IsProgress (g : Grammar) (all : List Dependency) (p : PassesSoFar) : 
 abbrev pub open_count : List State → ℕ
 open_count states = count_by is_open states
 
--- The next pass was made, with these strikes.
+-- The pass after the state `old` was made, with these strikes, and `new` is the state after it.
 pub record IsNext (g : Grammar) (all : List Dependency) (old new : PassesSoFar) (strikes : List Strike) : Type 0 where
   pub progress : IsProgress g all new
   pub pass : IsPass g old.next (table_passes old.states.items) (table_passes new.states.items) strikes
@@ -40,7 +40,7 @@ pub record IsNext (g : Grammar) (all : List Dependency) (old new : PassesSoFar) 
 abbrev pub KeepPasses : List State → List State → Type 0
 KeepPasses new old = (k : ℕ) → state_at new k ≡ Open → state_at old k ≡ Open
 
--- The numbers of attributes without a pass: `after` is the current one, and less than `before`.
+-- `after` is the number of attributes without a pass in this state, and is less than `before`.
 pub record IsFewerOpen (before after : ℕ) (p : PassesSoFar) : Type 0 where
   pub count : after ≡ open_count p.states.items
   pub less : after < before

@@ -1,5 +1,5 @@
--- Examples: a certificate, and passes that are made, for the sample grammars of ag_grammar and for one more. In that one an
--- attribute of the second child depends on the first, so that pass 2, from left to right, is needed:
+-- Examples of certificates and of passes that are made, for the sample grammars of ag_grammar and for the grammar `rightward`.
+-- In `rightward` an attribute of the second child depends on the first child, so pass 2, from left to right, is needed:
 --   R = A A { $0.out = $1.s; $1.i = 0; $2.i = $1.s; }
 --   A = "x" { $0.s = $0.i + 1; }
 use Rattle.std.specs.Prelude.{ℕ, zero, suc, List, [], ◌∷◌, None}
@@ -27,7 +27,7 @@ both_ways_stuck = record { set = (0, 0) ∷ (1, 0) ∷ (1, 1) ∷ []; odd = stri
 abbrev pub exchanged : Stuck
 exchanged = record both_ways_stuck { odd = strikes_by 0 1; even = strikes_by 2 2 }
 
--- the grammar above
+-- the grammar above, with the symbols of `sample`
 abbrev pub rightward : Grammar
 rightward = grammar_of (rule_out ∷ zero_rule (attribute 1 1) ∷ copy_rule (attribute 2 1) 1 s_name 0 ∷ [])
 
@@ -35,7 +35,7 @@ rightward = grammar_of (rule_out ∷ zero_rule (attribute 1 1) ∷ copy_rule (at
 abbrev pub nothing_yet : Partial
 nothing_yet s a = None
 
--- all attributes are of the third pass
+-- all attributes have pass 3
 abbrev pub third_passes : Passes
 third_passes zero = 3 ∷ []
 third_passes (suc zero) = 3 ∷ 3 ∷ []

@@ -68,7 +68,7 @@ pub record IsTable (symbols : List Symbol) (states : List State) : Type 0 where
 abbrev pub is_marked : List Bool → ℕ → Bool
 is_marked marks k = slice_index_or marks k false
 
--- the state after pass p of an attribute that is struck in it or not
+-- the state of an attribute after pass p; `struck` says whether this pass strikes the attribute
 abbrev pub after_pass : ℕ → State → Bool → State
 after_pass p Absent struck = Absent
 after_pass p Open true = Open

@@ -25,7 +25,7 @@ use ag_grammar::{Direction, Grammar, Production, Symbol};
 use ag_value::{Items, NoMemory};
 use std::alloc::Global;
 
-/// The reasons why an assignment cannot be made.
+/// The faults of `assign` and `assign_with_strikes`.
 #[derive(Debug, Drop)]
 pub enum AssignFault {
     /// A1: no assignment is legal, with any number of passes.
@@ -51,7 +51,7 @@ pub(crate) struct PassesSoFar {
     pub direction: Direction,
 }
 
-/// The strikes of the passes made so far, if they are wanted.
+/// The strikes of the passes made so far, if the caller of `assign_all` wants them.
 #[derive(Debug, Drop)]
 pub(crate) struct StrikeLog {
     pub is_wanted: bool,
@@ -72,8 +72,8 @@ impl StrikeLog {
     }
 }
 
-/// Makes the next pass: assigns it to those attributes without a pass that it can compute. Returns
-/// its strikes, of the other attributes without a pass.
+/// Makes the next pass: each attribute without a pass gets this pass if the pass can compute it.
+/// Returns the strikes of the pass: one for each attribute that still has no pass.
 fn make_pass(
     alloc: Global,
     dependencies: &Dependencies,
@@ -102,8 +102,8 @@ fn make_pass(
     Ok(struck.strikes)
 }
 
-/// Returns the certificate of the attributes without a pass, with the strikes of the last two passes.
-/// Directions alternate, so `first` has the direction of the next pass.
+/// Returns the certificate of the attributes without a pass, with the strikes of the last two
+/// passes. Directions alternate, so the pass of `first` had the direction of the next pass.
 fn certificate_of(
     alloc: Global,
     progress: &PassesSoFar,
@@ -134,10 +134,11 @@ fn certificate_of(
     }
 }
 
-/// Makes the next pass, and a second one if the first assigns nothing. `open_before` is the number of
-/// attributes without a pass before the call. Returns their number after it, which is smaller. Fails
-/// with A1 if the second pass assigns nothing either, and with NoMemory if memory is refused. Appends
-/// the strikes of the passes to `kept`, if they are wanted.
+/// Makes the next pass, and a second one if the first assigns nothing. `open_before` is the number
+/// of attributes without a pass before the call. Returns the number of attributes without a pass
+/// after the call, which is smaller. On success the strikes of the passes are appended to `kept`,
+/// if they are wanted. Fails with A1 if the second pass assigns nothing either, and with NoMemory
+/// if memory is refused.
 fn advance(
     alloc: Global,
     dependencies: &Dependencies,
@@ -185,7 +186,9 @@ fn advance(
 }
 
 /// Returns the least legal assignment for the symbols and productions of an accepted grammar, and
-/// its strikes, or no lists if they are not wanted. Fails with A1 if no assignment is legal, and with
+/// the strikes of its passes, or empty `lists` if `wants_strikes` is false. Each successful call of
+/// `advance` makes at most two passes and assigns a pass to at least one attribute, so there are at
+/// most two passes for each attribute. Fails with A1 if no assignment is legal, and with
 /// NoMemory if memory is refused.
 pub(crate) fn assign_all(
     alloc: Global,
@@ -229,19 +232,19 @@ pub(crate) fn assign_all(
 }
 
 /// Returns the least legal assignment of passes to the attributes of a grammar: no legal assignment
-/// gives any attribute an earlier pass. Passes are numbered from 1. No pass is above 8,192,
-/// which is two for each attribute that a grammar may have. There is one row for each symbol, which
-/// has the passes of its attributes.
+/// gives any attribute an earlier pass. Passes are numbered from 1. No pass is above 8,192, which
+/// is two for each attribute that a grammar may have. There is one row for each symbol, which has
+/// the passes of its attributes.
 ///
-/// Fails with A1 Stuck if no assignment is legal, with any number of passes. The certificate has
-/// exactly the stuck attributes, in declared order: no legal assignment of all attributes, or of some,
-/// gives them a pass. It shows why they can't have a pass of either direction: it has the strikes of
-/// the last two passes tried, by their directions. Fails with NoMemory if the allocator refuses
-/// memory.
+/// Fails with A1 (`Stuck`) if no assignment is legal, with any number of passes. The certificate
+/// has exactly the stuck attributes, in declared order: no legal assignment of all attributes, or
+/// of some, gives them a pass. The certificate also has the strikes of the last two passes tried,
+/// one list for each direction. Each list shows why no pass of its direction can compute these
+/// attributes. Fails with NoMemory if the allocator refuses memory.
 ///
 /// Allocates the result, a table of the attributes, the places of one production at a time, the
-/// dependencies of the rules and their edges, the strikes of up to two passes, and what the search of
-/// one pass needs.
+/// dependencies of the rules and their edges, the strikes of up to two passes, and what the search
+/// of one pass needs.
 pub fn assign(alloc: Global, grammar: &Grammar) -> Result<Assignment, AssignFault>
     ensures least { IfOk result (λ m. IsLeast grammar.now (passes_of m)) }
     ensures few { IfOk result AreWithinMaxPasses }
@@ -252,10 +255,11 @@ pub fn assign(alloc: Global, grammar: &Grammar) -> Result<Assignment, AssignFaul
     Ok(assignment)
 }
 
-/// Returns the assignment of `assign` and the strikes of each of its passes, which show that it is
-/// the least one. Fails as `assign` does.
+/// Returns the assignment that `assign` returns and the strikes of each of its passes, which show
+/// that it is the least one. Fails as `assign` does.
 ///
-/// Also allocates all strikes: one of 10 bytes for each attribute and each pass before its own.
+/// Allocates what `assign` allocates, and all strikes: for each attribute, 10 bytes for each pass
+/// before its own.
 pub fn assign_with_strikes(
     alloc: Global,
     grammar: &Grammar,

@@ -18,8 +18,9 @@ use ag_grammar::{Direction, Grammar, Item, Production, Rule, Target};
 use ag_value::NoMemory;
 use std::alloc::Global;
 
-/// Returns the attribute that an argument of a rule is. `None` if it is not one of a symbol, or is
-/// at the target's own child or at one that a pass in the direction visits later.
+/// Returns the attribute that a strike by this argument of a rule waits for: the argument's, as the
+/// number of its symbol and its own number. Returns `None` if the argument is not an attribute of a
+/// symbol, or is at the target's own child or at one that a pass in the direction visits later.
 fn awaited_attribute(
     direction: Direction,
     production: &Production,
@@ -38,9 +39,10 @@ fn awaited_attribute(
     }
 }
 
-/// Returns the attribute that a strike waits for: that of its argument. `None` if the argument is at
-/// the target's own child or at one that a pass in the direction visits later, which is a reason by
-/// itself, or if there is no such argument or it is not an attribute of a symbol.
+/// Returns the attribute that a strike waits for: that of its argument. A strike waits for none if
+/// the argument is at the target's own child or at one that a pass in the direction visits later,
+/// since that is a reason by itself. Returns `None` then, and if the strike's argument doesn't
+/// exist or is not an attribute of a symbol.
 fn waits_for(grammar: &Grammar, direction: Direction, strike: Strike) -> Option<(u16, u16)>
     ensures { IsWait grammar.now direction strike result }
 {
@@ -77,8 +79,9 @@ fn index_of(strikes: &[Strike], symbol: u16, attr: u16) -> Option<usize>
     None
 }
 
-/// Returns the index of an earlier strike of the attribute that the strike at index `at` waits for.
-/// `None` if it waits for none, or if no earlier strike is of that attribute.
+/// Returns the index of the first strike, before index `at`, of the attribute that the strike at
+/// index `at` waits for. Returns `None` if this strike waits for no attribute, or if no strike
+/// before it is of that attribute.
 fn awaited_index(
     grammar: &Grammar,
     direction: Direction,
@@ -98,8 +101,8 @@ fn awaited_index(
     }
 }
 
-/// Returns the strikes from the one at an index down to one that waits for none before it. Each
-/// strike's argument is the attribute of the next one.
+/// Returns the strike at index `at`, then the strike of the attribute that it waits for, and so on.
+/// `awaited_index` finds each next strike, and the result ends where it returns `None`.
 fn chain_from(
     alloc: Global,
     grammar: &Grammar,
@@ -124,7 +127,7 @@ fn chain_from(
     Ok(links)
 }
 
-/// Returns the strikes from that of an attribute down to one that waits for none before it. Empty if
+/// Returns what `chain_from` returns from the first strike of an attribute on. The list is empty if
 /// the attribute has no strike.
 fn chain_in(
     alloc: Global,
@@ -147,7 +150,8 @@ fn chain_in(
 }
 
 impl Strikes {
-    /// Returns the strikes of pass `pass`, from 1; empty if it has no list. Does not allocate.
+    /// Returns the strikes of a pass, numbered from 1. Returns an empty slice if the pass has no
+    /// list. Does not allocate.
     pub fn of_pass(&self, pass: u16) -> &[Strike]
         ensures { result.now ≡ strikes_of self.now.lists pass }
     {
@@ -160,12 +164,15 @@ impl Strikes {
         }
     }
 
-    /// Returns why a pass can't compute an attribute that has a later one: a chain for the pass, from
-    /// a strike of the attribute down to one that waits for no other. Empty if the pass does not
-    /// strike the attribute. An attribute is its symbol's number and its own.
+    /// Returns why a pass can't compute an attribute that has a later pass: a chain for the pass,
+    /// which begins with a strike of the attribute. Each strike of the chain waits for the
+    /// attribute of the next strike, and the last one waits for none. The result is a chain if the
+    /// strikes are those of an assignment of this grammar. It is empty if the pass does not strike
+    /// the attribute. `attribute` is the number of the symbol and that of the attribute in the
+    /// symbol.
     ///
-    /// Allocates the chain, and fails if memory is refused. Reads at most all strikes of the pass once
-    /// for each strike of the chain, and once more.
+    /// Allocates the chain, and fails with NoMemory. Reads each strike of the pass at most once for
+    /// each strike of the chain, and once more.
     pub fn chain_of(
         &self,
         alloc: Global,
@@ -190,7 +197,7 @@ impl Strikes {
 }
 
 impl Stuck {
-    /// Returns the strikes of a pass of a direction. Does not allocate.
+    /// Returns the certificate's list of strikes for passes in a direction. Does not allocate.
     pub fn of_direction(&self, direction: Direction) -> &[Strike]
         ensures { result.now ≡ list_for self.now direction }
     {
@@ -200,9 +207,10 @@ impl Stuck {
         }
     }
 
-    /// Returns why no pass of a direction can compute an attribute of the set: a chain for the
-    /// direction, as `Strikes::chain_of` does for a pass. Empty if the list does not strike the
-    /// attribute. Fails if memory is refused.
+    /// Returns why no pass in a direction can compute an attribute of the set: a chain for the
+    /// direction, as `Strikes::chain_of` does for a pass. The result is a chain if this is a
+    /// certificate of this grammar. It is empty if the list for the direction does not strike the
+    /// attribute. Allocates the chain, and fails with NoMemory.
     pub fn chain_of(
         &self,
         alloc: Global,

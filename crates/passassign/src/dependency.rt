@@ -23,7 +23,7 @@ pub(crate) struct Dependency {
     pub strike: Strike,
     /// The target's place.
     pub place: u16,
-    /// The slot in which a table has the argument.
+    /// The argument's slot: its index in a table of all attributes (`slot` of `table.rt`).
     pub argument: usize,
     /// The argument's place.
     pub from: u16,
@@ -80,7 +80,7 @@ fn append_argument(
 }
 
 /// Appends the dependencies of a rule's target on the rule's arguments. `head` is a strike of the
-/// target by this rule; its argument is replaced.
+/// target by this rule. Each dependency has this strike, with its own argument's number as `arg`.
 fn append_arguments(
     found: &mut Vec<Dependency>,
     places: &[Item],
@@ -103,7 +103,8 @@ fn append_arguments(
 }
 
 /// Returns the arguments of a rule: one for each of the distinct occurrences in its expression. The
-/// call of `occurrences` is there for its contract: they are distinct.
+/// call of `occurrences` changes nothing. Its contract says that the occurrences are distinct, so
+/// there are few enough arguments for 16 bits to index.
 fn arguments(rule: &Rule) -> &[Target]
     ensures lent { result.now ≡ rule.now.args }
     ensures different { AreDifferent rule.now.expr.1 }
@@ -112,7 +113,7 @@ fn arguments(rule: &Rule) -> &[Target]
     rule.args.as_slice()
 }
 
-/// Appends the dependencies of a rule.
+/// Appends the dependencies of rule `number` of production `production`, both numbered from 0.
 fn append_rule(
     found: &mut Vec<Dependency>,
     places: &[Item],
@@ -158,7 +159,7 @@ fn append_rules(
     Ok(())
 }
 
-/// Appends the dependencies of a production.
+/// Appends the dependencies of a production, whose number is `number`, from 0.
 fn append_production(
     alloc: Global,
     found: &mut Vec<Dependency>,
@@ -179,7 +180,7 @@ fn append_production(
     Ok(())
 }
 
-/// Returns all dependencies of some productions.
+/// Returns all dependencies of the productions of an accepted grammar.
 pub(crate) fn all_dependencies(
     alloc: Global,
     productions: &[Production],

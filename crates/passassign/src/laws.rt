@@ -7,33 +7,34 @@ ghost use Rattle.passassign.specs.Laws.{StrikesGrow, MarksMakePass, LeastHasFewe
 ghost use Rattle.passassign.specs.Laws.{NoneIsEarlier, StrikesShowLeast, CertificatesAreStrikes};
 ghost use Rattle.passassign.specs.Laws.{ChainsShowLater, ChainsAreThere};
 
-/// States that the members of a certificate's set are stuck: no legal partial assignment gives them a
-/// pass.
+/// States that the members of a certificate's set are stuck: no legal partial assignment gives them
+/// a pass.
 pub fn members_are_stuck()
     ensures { MembersAreStuck }
 {}
 
-/// States that if an attribute is stuck, no assignment is legal.
+/// States that if an attribute of the grammar is stuck, no assignment is legal, with any number of
+/// passes.
 #[tactic(auto, using(crate::proofs::making::Whole::stuck_refused))]
 pub fn stuck_is_refused()
     ensures { StuckIsRefused }
 {}
 
-/// States that if there is a certificate, and each production is complete, no assignment is legal, with
-/// any number of passes.
+/// States that if there is a certificate, and each production is complete, no assignment is legal,
+/// with any number of passes.
 #[tactic(auto, using(crate::proofs::making::Whole::certified_refused))]
 pub fn certified_is_refused()
     ensures { CertifiedIsRefused }
 {}
 
-/// States that passes made one after the other, from pass 1 on, assign no attribute a later pass than
-/// any legal partial assignment does.
+/// States that passes made one after the other, from pass 1 on, assign no attribute a later pass
+/// than any legal partial assignment does.
 pub fn made_is_at_most()
     ensures { MadeIsAtMost }
 {}
 
-/// States that an attribute that the passes before pass k leave open has no pass before k in any legal
-/// partial assignment.
+/// States that an attribute that the passes before pass k leave open has no pass before k in any
+/// legal partial assignment.
 pub fn left_is_later()
     ensures { LeftIsLater }
 {}
@@ -45,8 +46,8 @@ pub fn made_is_legal()
     ensures { MadeIsLegal }
 {}
 
-/// States that if passes made from pass 1 on assign a pass to every attribute, and each production is
-/// complete and normal, their assignment is the least one.
+/// States that if passes made from pass 1 on assign a pass to every attribute, and each production
+/// is complete and normal, their assignment is the least one.
 pub fn whole_is_least()
     ensures { WholeIsLeast }
 {}
@@ -62,8 +63,9 @@ pub fn rest_is_stuck()
     ensures { RestIsStuck }
 {}
 
-/// States that no attribute is stuck but those left open by two consecutive passes that assign nothing,
-/// if passes have made the assignment before these two, and each production is complete and normal.
+/// States that the stuck attributes are exactly those left open by two consecutive passes that
+/// assign nothing, if the passes before these two were made from pass 1 on, and each production is
+/// complete and normal.
 pub fn stuck_is_left()
     ensures { StuckIsLeft }
 {}
@@ -74,15 +76,14 @@ pub fn rest_is_certified()
     ensures { RestIsCertified }
 {}
 
-/// States that a list of good strikes is continued by a good one of a candidate that it does not
-/// strike.
+/// States that a list of good strikes stays one if a good strike of another candidate is appended.
 #[tactic(auto, using(crate::proofs::strikes::Growing::strikes_grow))]
 pub fn strikes_grow()
     ensures { StrikesGrow }
 {}
 
-/// States that good strikes to which no other can be added make a pass: the open attributes that are
-/// not marked as struck get it.
+/// States that good strikes to which no other can be added make a pass: the open attributes that
+/// are not marked as struck get it.
 #[tactic(auto, using(crate::proofs::making::Marked::pass_by_marks))]
 pub fn marks_make_pass()
     ensures { MarksMakePass }
@@ -99,20 +100,20 @@ pub fn strikes_show_least()
     ensures { StrikesShowLeast }
 {}
 
-/// States that the list of a certificate for the direction of pass k has the strikes of pass k of an
-/// assignment, if exactly the certificate's members have pass k or a later one, and none has pass k.
+/// States that if an assignment gives no attribute pass k, and exactly the members of a certificate
+/// a later pass, the certificate's list for the direction of pass k has the strikes of pass k.
 pub fn certificates_are_strikes()
     ensures { CertificatesAreStrikes }
 {}
 
-/// States that if an assignment has strikes, one list for each pass, a chain for one of its passes
-/// shows that the chain's attribute has a later pass than this one in every legal assignment.
+/// States that if an assignment has strikes, one list for each pass, the first attribute of a chain
+/// for one of its passes has a later pass than this one in every legal assignment.
 pub fn chains_show_later()
     ensures { ChainsShowLater }
 {}
 
-/// States that if pass k of an assignment has strikes, each attribute that has a later pass has a chain
-/// for pass k.
+/// States that if pass k of an assignment has strikes, each attribute that has a later pass has a
+/// chain for pass k.
 pub fn chains_are_there()
     ensures { ChainsAreThere }
 {}

@@ -7,7 +7,8 @@ ghost use Rattle.passassign.specs.Least.{partial_of, IsLeast, IsAlternating};
 ghost use Rattle.passassign.specs.Making.{IsMade};
 ghost use Rattle.passassign.specs.Sample.{both_ways_stuck, exchanged, rightward, third_passes};
 
-/// Worked example: pass 1 is assigned to every attribute of the grammar `sample`.
+/// Worked example: if passes of the grammar `sample` are made, pass 1 is assigned to every
+/// attribute.
 #[tactic(auto, using(crate::proofs::making::Earliest::sample_made))]
 pub fn sample_made()
     ensures { IsMade sample 2 (partial_of sample_passes) }
@@ -19,22 +20,23 @@ pub fn sample_least()
     ensures { IsLeast sample sample_passes }
 {}
 
-/// Worked example: pass 3 for every attribute of `sample` is legal too, and not least.
+/// Worked example: pass 3 for every attribute of `sample` is legal too, and not the least
+/// assignment.
 #[tactic(auto, using(crate::proofs::making::Earliest::third_not_least))]
 pub fn third_not_least()
     ensures legal { IsLegal sample third_passes }
     ensures greater { IsLeast sample third_passes → ⊥ }
 {}
 
-/// Worked example: in the grammar `rightward` an attribute depends on a child to the left. Pass 1 strikes
-/// all attributes, and pass 2 is assigned to them.
+/// Worked example: in the grammar `rightward` an attribute of a child depends on the child to its
+/// left. Pass 1 strikes all attributes, and pass 2 is assigned to them.
 #[tactic(auto, using(crate::proofs::making::Earliest::rightward_made))]
 pub fn rightward_made()
     ensures { IsMade rightward 3 (partial_of later_passes) }
 {}
 
-/// Worked example: the grammar `both_ways`, with productions for both directions, has a certificate of all
-/// its attributes.
+/// Worked example: in the grammar `both_ways` each direction is wrong for one of the two
+/// productions of the start symbol. It has a certificate of all its attributes.
 #[tactic(auto, using(crate::proofs::strikes::BothWays::both_ways_certified))]
 pub fn both_ways_certified()
     ensures { IsCertificate both_ways both_ways_stuck }
@@ -46,8 +48,8 @@ pub fn both_ways_refused()
     ensures { IsAlternating both_ways → ⊥ }
 {}
 
-/// Worked example: with its two lists of strikes exchanged, the certificate of `both_ways` is not one: a
-/// strike is for one direction.
+/// Worked example: if the two lists of strikes are exchanged, the certificate of `both_ways` is not
+/// one, since its strikes are good in one direction only.
 #[tactic(auto, using(crate::proofs::strikes::BothWays::exchanged_refused))]
 pub fn exchanged_refused()
     ensures { IsCertificate both_ways exchanged → ⊥ }

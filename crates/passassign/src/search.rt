@@ -138,8 +138,9 @@ fn target_slots(alloc: Global, dependencies: &[Dependency]) -> Result<Vec<usize>
     Ok(targets)
 }
 
-/// Returns the dependency by which a target is struck: one of `barred` for a seed, one of `all` for
-/// a clause.
+/// Returns the dependency that is the reason of a strike. The crate `closure` names it by the
+/// index of a seed or of a clause. The seeds are the targets of `barred`, and the clauses are the
+/// edges of `all`, in the same orders.
 fn dependency_for(all: &[Dependency], barred: &[Dependency], reason: Reason) -> Dependency
     requires { (u : PlainDependency) × (dependency_by all.now barred.now reason ≡ Some u) }
     ensures { dependency_by all.now barred.now reason ≡ Some result }
@@ -150,7 +151,8 @@ fn dependency_for(all: &[Dependency], barred: &[Dependency], reason: Reason) -> 
     }
 }
 
-/// Returns the strikes by the dependencies that are the reasons of additions.
+/// Returns a strike for each `Addition`, a slot that `closure` found and the reason, in the same
+/// order: the strike of the dependency that is the reason.
 fn strikes_of(
     alloc: Global,
     all: &[Dependency],
@@ -168,10 +170,10 @@ fn strikes_of(
     Ok(strikes)
 }
 
-/// Returns the strikes of a pass in a direction, and marks of the struck attributes. `states` is the
-/// table before the pass. The targets that a dependency bars come first, in the order of the
-/// dependencies, and then those that depend on struck attributes, in the order in which these are
-/// struck.
+/// Returns the strikes of a pass in a direction, and marks of the struck attributes. `states` is
+/// the table before the pass. The strikes of targets that a dependency bars come first, in the
+/// order of the dependencies. The strikes of targets that depend on a struck attribute follow, in
+/// the order in which those attributes are struck.
 pub(crate) fn search(
     alloc: Global,
     dependencies: &Dependencies,

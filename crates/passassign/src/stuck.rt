@@ -1,16 +1,16 @@
-//! Certificates that a grammar has no legal assignment, or that one is the least, as plain data.
-//! Their meaning is defined over these types.
+//! Two kinds of certificates, as plain data: that a grammar has no legal assignment, and that a
+//! legal assignment is the least one. The definitions in `specs` say what makes them valid.
 
 use ag_value::Items;
 
-/// A reason why a pass of some direction can't compute an attribute: one of its rules, and an
-/// argument of this rule that is not computed when the pass reaches the rule. All numbers are from
-/// 0. The data alone don't make a strike good: `Certificate.IsGood` says when it is.
+/// A reason why a pass of some direction can't compute an attribute: a rule for this attribute, and
+/// an argument of this rule that is not computed before the rule is evaluated. All numbers are from
+/// 0. The fields of a strike can have any values: `Certificate.IsGood` says when a strike is good.
 #[derive(Clone, Copy, Debug, PartialEq, Eq)]
 pub struct Strike {
     /// The number of the attribute's symbol.
     pub symbol: u16,
-    /// The attribute's number at its symbol.
+    /// The attribute's number in its symbol.
     pub attr: u16,
     /// The number of the rule's production.
     pub production: u16,
@@ -20,11 +20,12 @@ pub struct Strike {
     pub arg: u16,
 }
 
-/// A certificate that a grammar has no legal assignment: a set of attributes, and for each direction
-/// of passes a list that strikes all of them, in the order in which they are struck.
+/// A certificate that a grammar has no legal assignment: a set of attributes, and for each
+/// direction of passes a list with a strike of each of them. The order of a list is that in which
+/// its attributes are struck.
 #[derive(Debug, Drop)]
 pub struct Stuck {
-    /// The attributes, each by its symbol's number and its own at the symbol.
+    /// The attributes, each as the number of its symbol and its own number in the symbol, from 0.
     pub set: Items<(u16, u16)>,
     /// The strikes of a pass from right to left, the direction of odd passes.
     pub odd: Items<Strike>,
@@ -32,8 +33,9 @@ pub struct Stuck {
     pub even: Items<Strike>,
 }
 
-/// A certificate that no attribute can have an earlier pass than in an assignment: the strikes of
-/// each of its passes. The list of a pass strikes each attribute that has a later pass.
+/// A certificate that no attribute can have an earlier pass than it has in an assignment: the
+/// strikes of each pass of the assignment. The list of a pass strikes each attribute that has a
+/// later pass.
 #[derive(Debug, Drop)]
 pub struct Strikes {
     /// One list for each pass, the first for pass 1, each in the order in which the pass strikes.

@@ -107,6 +107,7 @@ fn pass_at(states: &[State], slot: usize) -> u16
 }
 
 /// Returns the passes in `count` slots of a table from slot `from` on, 0 for a slot that has none.
+/// The limit of `from` excludes an overflow of the index.
 fn row(alloc: Global, states: &[State], from: usize, count: usize) -> Result<Vec<u16>, NoMemory>
     requires from { from < 2 ^ 32 }
     requires count { count ≤ max_attributes }
@@ -143,7 +144,8 @@ pub(crate) fn rows(
     Ok(rows)
 }
 
-/// Appends the attribute of a slot whose state is `state`, if the slot has one, without a pass.
+/// Appends the attribute of a slot if `state`, the state of the slot, is `Open`. The attribute is
+/// appended as the number of its symbol and its own number in the symbol.
 fn append_open(found: &mut Vec<(u16, u16)>, state: State, slot: usize) -> Result<(), NoMemory>
     requires { slot < 2 ^ 16 * max_attributes }
     ensures puts { OnOk result (is_open state ≡ true
@@ -160,7 +162,8 @@ fn append_open(found: &mut Vec<(u16, u16)>, state: State, slot: usize) -> Result
     Ok(())
 }
 
-/// Returns the attributes that have no pass, by symbol and then by attribute.
+/// Returns the attributes that have no pass, each as the number of its symbol and its own number in
+/// the symbol, in ascending order.
 pub(crate) fn open_attributes(alloc: Global, states: &[State]) -> Result<Vec<(u16, u16)>, NoMemory>
     requires { length states.now ≤ max_slots }
     ensures all { IfOk result (λ found. (s a : ℕ)
@@ -174,7 +177,8 @@ pub(crate) fn open_attributes(alloc: Global, states: &[State]) -> Result<Vec<(u1
     Ok(found)
 }
 
-/// Returns the state of an attribute after pass `pass`, which strikes it or does not.
+/// Returns the state of an attribute after pass `pass`. `is_struck` says whether this pass strikes
+/// the attribute.
 fn after(state: State, pass: u16, is_struck: bool) -> State
     ensures { result ≡ after_pass pass state is_struck }
 {

@@ -12,10 +12,11 @@ use treefile::{DeviceFault, FrameFault};
 /// contain after a failure.
 #[derive(Clone, Copy, Debug, PartialEq, Eq)]
 pub enum RunFault {
-    /// R1: the file is that of no tree of the grammar after the previous pass (after pass `first` - 1
-    /// for `run_all`; of version 1 and pass 0 for `upgrade`). The offset in bytes is 0 if the content
-    /// does not begin as a tree file, and 4 if it is the file of another pass. Otherwise it is the end
-    /// of the frame that shows the damage, or the offset at which a frame should end.
+    /// R1: the file is that of no tree of the grammar after the pass before the first one that runs;
+    /// for `upgrade`, that of no tree of the grammar in version 1 before all passes. The offset in bytes
+    /// is 0 if the content does not begin as a tree file of the version that is read, and 4 if it is the
+    /// file of another pass. Otherwise it is the end of the frame that shows the damage, or the offset at
+    /// which a frame should end.
     Damaged(u64),
     /// P2: the file encodes no tree of at most `MAX_DEPTH` levels (`MAX_REVERSED_LEVELS` for
     /// `upgrade`): the next record would be one level deeper.

@@ -8,7 +8,7 @@ use Rattle.ag_grammar.specs.declared.grammar.Target.{Target}
 use Rattle.ag_grammar.specs.declared.syntax.node.Node.TheVariants as node
 use Rattle.ag_grammar.specs.grammars.AttributeGrammar.{Grammar, item_at}
 
--- the attribute at a place of a production is this one of a symbol
+-- a target of a production is attribute a of symbol s
 abbrev pub IsAttributeAt : Production → Target → ℕ → ℕ → Type 0
 IsAttributeAt q o s a = (o.attr ≡ a) × (item_at q o.place ≡ Some (item.Symbol s))
 
@@ -28,11 +28,11 @@ IsUnused g s a = Each (IsUnusedIn s a) g.productions
 abbrev pub IsCopy : Rule → Type 0
 IsCopy u = (n : ℕ) × (u.expr.0 ≡ node.Occurrence n)
 
--- a rule is a copy, if it computes the attribute
+-- a rule is a copy or does not compute the attribute
 abbrev pub IsCopiedBy : Production → ℕ → ℕ → Rule → Type 0
 IsCopiedBy q s a u = IsAttributeAt q u.target s a → IsCopy u
 
--- each rule of a production for the attribute is a copy
+-- each rule of a production for the attribute is a copy; this is so if the production has no such rule
 abbrev pub IsCopiedIn : ℕ → ℕ → Production → Type 0
 IsCopiedIn s a q = Each (IsCopiedBy q s a) q.rules
 

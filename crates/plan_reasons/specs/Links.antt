@@ -1,4 +1,4 @@
--- Links of chains: a strike with the parts that it names, and which of its target and its argument a pass reaches first.
+-- Links of chains: a strike with the parts that it names, and where its argument is, seen from the target of its rule.
 use Rattle.std.specs.Prelude.{ℕ, ◌≡◌, List, [], ◌∷◌, ◌++◌, Option, Some, None}
 use Rattle.ag_grammar.specs.Lists.{AreRelated, Has}
 use Rattle.ag_grammar.specs.declared.direction.Direction.{Direction}
@@ -15,7 +15,7 @@ use Rattle.plan_reasons.specs.declared.links.Geometry.{Geometry}
 use Rattle.plan_reasons.specs.declared.links.Geometry.TheVariants as geometry
 use Rattle.plan_reasons.specs.declared.links.Link.{Link}
 
--- The link of a strike: the target of its rule, its argument, and the attribute of a symbol that the argument is.
+-- The link of a strike has the target of the strike's rule, the argument, and the same argument as an attribute of a symbol.
 pub record IsLinkOf (g : Grammar) (x : Strike) (l : Link) : Type 0 where
   pub production : Production
   pub rule : Rule
@@ -34,12 +34,12 @@ pub record NamesAttribute (g : Grammar) (x : Strike) : Type 0 where
   pub named : Names g x production rule argument
   pub item : item_at production argument.place ≡ Some (item.Symbol symbol)
 
--- the link of a strike; for None, the strike names no argument that is an attribute of a symbol
+-- the link of a strike; `None` means that the strike names no argument that is an attribute of a symbol
 abbrev pub IsLinkOrNone : Grammar → Strike → Option Link → Type 0
 IsLinkOrNone g x None = NamesAttribute g x → ⊥
 IsLinkOrNone g x (Some l) = IsLinkOf g x l
 
--- the link of a strike by argument o of rule u; for None, the argument is not an attribute of a symbol
+-- the link of a strike by argument o of rule u; `None` means that the argument is not an attribute of a symbol
 abbrev pub IsLinkAt : Production → Rule → Target → Strike → Option Link → Type 0
 IsLinkAt q u o x None = (s : ℕ) → item_at q o.place ≡ Some (item.Symbol s) → ⊥
 IsLinkAt q u o x (Some l) =
@@ -50,22 +50,22 @@ IsLinkAt q u o x (Some l) =
 abbrev pub AppendsLink : Grammar → Strike → (old new : List Link) → Type 0
 AppendsLink g x old new = NamesAttribute g x → (l : Link) × IsLinkOf g x l × (new ≡ old ++ l ∷ [])
 
--- The links of a chain, in its order.
+-- The links of a chain that begins with a strike of attribute a of symbol s, in the chain's order.
 pub record AreChainLinks (g : Grammar) (d : Direction) (candidate : Attributes) (s a : ℕ) (links : List Link) : Type 0 where
   pub chain : List Strike
   pub is_chain : IsChainOf g d candidate s a chain
   pub are_links : AreRelated (IsLinkOf g) chain links
 
--- The link of a strike that waits for no other in passes of a direction: its argument is at the target's child or at one that is
--- visited later.
+-- The link of a strike, which is an obstacle in passes of a direction: its argument is at the target's child or at one that is
+-- visited later, so the strike waits for no other.
 abbrev pub IsObstacleOf : Grammar → Direction → Strike → Link → Type 0
 IsObstacleOf g d x l = IsLinkOf g x l × IsSameOrLater d l.target.place l.argument.place
 
--- the link of one of some strikes that waits for no other
+-- the link of one of these strikes, which is an obstacle
 abbrev pub IsObstacle : Grammar → Direction → List Strike → Link → Type 0
 IsObstacle g d strikes l = (x : Strike) × Has strikes x × IsObstacleOf g d x l
 
--- where an argument at place i is, for a rule with a target at place j and a pass of a direction
+-- where an argument at place i is in a pass of a direction, if the target of its rule is at place j
 abbrev pub IsGeometry : Direction → (j i : ℕ) → Geometry → Type 0
 IsGeometry d j i geometry.Within = IsSameOrLater d j i × (i ≡ j)
 IsGeometry d j i geometry.Later = IsSameOrLater d j i × IsBefore d j i

@@ -7,7 +7,7 @@ use Rattle.ag_grammar.specs.grammars.AttributeGrammar.{Grammar, attribute_names}
 abbrev pub IsSymbolNamed : List Symbol → ℕ → List ℕ → Type 0
 IsSymbolNamed symbols s name = (x : Symbol) × (slice_get symbols s ≡ Some x) × (x.name ≡ name)
 
--- A text names an attribute: it is the name of the symbol, a dot, and the name of the attribute.
+-- A text names an attribute: it is the name of the symbol, a dot (its code is 46), and the name of the attribute.
 pub record IsAttributeNamed (g : Grammar) (text : List ℕ) (s a : ℕ) : Type 0 where
   pub symbol : Symbol
   pub own : List ℕ

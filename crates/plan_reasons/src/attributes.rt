@@ -1,4 +1,4 @@
-//! Attributes, by the numbers of their symbols and their own, and by their names.
+//! Attributes of symbols, by their numbers and by their names.
 
 ghost use Rattle.std.specs.Prelude.{◌≡◌, ◌≤◌, ◌↔◌, IfOk, IfSome, IsTrue, Some, length, slice_get};
 ghost use Rattle.ag_grammar.specs.grammars.Accepted.{max_symbols};
@@ -13,10 +13,11 @@ use message_texts::display::{MAX_NAMED, PlainText};
 use std::alloc::{AllocError, Global};
 use std::fmt;
 
-/// The numbers of an attribute, from 0: its symbol's, and its own at the symbol.
+/// The numbers of an attribute, from 0: the number of its symbol, and its own in the symbol.
 pub type Attribute = (u16, u16);
 
-/// An attribute of a grammar. It prints as its symbol's name and its own: `L.p`.
+/// An attribute of a grammar. It prints as the names of its symbol and of itself: `L.p`. It prints
+/// as nothing if the grammar has no such attribute.
 #[derive(Clone, Copy)]
 pub(crate) struct AttributeName<'a> {
     pub grammar: &'a Grammar,
@@ -35,7 +36,8 @@ impl fmt::Display for AttributeName<'_> {
     }
 }
 
-/// An attribute at a place of a production. It prints as rules name it: `$1.p`.
+/// An attribute at a place of a production. It prints as rules name it: `$1.p`. It prints as
+/// nothing if the grammar has no such attribute.
 #[derive(Clone, Copy)]
 pub(crate) struct OccurrenceName<'a> {
     pub grammar: &'a Grammar,
@@ -58,7 +60,7 @@ impl fmt::Display for OccurrenceName<'_> {
 /// Why a text is not the name of an attribute.
 #[derive(Clone, Copy)]
 pub enum NameFault<'a> {
-    /// It has no dot.
+    /// The text has no dot.
     NoDot,
     /// The grammar has no symbol of this name.
     NoSymbol(&'a str),
@@ -66,8 +68,8 @@ pub enum NameFault<'a> {
     NoAttribute(u16, &'a str),
 }
 
-/// Returns the attribute of a name such as `L.p`. Fails with the first fault, in the order of `NameFault`. Does
-/// not allocate.
+/// Returns the attribute of a name such as `L.p`. Fails with the first fault that applies, in the
+/// order of `NameFault`. Does not allocate.
 pub fn attribute_named<'a>(grammar: &Grammar, name: &'a str) -> Result<Attribute, NameFault<'a>>
     ensures { IfOk result (λ x. IsAttributeNamed grammar.now name.now x.0 x.1) }
 {
@@ -145,8 +147,9 @@ fn append_attributes(
 }
 
 impl NameFault<'_> {
-    /// Writes the fault of `name` into a message: what is wrong and, if `name` has a dot, which names there are. Fails
-    /// if memory is refused.
+    /// Writes the fault of `name` into a message. If `name` has a dot, also writes the names that
+    /// exist: of the grammar's symbols (at most `MAX_NAMED`), or of the attributes of the symbol.
+    /// Fails if memory is refused.
     pub fn describe(
         &self,
         parts: &mut Parts,
@@ -174,7 +177,8 @@ impl NameFault<'_> {
     }
 }
 
-/// Writes the names of the first `MAX_NAMED` symbols, with a space before each, and the number of the others.
+/// Writes the names of the first `MAX_NAMED` symbols, with a space before each, and the number of
+/// the others if there are any.
 fn write_symbols(out: &mut String, symbols: &[Symbol]) -> Result<(), AllocError> {
     for symbol in symbols.iter().take(MAX_NAMED) {
         write!(out, " {}", PlainText(symbol.name.as_str()))?;

@@ -1,5 +1,5 @@
-//! The chains of an assignment's strikes and of a certificate's: the attribute that a pass leaves to a
-//! later one, and the links that show why.
+//! Chains of strikes, of an assignment and of a certificate: the first attribute that a pass leaves
+//! to a later pass, and the links that show why a pass can't compute an attribute.
 
 ghost use Rattle.std.specs.Prelude.{ℕ, ◌≡◌, ◌≤◌, ◌↔◌, IfOk, IfSome, IsTrue, None, Some, slice_get};
 ghost use Rattle.ag_grammar.specs.grammars.Passes.{direction_of};
@@ -47,7 +47,7 @@ fn has_pass(assignment: &Assignment, symbol: u16, attr: u16, pass: u16) -> bool
     }
 }
 
-/// Returns the attribute of the first strike whose attribute has this pass.
+/// Returns the attribute of the first strike whose attribute has pass `pass`.
 fn first_with_pass(strikes: &[Strike], assignment: &Assignment, pass: u16) -> Option<Attribute>
     ensures found { IfSome result (λ x. IsStruckBy strikes.now x.0 x.1
         × (slice_get (passes_of assignment.now x.0) x.1 ≡ Some pass)) }
@@ -70,8 +70,8 @@ impl LeastPlan<'_> {
         pass_in(self.assignment.rows(), attribute.0, attribute.1)
     }
 
-    /// Returns the attribute that pass `pass` strikes first of those that have pass `later`. None if it strikes
-    /// none of them. Does not allocate.
+    /// Returns the attribute of the first strike of pass `pass` that is of an attribute with pass
+    /// `later`. Returns `None` if pass `pass` strikes no such attribute. Does not allocate.
     pub fn first_struck(&self, pass: u16, later: u16) -> Option<Attribute>
         ensures found { IfSome result (λ x.
             IsStruckBy (strikes_of self.now.strikes.now.lists pass) x.0 x.1
@@ -83,9 +83,10 @@ impl LeastPlan<'_> {
         first_with_pass(self.strikes.of_pass(pass), self.assignment, later)
     }
 
-    /// Returns the links that show why a pass can't compute an attribute that has a later one: those of the
-    /// chain that begins with the attribute's strike. Empty if the pass does not strike it. Fails if memory is
-    /// refused.
+    /// Returns the links that show why a pass can't compute an attribute that has a later pass: the
+    /// links of the chain that begins with the attribute's strike. They are those of a chain if the
+    /// strikes are those of the assignment, and `grammar` is its grammar. The result is empty if
+    /// the pass does not strike the attribute. Fails if memory is refused.
     pub fn links(
         &self,
         alloc: Global,
@@ -104,8 +105,10 @@ impl LeastPlan<'_> {
     }
 }
 
-/// Returns the links that show why no pass of a direction can compute an attribute of a certificate's set. Empty
-/// if the certificate does not strike it. Fails if memory is refused.
+/// Returns the links that show why no pass of a direction can compute an attribute of a
+/// certificate's set: those of the chain that begins with the attribute's strike. They are those of
+/// a chain if `stuck` is a certificate of `grammar`. The result is empty if the list for the
+/// direction does not strike the attribute. Fails if memory is refused.
 pub fn stuck_links(
     alloc: Global,
     grammar: &Grammar,

@@ -9,10 +9,11 @@ use message_texts::{Position, Source};
 use passassign::Strike;
 use std::alloc::Global;
 
-/// The greatest number of lines of a paragraph after its heading. The number of the others follows.
+/// The greatest number of lines of a paragraph after its heading. If there are more lines, the
+/// number of those left out follows.
 pub(crate) const MAX_LINES: usize = 40;
 
-/// A grammar with its text. Has a call for each text that explains the grammar's passes.
+/// A grammar with its text. Has a method for each output that explains the grammar's passes.
 #[derive(Drop)]
 pub struct Explanation<'a> {
     /// The allocator of what is written.
@@ -28,14 +29,15 @@ pub struct Explanation<'a> {
 }
 
 impl<'a> Explanation<'a> {
-    /// Returns the explanation of a grammar and the text that it was read from. Reads the text again, for the
-    /// positions of the rules. Fails if memory is refused.
+    /// Returns the explanation of a grammar, whose text is `source`. Reads the text again, for the
+    /// positions of the rules. Fails with NoMemory if memory is refused, and also if the text can't
+    /// be read as a grammar, which happens only if the text isn't that of `grammar`.
     pub fn new(
         alloc: Global,
         source: Source<'a>,
         grammar: &'a Grammar,
     ) -> Result<Explanation<'a>, NoMemory> {
-        // the text of an accepted grammar can be read, so only memory can be the cause
+        // The text of a grammar can be read again, so only refused memory can be the cause.
         let Ok(raw) = read_grammar(alloc, source.bytes) else {
             return Err(NoMemory::NoMemory);
         };
@@ -48,14 +50,15 @@ impl<'a> Explanation<'a> {
         })
     }
 
-    /// Returns the position of the rule that a strike names: that of its target. It is the beginning of the text
-    /// if the text has no such rule.
+    /// Returns the position of the rule that a strike names: that of the rule's target. Returns the
+    /// beginning of the text if the text has no such rule.
     pub(crate) fn position_of(&self, strike: Strike) -> Position {
         let at = self.offset_of(strike).unwrap_or(0);
         self.lines.position(self.source.text(), at)
     }
 
-    /// Returns the offset in bytes of the rule that a strike names, if the text has it.
+    /// Returns the offset in bytes, from 0, of the rule that a strike names, if the text has the
+    /// rule.
     fn offset_of(&self, strike: Strike) -> Option<usize> {
         let productions = self.raw.productions.as_slice();
         let production = productions.get(usize::from(strike.production))?;
@@ -72,7 +75,8 @@ impl<'a> Explanation<'a> {
     }
 }
 
-/// Writes the number of lines that a paragraph leaves out, if there are any.
+/// Writes the number of lines that a paragraph leaves out, if there are any. `count` is the number
+/// of all lines of the paragraph, without its heading.
 pub(crate) fn write_others(out: &mut String, count: usize) -> Result<(), NoMemory> {
     match count.saturating_sub(MAX_LINES) {
         0 => Ok(()),

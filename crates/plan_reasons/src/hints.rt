@@ -1,4 +1,5 @@
-//! Attributes that the grammar may not need: those that no rule uses, and those that are only copied.
+//! Attributes that the grammar may not need: those that no rule uses, and those that are only
+//! copied.
 
 ghost use Rattle.std.specs.Prelude.{ℕ, ◌⊎◌, IfOk, OnOk};
 ghost use Rattle.ag_grammar.specs.Lists.{Has};
@@ -20,7 +21,7 @@ fn is_translation(grammar: &Grammar, attribute: Attribute) -> bool {
     }
 }
 
-/// Appends an attribute, if no rule uses it and it is not the translation.
+/// Appends an attribute, if no rule uses it and it is not the start symbol's `out`.
 fn append_unused(
     unused: &mut Vec<Attribute>,
     grammar: &Grammar,
@@ -39,7 +40,7 @@ fn append_unused(
     Ok(())
 }
 
-/// Returns those of some attributes that no rule uses, without the translation.
+/// Returns the elements of `attributes` that no rule uses, except the start symbol's `out`.
 fn unused_among(
     alloc: Global,
     grammar: &Grammar,
@@ -54,7 +55,7 @@ fn unused_among(
     Ok(unused)
 }
 
-/// Appends an attribute, if it has rules and each of them is one occurrence.
+/// Appends an attribute, if there are rules for it and each of these is a copy.
 fn append_copied(
     copied: &mut Vec<Attribute>,
     grammar: &Grammar,
@@ -73,7 +74,7 @@ fn append_copied(
     Ok(())
 }
 
-/// Returns those of some attributes that have rules, each of which is one occurrence.
+/// Returns the elements of `attributes` for which there are rules, all of which are copies.
 fn copied_among(
     alloc: Global,
     grammar: &Grammar,

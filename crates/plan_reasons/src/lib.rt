@@ -1,11 +1,11 @@
-//! Why a plan has its passes: the texts that `aggen why` prints. An attribute that pass 3 computes has a
-//! chain of rules that shows why pass 2 can't, and another for pass 1. The chains are those of the strikes
-//! of `passassign`. A strike names an attribute that a pass can't compute, a rule for it, and an argument of
-//! this rule that is the reason. A link is a strike with these parts looked up in the grammar.
+//! Why a plan has its passes: the texts that `aggen why` prints. An attribute that pass 3 computes
+//! has a chain of rules that shows why pass 2 can't compute it, and another chain for pass 1. The
+//! chains are those of the strikes of `passassign`. A strike names an attribute that a pass can't
+//! compute, a rule for it, and an argument of this rule that is the reason. A link is a strike with
+//! these parts looked up in the grammar.
 //!
-//! `links`, `chains` and `uses` find what is printed; the other modules serve to print it. Each function that writes a
-//! text allocates, and fails if memory is refused. Characters that control a terminal are written as
-//! escapes, such as `\u{1b}`.
+//! Each function that writes a text allocates, and fails if memory is refused. Characters that
+//! control a terminal are written as escapes, such as `\u{1b}`.
 #![tactic(auto)]
 
 mod attributes;

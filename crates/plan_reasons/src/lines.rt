@@ -23,8 +23,8 @@ impl Lines {
         Ok(Lines { starts })
     }
 
-    /// Returns the position of an offset in bytes in the text: line and column from 1, the column in
-    /// characters.
+    /// Returns the position of an offset in bytes, from 0, in the text: line and column from 1, the
+    /// column in characters. The column is 1 if the offset is inside a character or after the text.
     pub(crate) fn position(&self, text: &str, at: usize) -> Position {
         let mut line = 0usize;
         let mut begin = 0usize;

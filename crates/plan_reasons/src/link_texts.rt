@@ -1,4 +1,5 @@
-//! The line of a link: what the rule computes, where it is, what it uses, and why a pass can't evaluate it.
+//! The line of a link: what its rule computes, where the rule is, what it uses, and why a pass
+//! can't evaluate it.
 
 use crate::attributes::OccurrenceName;
 use crate::explanation::{Explanation, MAX_LINES, write_others};
@@ -31,8 +32,8 @@ impl Explanation<'_> {
         )
     }
 
-    /// Writes a line for each link, with the reason why no pass of a direction can evaluate its rule: at most
-    /// `MAX_LINES` lines, and the number of the others.
+    /// Writes a line for each link, with the reason why no pass of a direction can evaluate the
+    /// link's rule: at most `MAX_LINES` lines, and then the number of the others.
     pub(crate) fn write_stuck_links(
         &self,
         out: &mut String,
@@ -49,7 +50,8 @@ impl Explanation<'_> {
 }
 
 impl Link {
-    /// Writes why pass `pass` can't evaluate the rule. Pass `computing` computes the argument.
+    /// Writes why pass `pass` can't evaluate the link's rule. Pass `computing` computes its
+    /// argument.
     pub(crate) fn write_reason(
         &self,
         out: &mut String,
@@ -74,7 +76,7 @@ impl Link {
         }
     }
 
-    /// Writes why no pass of a direction can evaluate the rule.
+    /// Writes why no pass of a direction can evaluate the link's rule.
     fn write_stuck_reason(&self, out: &mut String, direction: Direction) -> Result<(), AllocError> {
         let (child, other) = (self.target.place, self.argument.place);
         match self.geometry(direction) {

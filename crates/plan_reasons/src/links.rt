@@ -1,5 +1,5 @@
-//! Links of a chain: the rule and the argument that a strike names, and which of the two a pass reaches
-//! first.
+//! Links of a chain: the parts of the grammar that a strike names, and where its argument is, seen
+//! from the target of its rule.
 
 ghost use Rattle.std.specs.Prelude.{◌≡◌, ◌⊎◌, IfOk, OnOk};
 ghost use Rattle.ag_grammar.specs.Lists.{AreRelated, Each, Has};
@@ -19,29 +19,31 @@ use std::alloc::Global;
 pub enum Geometry {
     /// At the same child as the target.
     Within,
-    /// At a child that the pass visits after the target's.
+    /// At a child that the pass visits after the target's child.
     Later,
-    /// Neither: the argument or the target is at the left side, or the argument is at a child that the pass visits
-    /// before the target's. The rule can use the argument if the pass or an earlier one computes it.
+    /// Neither: the argument or the target is at the left side, or the argument is at a child that
+    /// the pass visits before the target's child. The rule can use the argument if this pass or an
+    /// earlier one computes the argument.
     AtHand,
 }
 
-/// A strike, with the parts of the grammar that it names: a rule that a pass can't evaluate, and one of its
-/// arguments that is an attribute of a symbol. `Target` is an attribute at a place of the production.
+/// A strike, with the parts of the grammar that it names: a rule that a pass can't evaluate, and
+/// one of its arguments that is an attribute of a symbol. A `Target` is an attribute at a place of
+/// the production, by the numbers of the place and of the attribute.
 #[derive(Clone, Copy)]
 pub struct Link {
     /// The strike.
     pub strike: Strike,
-    /// The attribute at a place that the rule computes.
+    /// The target of the rule.
     pub target: Target,
-    /// The attribute at a place that the argument refers to.
+    /// The argument, as an attribute at a place of the production.
     pub argument: Target,
-    /// The attribute of a symbol that the argument refers to.
+    /// The same argument, as an attribute of a symbol.
     pub used: Attribute,
 }
 
 impl Link {
-    /// Returns the attribute of a symbol that the rule computes. Does not allocate.
+    /// Returns the rule's target as an attribute of a symbol. Does not allocate.
     pub fn computed(&self) -> Attribute
         ensures { result ≡ (self.now.strike.symbol, self.now.strike.attr) }
     {
@@ -56,8 +58,8 @@ impl Link {
     }
 }
 
-/// Returns where an argument at place `second` is, for a rule with a target at place `first` and a pass of a
-/// direction.
+/// Returns where an argument at place `second` is in a pass of the direction, if the target of its
+/// rule is at place `first`.
 fn geometry_of(direction: Direction, first: u16, second: u16) -> Geometry
     ensures { IsGeometry direction first second result }
 {
@@ -70,8 +72,8 @@ fn geometry_of(direction: Direction, first: u16, second: u16) -> Geometry
     Geometry::Later
 }
 
-/// Returns the link of a strike, from the production, rule and argument that it names. None if the argument
-/// is not an attribute of a symbol.
+/// Returns the link of a strike, which names this production, rule and argument. Returns `None` if
+/// the argument is not an attribute of a symbol.
 fn link_at(production: &Production, rule: &Rule, argument: Target, strike: Strike) -> Option<Link>
     ensures { IsLinkAt production.now rule.now argument strike result }
 {
@@ -87,7 +89,8 @@ fn link_at(production: &Production, rule: &Rule, argument: Target, strike: Strik
     }
 }
 
-/// Returns the link of a strike. None if the strike names no argument that is an attribute of a symbol.
+/// Returns the link of a strike. Returns `None` if the strike names no argument that is an
+/// attribute of a symbol.
 fn link_of(grammar: &Grammar, strike: Strike) -> Option<Link>
     ensures { IsLinkOrNone grammar.now strike result }
 {
@@ -114,8 +117,8 @@ fn append_link(links: &mut Vec<Link>, grammar: &Grammar, strike: Strike) -> Resu
     Ok(())
 }
 
-/// Returns the links of strikes, in their order. Strikes that have no link are left out. Fails if memory is
-/// refused.
+/// Returns the links of strikes, in their order. A strike that names no argument that is an
+/// attribute of a symbol has no link, and is left out. Fails if memory is refused.
 pub fn links_of(alloc: Global, grammar: &Grammar, strikes: &[Strike]) -> Result<Vec<Link>, NoMemory>
     ensures { IfOk result (λ links. Each (NamesAttribute grammar.now) strikes.now
         → AreRelated (IsLinkOf grammar.now) strikes.now links.items) }
@@ -127,7 +130,7 @@ pub fn links_of(alloc: Global, grammar: &Grammar, strikes: &[Strike]) -> Result<
     Ok(links)
 }
 
-/// Appends the link of a strike, if the strike waits for no other in passes of a direction.
+/// Appends the link of a strike if it is an obstacle in passes of a direction (see `obstacles_of`).
 fn append_obstacle(
     obstacles: &mut Vec<Link>,
     grammar: &Grammar,
@@ -147,8 +150,9 @@ fn append_obstacle(
     Ok(())
 }
 
-/// Returns the obstacles among strikes, in their order: the links of those that wait for no other in passes
-/// of a direction. Fails if memory is refused.
+/// Returns the links of strikes that are obstacles in passes of a direction, in the order of the
+/// strikes. A link is an obstacle if its argument is at the target's child or at a child that is
+/// visited later, so that its strike waits for no other strike. Fails if memory is refused.
 pub fn obstacles_of(
     alloc: Global,
     grammar: &Grammar,

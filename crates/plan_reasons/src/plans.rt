@@ -10,8 +10,9 @@ use ag_value::NoMemory;
 const MAX_EXPLAINED_PASSES: u16 = 20;
 
 impl Explanation<'_> {
-    /// Writes the number of passes. For each pass after pass 1 that has attributes, writes why the pass before it
-    /// can't compute one of them. Then writes hints. Fails if memory is refused.
+    /// Writes the number of passes. For each pass after pass 1 that has attributes, writes why the
+    /// pass before it can't compute one of them. Then writes the attributes that no rule uses, and
+    /// those that are only copied. Fails if memory is refused.
     pub fn write_plan(&self, out: &mut String, plan: &LeastPlan<'_>) -> Result<(), NoMemory> {
         let passes = plan.assignment.passes();
         let noun = if passes == 1 { "pass" } else { "passes" };
@@ -31,8 +32,9 @@ impl Explanation<'_> {
         self.write_hints(out)
     }
 
-    /// Writes the pass of an attribute, and why each earlier pass can't compute it, the latest one first. Explains
-    /// at most twenty passes. Fails if memory is refused.
+    /// Writes the pass of an attribute, and for each earlier pass, the latest one first, why it
+    /// can't compute the attribute. Explains at most 20 passes, and then names the others. An
+    /// attribute without a pass is written as one of pass 1. Fails if memory is refused.
     pub fn write_attribute(
         &self,
         out: &mut String,
@@ -60,7 +62,9 @@ impl Explanation<'_> {
         }
     }
 
-    /// Writes a line for each link of the chain of an attribute that a pass can't compute.
+    /// Writes a line for each link of the chain of an attribute that a pass can't compute: at most
+    /// `MAX_LINES` lines, and then the number of the others. An argument without a pass is written
+    /// as one of `pass`.
     fn write_chain(
         &self,
         out: &mut String,

@@ -12,8 +12,10 @@ use passassign::Stuck;
 const DIRECTIONS: [Direction; 2] = [Direction::RightToLeft, Direction::LeftToRight];
 
 impl Explanation<'_> {
-    /// Writes the rules that the attributes without a pass wait for, in the direction in which there are fewer
-    /// of them, or in that of pass 1 if there are as many. Then writes hints. Fails if memory is refused.
+    /// Writes the obstacles of one direction (`obstacles_of`), with the reason of each. The
+    /// direction is the one with fewer obstacles, or that of pass 1 if both have the same number.
+    /// Then writes the attributes that no rule uses, and those that are only copied. Fails if
+    /// memory is refused.
     pub fn write_stuck(&self, out: &mut String, stuck: &Stuck) -> Result<(), NoMemory> {
         let (alloc, grammar) = (self.alloc, self.grammar);
         let odd = obstacles_of(alloc, grammar, Direction::RightToLeft, stuck.odd.as_slice())?;
@@ -31,7 +33,7 @@ impl Explanation<'_> {
         self.write_hints(out)
     }
 
-    /// Writes the rules that the attributes without a pass wait for in passes of a direction.
+    /// Writes the obstacles `links` of passes of a direction, with the reason of each.
     fn write_obstacles(
         &self,
         out: &mut String,
@@ -51,8 +53,8 @@ impl Explanation<'_> {
         self.write_stuck_links(out, direction, links)
     }
 
-    /// Writes why no pass of either direction computes an attribute, or that it is not in the certificate's
-    /// set. Fails if memory is refused.
+    /// Writes why no pass of either direction computes an attribute, or that the attribute is not
+    /// in the certificate's set. Fails if memory is refused.
     pub fn write_stuck_attribute(
         &self,
         out: &mut String,

@@ -1,4 +1,5 @@
-//! What the rules of a grammar do with an attribute: whether one uses it, and whether it is only copied.
+//! What the rules of a grammar do with an attribute: whether one of them uses it, and whether the
+//! rules for it are only copies.
 
 ghost use Rattle.std.specs.Prelude.{ℕ, ◌≡◌, ◌↔◌, IsTrue, Some};
 ghost use Rattle.ag_grammar.specs.declared.grammar.Item.TheVariants as item;
@@ -20,8 +21,8 @@ fn is_symbol_at(production: &Production, place: u16, symbol: u16) -> bool
     }
 }
 
-/// Returns whether a target of a production is this attribute: the symbol is at its place, and the number is
-/// its own.
+/// Returns whether a target of a production is this attribute: the attribute's symbol is at the
+/// target's place, and the two attribute numbers are equal.
 fn is_attribute_at(production: &Production, target: Target, attribute: Attribute) -> bool
     ensures { IsTrue result ↔ IsAttributeAt production.now target attribute.0 attribute.1 }
 {
@@ -52,7 +53,8 @@ fn is_unused_in(production: &Production, attribute: Attribute) -> bool
     true
 }
 
-/// Returns whether no rule of a grammar uses an attribute. Reads at most all rules. Does not allocate.
+/// Returns whether no rule of a grammar uses an attribute. Reads each rule at most once. Does not
+/// allocate.
 pub fn is_unused(grammar: &Grammar, attribute: Attribute) -> bool
     ensures { IsTrue result ↔ IsUnused grammar.now attribute.0 attribute.1 }
 {
@@ -74,14 +76,15 @@ fn is_copy(rule: &Rule) -> bool
     }
 }
 
-/// Returns whether a rule is a copy, if it computes this attribute.
+/// Returns whether a rule is a copy or is not for this attribute.
 fn is_copied_by(production: &Production, rule: &Rule, attribute: Attribute) -> bool
     ensures { IsTrue result ↔ IsCopiedBy production.now attribute.0 attribute.1 rule.now }
 {
     !is_attribute_at(production, rule.target, attribute) || is_copy(rule)
 }
 
-/// Returns whether each rule of a production for an attribute is a copy.
+/// Returns whether each rule of a production for an attribute is a copy. Returns true if the
+/// production has no rule for the attribute.
 fn is_copied_in(production: &Production, attribute: Attribute) -> bool
     ensures { IsTrue result ↔ IsCopiedIn attribute.0 attribute.1 production.now }
 {
@@ -93,8 +96,8 @@ fn is_copied_in(production: &Production, attribute: Attribute) -> bool
     true
 }
 
-/// Returns whether each rule of a grammar for an attribute is a copy. Reads at most all rules. Does not
-/// allocate.
+/// Returns whether each rule of a grammar for an attribute is a copy. Returns true if the grammar
+/// has no rule for the attribute. Reads each rule at most once. Does not allocate.
 pub fn is_copied(grammar: &Grammar, attribute: Attribute) -> bool
     ensures { IsTrue result ↔ IsCopied grammar.now attribute.0 attribute.1 }
 {

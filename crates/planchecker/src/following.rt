@@ -1,5 +1,5 @@
-//! Runs a list of instructions as the automaton of `passcode` does, and finds the first instruction
-//! that may not come next.
+//! Runs a list of instructions through the states of a node (`Course.antt` of `passcode`), and
+//! finds the first instruction that may not come next in its state.
 
 ghost use Rattle.std.specs.Prelude.{ℕ, ◌≡◌, ◌<◌, ◌≤◌, ◌↔◌, IsTrue, Some, length, slice_get};
 ghost use Rattle.ag_grammar.specs.Lists.{Has};
@@ -33,7 +33,7 @@ pub(crate) struct NodeState<'a> {
     pub index: usize,
     /// The phase before this instruction.
     pub phase: Phase,
-    /// The number of complete children before it.
+    /// The number of complete children before this instruction.
     pub turn: usize,
 }
 
@@ -65,7 +65,8 @@ impl NodeState<'_> {
         1 + Direction::of_pass(self.context.pass).nth(self.children, turn) as u16
     }
 
-    /// Returns whether the node is in a phase, and this is the place of the child whose turn it is.
+    /// Returns whether the node is in this phase, and the child at this place is the first, in the
+    /// pass's direction, that is not complete.
     fn is_turn_of(&self, phase: Phase, place: u16) -> bool
         requires { IsOnPath self.now }
         ensures { IsTrue result ↔ IsTurnOf self.now.context.production.now self.now.context.pass
@@ -74,7 +75,7 @@ impl NodeState<'_> {
         self.phase == phase && self.turn < self.children && place == self.place(self.turn)
     }
 
-    /// Returns whether the rule with a number was run.
+    /// Returns whether the rule with this number was run.
     fn was_run(&self, number: u16) -> bool
         requires { IsOnPath self.now }
         ensures { IsTrue result ↔ Has (state_of self.now).done number }
@@ -87,7 +88,7 @@ impl NodeState<'_> {
         false
     }
 
-    /// Returns the number of children in which the pass has run.
+    /// Returns the number of children in which the pass has run. A token counts after its `Get`.
     fn run_count(&self) -> usize
         requires { IsOnPath self.now }
         ensures count { result ≡ run_count self.now.phase self.now.turn }
@@ -115,8 +116,8 @@ impl NodeState<'_> {
         false
     }
 
-    /// Returns whether an attribute at a place is available: it is of an earlier pass, or of this
-    /// one at the left side or at a child in which the pass has run.
+    /// Returns whether an attribute at a place is available: it has an earlier pass than this one,
+    /// or it has this pass and is on the left side or at a child in which the pass has run.
     fn is_available(&self, target: Target) -> bool
         requires { IsOnPath self.now }
         ensures { IsTrue result ↔ IsAvailable (passes_of self.now.context.assignment.now)
@@ -146,8 +147,9 @@ impl NodeState<'_> {
         true
     }
 
-    /// Returns whether the rule with a number may compute an attribute at a place now: it is a rule for
-    /// this attribute, which has the pass, its arguments are available, and it was not run.
+    /// Returns whether the rule with this number may compute an attribute at a place now: the
+    /// production has such a rule, the rule is for this attribute, the attribute has this pass, the
+    /// rule's arguments are available, and the rule was not run.
     fn may_compute(&self, target: Target, number: u16) -> bool
         requires { IsOnPath self.now }
         ensures { IsTrue result ↔ MayCompute (passes_of self.now.context.assignment.now)
@@ -165,8 +167,8 @@ impl NodeState<'_> {
         self.are_available(rule.args.as_slice())
     }
 
-    /// Returns whether the rule with this number and target is done: it was run, or its target does not
-    /// have the pass.
+    /// Returns whether the rule with this number and target is done: the rule was run, or the
+    /// target does not have this pass.
     fn is_done(&self, number: u16, target: Target) -> bool
         requires { IsOnPath self.now }
         ensures { IsTrue result ↔ (HasPass (passes_of self.now.context.assignment.now)
@@ -176,7 +178,7 @@ impl NodeState<'_> {
         !self.context.has_pass(target) || self.was_run(number)
     }
 
-    /// Returns whether each rule of the pass with a target at a place was run.
+    /// Returns whether each rule was run whose target is at this place and has this pass.
     fn are_done(&self, place: u16) -> bool
         requires { IsOnPath self.now }
         ensures { IsTrue result ↔ AreDone (passes_of self.now.context.assignment.now)
@@ -190,7 +192,7 @@ impl NodeState<'_> {
         true
     }
 
-    /// Returns whether each rule of the pass was run.
+    /// Returns whether each rule was run whose target has this pass.
     fn are_all_done(&self) -> bool
         requires { IsOnPath self.now }
         ensures { IsTrue result ↔ ((j : ℕ) → AreDone (passes_of self.now.context.assignment.now)
@@ -282,8 +284,8 @@ impl NodeState<'_> {
 }
 
 /// Returns the index of the first instruction such that no list that agrees begins with the
-/// instructions up to and including it. It is the length of the list if the list ends too early, and
-/// `None` if the list agrees.
+/// instructions up to and including it. Returns the length of the list if the list ends too early,
+/// and `None` if the list agrees.
 fn first_wrong_index(context: &ListContext, list: &[Instr]) -> Option<usize>
     requires planned { IsPlanned (passes_of context.now.assignment.now) context.now.production.now }
     requires pass { 1 ≤ context.now.pass }
@@ -314,8 +316,9 @@ fn first_wrong_index(context: &ListContext, list: &[Instr]) -> Option<usize>
     }
 }
 
-/// Returns the pass of the first list of a production that does not agree, and the list's first wrong
-/// index. `None` if all lists agree. `lists` are those of the production, the first for pass 1.
+/// Returns the pass of the first list of a production that does not agree, and the list's first
+/// wrong index. Returns `None` if all lists agree. `lists` are those of the production, the first
+/// for pass 1.
 pub(crate) fn first_wrong_list(
     assignment: &Assignment,
     production: &Production,

@@ -54,16 +54,15 @@ impl Candidates for PassCandidates<'_> {
     ghost within = { λ x s a h. later_from (passes_of x.assignment.now) x.pass s a h };
 }
 
-/// Returns whether an attribute is struck, if its pass `own` is later than `pass`. True if it is not
-/// later.
+/// Returns whether an attribute is struck, or its pass `own` is not later than `pass`.
 fn is_struck_if_later(struck: &Marks, pass: u16, own: u16, symbol: usize, attr: usize) -> bool
     ensures { IsTrue result ↔ (pass < own → IsMarked struck.now symbol attr) }
 {
     own <= pass || struck.has(symbol, attr)
 }
 
-/// Returns whether each attribute of a symbol that has a later pass is struck. `row` has the passes of
-/// the symbol's attributes.
+/// Returns whether each attribute of a symbol that has a later pass than `pass` is struck. `row`
+/// has the passes of the symbol's attributes.
 fn is_row_struck(struck: &Marks, pass: u16, row: &[u16], symbol: usize) -> bool
     ensures { IsTrue result ↔ EachAt (λ a p. pass < p → IsMarked struck.now symbol a) row.now }
 {
@@ -75,7 +74,7 @@ fn is_row_struck(struck: &Marks, pass: u16, row: &[u16], symbol: usize) -> bool
     true
 }
 
-/// Returns whether each attribute that has a later pass is struck.
+/// Returns whether each attribute that has a later pass than `pass` is struck.
 fn are_later_struck(rows: &[Vec<u16>], pass: u16, struck: &Marks) -> bool
     ensures { IsTrue result ↔ ((s a : ℕ) → HasPassAfter (passes_of (numbers_of rows.now)) pass s a
         → IsMarked struck.now s a) }
@@ -114,18 +113,18 @@ fn are_all_strikes(grammar: &Grammar, assignment: &Assignment, lists: &[Items<St
     true
 }
 
-/// Returns whether lists are the strikes of an assignment's passes, one list for each pass. The list
-/// of pass k strikes each attribute that has a later pass, once, and no others. Each strike names a
-/// rule for its attribute and an argument of this rule that is not computed when the pass reaches the
-/// rule: the argument is struck before, or it has pass k or a later one and is at the same child as the
-/// rule's target or at one visited later.
+/// Returns whether lists are the strikes of an assignment's passes, one list for each pass. The
+/// list of pass k strikes each attribute that has a later pass, once, and no other attribute. Each
+/// strike names a rule for its attribute and an argument of this rule. The argument is an attribute
+/// that is struck earlier in the list; or it has pass k or a later one, and is at the same child as
+/// the rule's target or at one that pass k visits later.
 ///
-/// If they are, no legal assignment gives any attribute an earlier pass than `assignment` does. So an
-/// assignment that `check_plan` also accepts is the least one.
+/// If the result is true, no legal assignment gives any attribute an earlier pass than `assignment`
+/// does. So an assignment that `check_plan` also accepts is the least one.
 ///
 /// Does not allocate, whatever numbers the lists have. A good strike is of an attribute of the
-/// grammar that no earlier one strikes, so at most 4,097 strikes of each list are read. For each of
-/// them the items of a right side are read at most twice. Marks of struck attributes take 4,096
+/// grammar that no earlier one strikes, so at most 4,097 strikes of each list are read. For each
+/// strike the items of a right side are read at most twice. Marks of struck attributes take 4,096
 /// bytes of stack.
 pub fn check_least(grammar: &Grammar, assignment: &Assignment, strikes: &Strikes) -> bool
     ensures strikes { IsTrue result

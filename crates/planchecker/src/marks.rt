@@ -10,7 +10,8 @@ use ag_grammar::limits::{MAX_ATTRIBUTES, MAX_SYMBOLS};
 /// The number of attributes that a grammar may have.
 const MAX_SLOTS: usize = MAX_SYMBOLS * MAX_ATTRIBUTES;
 
-/// Marks of attributes, by the numbers of their symbols and their own, from 0: one byte for each.
+/// Marks of attributes: one byte for each attribute that a grammar may have. The mark of attribute
+/// a of symbol s, both numbered from 0, is at index `s * MAX_ATTRIBUTES + a`.
 #[derive(Drop)]
 pub(crate) struct Marks {
     pub slots: [bool; MAX_SLOTS],
@@ -27,7 +28,8 @@ impl Marks {
         }
     }
 
-    /// Returns whether an attribute is marked; false for numbers beyond the limits of a grammar.
+    /// Returns whether an attribute is marked. Returns false for numbers beyond the limits of a
+    /// grammar.
     pub(crate) fn has(&self, symbol: usize, attr: usize) -> bool
         ensures { IsTrue result ↔ IsMarked self.now symbol attr }
     {

@@ -1,8 +1,10 @@
-//! The check that strikes are good in a pass, one after the other. Both kinds of certificate use it.
+//! The check that strikes are good in a pass, one after the other. Both kinds of certificate use
+//! it.
 //!
-//! A strike names an attribute, a rule for it and an argument of that rule. It is good if this argument is
-//! a reason why the pass can't compute the attribute: it was struck before, or it is a candidate at the
-//! same child as the rule's target, or at a child that the direction visits later.
+//! A strike names an attribute, a rule for it and an argument of that rule. It is good if this
+//! argument is a reason why the pass can't compute the attribute: the argument was struck before,
+//! or it is a candidate at the same child as the rule's target or at a child that the direction
+//! visits later.
 
 ghost use Rattle.std.specs.Prelude.{ℕ, ◌≡◌, ◌↔◌, IfSome, IsSome, IsTrue, Some, slice_get, take};
 ghost use Rattle.ag_grammar.specs.declared.direction.Direction.{Direction as TheDirection};
@@ -17,16 +19,16 @@ use crate::marks::Marks;
 use ag_grammar::{Direction, Grammar, Item, Production, Target};
 use passassign::{Strike, is_same_or_later};
 
-/// The attributes that are candidates for a pass, and the later ones among them: those that the pass
-/// has to strike, since they have a later pass or none.
+/// The candidates for a pass, and those of them that the pass has to strike, since they have a
+/// later pass or none. The latter are named `later`.
 pub(crate) trait Candidates {
     /// The direction of the pass.
     ghost direction: { Self → TheDirection };
 
-    /// The candidates, by their symbols' numbers and their own.
+    /// Whether attribute a of symbol s is a candidate, by these two numbers in the order s, a.
     ghost candidates: { Self → ℕ → ℕ → Type 0 };
 
-    /// Those of the candidates that the pass has to strike.
+    /// Whether the pass has to strike attribute a of symbol s.
     ghost later: { Self → ℕ → ℕ → Type 0 };
 
     /// Returns the direction of the pass.
@@ -41,10 +43,11 @@ pub(crate) trait Candidates {
     fn is_later(&self, symbol: u16, attr: u16) -> bool
         ensures { IsTrue result ↔ later self.now symbol attr };
 
+    /// An attribute that the pass has to strike is a candidate.
     ghost within: { (x : Self) (s a : ℕ) → later x s a → candidates x s a };
 }
 
-/// Returns whether an attribute of an item is struck. False for `None` and for a terminal.
+/// Returns whether an attribute of an item is struck. Returns false for `None` and for a terminal.
 fn is_item_struck(struck: &Marks, item: Option<Item>, attr: u16) -> bool
     ensures { IsTrue result ↔ IsOneOf (IsMarked struck.now) item attr }
 {
@@ -55,7 +58,7 @@ fn is_item_struck(struck: &Marks, item: Option<Item>, attr: u16) -> bool
     }
 }
 
-/// Returns whether an attribute of an item is a candidate. False for `None` and for a terminal.
+/// Returns whether an attribute of an item is a candidate. Returns false for `None` and a terminal.
 fn is_item_candidate<C: Candidates>(candidates: &C, item: Option<Item>, attr: u16) -> bool
     ensures { IsTrue result ↔ IsOneOf (C.candidates candidates.now) item attr }
 {
@@ -66,8 +69,8 @@ fn is_item_candidate<C: Candidates>(candidates: &C, item: Option<Item>, attr: u1
     }
 }
 
-/// Returns whether an argument of a rule is a reason why a pass can't compute the rule's target, which
-/// is at place `place`.
+/// Returns whether an argument of a rule is a reason why a pass can't compute the rule's target,
+/// which is at place `place`. `struck` marks the attributes that are struck already.
 fn is_reason<C: Candidates>(
     candidates: &C,
     struck: &Marks,
@@ -97,8 +100,8 @@ fn is_symbol(production: &Production, place: u16, symbol: u16) -> bool
     }
 }
 
-/// Returns whether a strike is good if these attributes are struck: its production, rule and argument
-/// exist, the rule is one for its attribute, and the argument is a reason.
+/// Returns whether a strike is good if the marked attributes are struck: its production, rule and
+/// argument exist, the rule's target is the strike's attribute, and the argument is a reason.
 fn is_good<C: Candidates>(grammar: &Grammar, candidates: &C, struck: &Marks, strike: Strike) -> bool
     ensures { IsTrue result ↔ IsGoodWhere grammar.now (C.direction candidates.now)
         (C.candidates candidates.now) (IsMarked struck.now) strike }
@@ -119,8 +122,8 @@ fn is_good<C: Candidates>(grammar: &Grammar, candidates: &C, struck: &Marks, str
     is_reason(candidates, struck, production, target.place, *argument)
 }
 
-/// Returns whether a strike may come next if these attributes are struck: it is of an attribute that
-/// is not struck yet and that the pass has to strike, and it is good.
+/// Returns whether a strike may come next if the marked attributes are struck: its attribute is not
+/// struck yet, the pass has to strike this attribute, and the strike is good.
 fn is_next<C: Candidates>(grammar: &Grammar, candidates: &C, struck: &Marks, strike: Strike) -> bool
     ensures { IsTrue result ↔ IsNextWhere grammar.now (C.direction candidates.now)
         (C.candidates candidates.now) (C.later candidates.now) (IsMarked struck.now) strike }
@@ -130,8 +133,8 @@ fn is_next<C: Candidates>(grammar: &Grammar, candidates: &C, struck: &Marks, str
         && is_good(grammar, candidates, struck, strike)
 }
 
-/// Returns marks of the attributes that a list strikes, or `None` if one of the strikes may not come next
-/// after those before it. Does not allocate.
+/// Returns marks of the attributes that a list strikes, or `None` if one of the strikes may not
+/// come after those before it. Does not allocate.
 pub(crate) fn marks_of<C: Candidates>(
     grammar: &Grammar,
     candidates: &C,
@@ -143,7 +146,8 @@ pub(crate) fn marks_of<C: Candidates>(
     ensures marks { IfSome result
         (λ m. (s a : ℕ) → IsMarked m s a ↔ IsStruckBy strikes.now s a) }
 {
-    // for its contract alone: the grammar is accepted, so its numbers are within the limits
+    // The call has no effect. By its contract the grammar is accepted, so the symbol and the
+    // attribute of a good strike have numbers that are small enough for `mark`.
     let _productions = grammar.productions();
     let mut struck = Marks::new();
     for strike in strikes {

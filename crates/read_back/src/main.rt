@@ -40,8 +40,9 @@ fn status(fault: FrameFault) -> u8 {
     }
 }
 
-/// Returns the number of records of the file that the command line names. Fails with D1 Device if the
-/// command line names none, or the file can't be opened.
+/// Returns the number of records of the file that the command line names. Fails with D1 Device if
+/// the command line names no file or the file can't be opened, with NoMemory if memory for the
+/// words of the command line is refused, and otherwise as `records` does.
 fn run<R: Env + Eprint + Files + AllocGlobal>(rt: &R, alloc: Global) -> Result<u64, FrameFault> {
     let words = match std::env::args(rt) {
         Ok(words) => words,
@@ -68,8 +69,8 @@ fn run<R: Env + Eprint + Files + AllocGlobal>(rt: &R, alloc: Global) -> Result<u
     }
 }
 
-/// Returns the number of records of the tree file of a device. A call of the reader for which memory was
-/// refused is made a second time.
+/// Returns the number of records of the tree file of a device. A call of the reader for which
+/// memory was refused is made a second time. Fails as `start_twice` and `Back::back` do.
 fn records<R: Eprint, D: Device>(
     rt: &R,
     alloc: Global,
@@ -92,7 +93,7 @@ fn records<R: Eprint, D: Device>(
     }
 }
 
-/// Starts a reader, and tries a second time if memory was refused. Fails as `Back::start` does.
+/// Starts a reader, and tries a second time if memory was refused. Fails as `start` does.
 fn start_twice<R: Eprint, D: Device>(
     rt: &R,
     alloc: Global,
@@ -111,7 +112,8 @@ fn start_twice<R: Eprint, D: Device>(
     }
 }
 
-/// Starts a reader of the tree file of a version. Fails as `Back::start` does.
+/// Starts a reader of the tree file of a version. Fails as `Back::start` does, or for version 1 as
+/// `Back::start_old` does.
 fn start<D: Device>(alloc: Global, version: FileVersion, device: &mut D) -> Result<Back, FrameFault>
     ensures over { IfOk result (λ back. WhenHonest (D.is_honest device.new)
         (IsOver (D.content device.new) back)) }

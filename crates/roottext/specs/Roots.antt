@@ -19,8 +19,8 @@ use Rattle.treefile.specs.declared.reading.FrameFault.TheVariants as frame_fault
 use Rattle.roottext.specs.declared.fault.OutFault.{OutFault}
 use Rattle.roottext.specs.declared.fault.OutFault.TheVariants as out_fault
 
--- A body is the root's record in a file of the last pass, and has this value for `out`: it is the record of a node of the start
--- symbol with well values.
+-- A body is a root's record in a file of the last pass, which means the record of a node of the start symbol with well values. It
+-- has the value x for `out`.
 pub record IsRootRecord (g : Grammar) (assignment : List (List ℕ)) (body : List ℕ) (x : Value) : Type 0 where
   pub last : ℕ
   pub greatest : IsGreatest last assignment
@@ -44,9 +44,9 @@ pub record EndsWithNoRoot (g : Grammar) (assignment : List (List ℕ)) (content 
   pub begins : last_body_of version_two content ≢ Err frame_fault.NotATreeFile
   pub none : (x : Value) → EndsWithRoot g assignment content x → ⊥
 
--- The meaning of the value found at the end of a content: the value of the root's `out`; B1 if the content
--- does not begin as a tree file, and B2 if it does but has no root's record there. A device failure and
--- NoMemory have no meaning.
+-- The meaning of the value or the fault found at the end of a content. A value is that of the root's `out`. B1 means that the
+-- content does not begin as a tree file, and B2 that it does but has no root's record there. A device failure and NoMemory have
+-- no meaning.
 abbrev pub FindsValue : Grammar → List (List ℕ) → List ℕ → Result Value FrameFault → Type 0
 FindsValue g assignment content (Ok x) = EndsWithRoot g assignment content x
 FindsValue g assignment content (Err frame_fault.NotATreeFile) = last_body_of version_two content ≡ Err frame_fault.NotATreeFile
@@ -71,8 +71,8 @@ FindsText g assignment content (Err (out_fault.Damaged at)) = FindsValue g assig
 FindsText g assignment content (Err out_fault.Device) = Unit {0}
 FindsText g assignment content (Err out_fault.NoMemory) = Unit {0}
 
--- The result for a tree with its values: the translation if that is a text, else O1 with it; the file is not
--- damaged. A device failure and NoMemory have no meaning.
+-- The result for a tree with its values: the value of the root's `out` if it is a text, else O1 with this value. B1 and B2 do not
+-- come. A device failure and NoMemory have no meaning.
 abbrev pub IsRootText : Grammar → Valuation → Result (List ℕ) OutFault → Type 0
 IsRootText g v (Ok text) = IsTranslation g v (Text text)
 IsRootText g v (Err (out_fault.NoText x)) = IsTranslation g v x × IsNoText x

@@ -20,7 +20,7 @@ use planchecker::Plan;
 use std::alloc::Global;
 use treefile::{Device, FrameFault, last_body};
 
-/// Returns the index of `out` among names.
+/// Returns the index of the first name `out` among names, or `None` if there is none.
 fn out_among(names: &[Text]) -> Option<usize>
     ensures some { IfSome result (λ a. slice_get names.now a ≡ Some out_name) }
     ensures none { result ≡ None → Has names.now out_name → ⊥ }
@@ -33,8 +33,8 @@ fn out_among(names: &[Text]) -> Option<usize>
     None
 }
 
-/// Returns the number of the attribute `out` of the start symbol. Each accepted grammar has this attribute:
-/// a grammar without it is refused with N3.
+/// Returns the number of the attribute `out` of the start symbol, from 0. The type `Grammar`
+/// contains only accepted grammars, and each of them has this attribute.
 fn out_number(grammar: &Grammar) -> usize
     ensures out { IsOut grammar.now result }
     ensures accepted { IsAccepted grammar.now }
@@ -46,8 +46,9 @@ fn out_number(grammar: &Grammar) -> usize
     }
 }
 
-/// Reads the value of the attribute number `out` in `body`, the root's record in the file of the last
-/// pass. Calls `read_node` as one pass more would, which would read this file.
+/// Reads the value of the attribute number `out` in `body`, the root's record in the file of the
+/// last pass. `read_node` reads records of the file of the pass before that of its setting, so the
+/// setting has a pass after the last one, though no such pass runs.
 ///
 /// Fails with `Damaged` if the body is not such a record, and with `NoMemory` if memory is refused.
 fn read_out(
@@ -75,7 +76,8 @@ fn read_out(
     Ok(values.swap_remove(out))
 }
 
-/// Returns the value that `read_out` reads, with one owner. Fails as `read_out` does.
+/// Returns the value that `read_out` reads, converted from `Carried` to `Value`. Fails as
+/// `read_out` does.
 fn out_value(
     alloc: Global,
     grammar: &Grammar,
@@ -132,11 +134,12 @@ fn last_value<D: Device>(
 /// pass on a device. It is in the last record of the file; no other record is read.
 ///
 /// Fails with O1 NoText and the value if it is a number, a list, a table or an error. Fails with B1
-/// NotATreeFile if there are fewer than 6 bytes or the first four are not `AGT2`; else with B2
-/// Damaged and the number of bytes as its offset, if no frame ends there, or if its body is not the
-/// record of a production of the start symbol with a well value for each attribute, then the copies
-/// of its children's values, and no more bytes. Fails with D1 Device if a call of the device failed, and
-/// with NoMemory if memory was refused.
+/// NotATreeFile if there are fewer than 6 bytes or the first four are not `AGT2`. Otherwise fails
+/// with B2 Damaged, and the number of bytes as its offset, if no frame ends at the end of the file,
+/// or if the body of the last frame is not a root's record. A root's record has a production of the
+/// start symbol, a well value for each attribute, the copies of the children's values, and no more
+/// bytes. Fails with D1 Device if a call of the device failed, and with NoMemory if memory was
+/// refused.
 ///
 /// The number of the pass in the header is ignored. Takes memory for the record and for its values.
 pub fn root_text<D: Device>(
@@ -149,7 +152,7 @@ pub fn root_text<D: Device>(
     // The text, O1, B1 and B2 agree with the content.
     ensures found { WhenHonest (D.is_honest device.new)
         (FindsText grammar.now plan.now.0 (D.content device.old) result) }
-    // For the file of a tree: the translation, or O1 with it.
+    // For the file of a tree: the value of the root's `out` if it is a text, or O1 with this value.
     ensures root { WhenHonest (D.is_honest device.new)
         (MatchesRoot grammar.now plan.now.0 (D.content device.old) result) }
     // on any device

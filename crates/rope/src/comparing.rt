@@ -4,13 +4,14 @@ ghost use Rattle.std.specs.Prelude.{◌≡◌, ◌↔◌, ◌+◌, ◌≤◌, dr
 
 use crate::rope::{Rope, RopeNode};
 
-/// The greatest number of bytes of a block: ropes that are cut at different places are compared block
-/// by block.
+/// The greatest number of bytes of a block. Two ropes of which the left sides have different
+/// lengths are compared block by block.
 const BLOCK: usize = 1024;
 
 impl Rope {
-    /// Returns whether two ropes have the same bytes. Takes no memory. Where both are cut at the same
-    /// place, their sides are compared, the shorter ones by recursion and the longer ones in the loop.
+    /// Returns whether two ropes have the same bytes. Takes no memory. As long as both are two
+    /// ropes with left sides of the same length, compares the shorter sides by recursion and goes
+    /// on with the longer ones. Calls `same_by_blocks` for the rest.
     #[tactic(auto, using(crate::proofs::Sides::sides))]
     pub fn same(&self, other: &Rope) -> bool
         ensures { IsTrue result ↔ (self.now ≡ other.now) }
@@ -48,8 +49,8 @@ impl Rope {
         same_by_blocks(one, another)
     }
 
-    /// Returns whether the rope has exactly these bytes. Takes no memory. The shorter side is compared
-    /// by recursion and the longer one in the loop.
+    /// Returns whether the rope has exactly these bytes. Takes no memory. The shorter side is
+    /// compared by recursion and the longer one in the loop.
     #[tactic(auto, using(crate::proofs::Sides::sides))]
     pub fn has_bytes(&self, bytes: &[u8]) -> bool
         ensures { IsTrue result ↔ (self.now ≡ bytes.now) }
@@ -84,8 +85,8 @@ impl Rope {
     }
 }
 
-/// Returns whether two ropes of the same length have the same bytes. If neither rope is one piece, they
-/// are compared block by block.
+/// Returns whether two ropes of the same length have the same bytes. Compares them block by block
+/// if neither rope is one piece, and otherwise piece by piece.
 fn same_by_blocks(one: &Rope, another: &Rope) -> bool
     requires { length one.now ≡ length another.now }
     ensures { IsTrue result ↔ (one.now ≡ another.now) }

@@ -6,7 +6,7 @@ use crate::rope::{Rope, RopeNode};
 use std::alloc::AllocError;
 
 impl Rope {
-    /// Fills a slice of the rope's length with its bytes. Takes no memory.
+    /// Fills a slice of the rope's length with the rope's bytes. Takes no memory.
     pub fn copy_to(&self, out: &mut [u8])
         requires { length out.old ≡ length self.now }
         ensures { out.new ≡ self.now }
@@ -24,6 +24,7 @@ impl Rope {
         let mut from = from;
         let mut at = 0;
         let mut end = out.len();
+        // Still to be filled: `out[at..end]`, with the bytes of `rope` from index `from` on.
         while let RopeNode::Joined(pair) = &rope.node {
             let pair = pair.as_ref();
             let (left, right) = (&pair.left, &pair.right);
@@ -56,7 +57,8 @@ impl Rope {
         out[at..end].copy_from_slice(&piece.as_slice()[from..last]);
     }
 
-    /// Appends a copy of the bytes to a vector. Fails with AllocError; the vector is then unchanged.
+    /// Appends a copy of the bytes to a vector. Fails with AllocError; the bytes of the
+    /// vector are then unchanged.
     pub fn append_to(&self, out: &mut Vec<u8>) -> Result<(), AllocError>
         ensures ok { OnOk result (out.new.items ≡ out.old.items ++ self.now) }
         ensures err { OnErr result (out.new.items ≡ out.old.items) }

@@ -1,4 +1,4 @@
-//! One rope after another.
+//! Joining two ropes.
 
 ghost use Rattle.std.specs.Prelude.{◌≡◌, ◌++◌, ◌+◌, ◌<◌, ◌^◌, length, IfOk, IfSome};
 
@@ -8,15 +8,15 @@ use std::alloc::{AllocError, Global};
 /// The greatest length in bytes of a piece that is made of two.
 const MAX_PIECE: usize = 256;
 
-/// The greatest depth of a piece that is extended: the root has depth 0. If a text gets nodes at both
-/// ends in turn, the piece at the end that got a node last has depth 1, and that at the other end has
-/// depth 2.
+/// The greatest depth of a piece that is extended: the root has depth 0. If a text gets nodes at
+/// both ends in turn, the piece at the end that got a node last has depth 1, and that at the other
+/// end has depth 2.
 const MAX_LEVELS: u32 = 2;
 
 impl Rope {
-    /// Joins two ropes in constant time. A rope of one piece becomes part of the piece that it meets in
-    /// the other rope, if that piece is at most two nodes below the root and both pieces together have
-    /// at most 256 bytes. Fails with AllocError.
+    /// Joins two ropes in constant time. A rope of one piece becomes part of the piece that it
+    /// meets in the other rope, if that piece is at most two nodes below the root and both pieces
+    /// together have at most 256 bytes. Fails with AllocError.
     pub fn join(alloc: Global, left: Rope, right: Rope) -> Result<Rope, AllocError>
         requires { length left + length right < 2 ^ 64 }
         ensures { IfOk result (λ rope. rope ≡ left ++ right) }
@@ -35,8 +35,9 @@ impl Rope {
     }
 }
 
-/// Returns the rope with `bytes` added at the front of its first piece, or `None` if that piece is more
-/// than `levels` nodes below the root or has no room for them. Fails with AllocError.
+/// Returns the rope with `bytes` added at the beginning of its first piece, or `None` if the piece
+/// is more than `levels` nodes below the root or would have more than `MAX_PIECE` bytes. Fails with
+/// AllocError.
 fn extend_first(
     alloc: Global,
     bytes: &[u8],
@@ -61,8 +62,9 @@ fn extend_first(
     }
 }
 
-/// Returns the rope with `bytes` added at the end of its last piece, or `None` if that piece is more
-/// than `levels` nodes below the root or has no room for them. Fails with AllocError.
+/// Returns the rope with `bytes` added at the end of its last piece, or `None` if the piece is more
+/// than `levels` nodes below the root or would have more than `MAX_PIECE` bytes. Fails with
+/// AllocError.
 fn extend_last(
     alloc: Global,
     rope: &Rope,

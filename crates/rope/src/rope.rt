@@ -8,17 +8,17 @@ use std::fmt;
 use std::marker::Model;
 use std::rc::Rc;
 
-/// Bytes with several owners: one piece, or two ropes one after the other. `share` copies no byte, and
-/// `join` at most 256. The tree is not balanced, and may be deep. So `drop`, `same` and `has_bytes`
-/// recurse into the side with fewer bytes, and `copy_part` into the side with fewer bytes to copy, and
-/// they loop over the other side: the depth of recursion is at most the number of bits of the length.
-/// `join` recurses at most twice.
+/// Bytes with several owners: one piece, or two ropes one after the other. `share` copies no byte,
+/// and `join` at most 256. The tree is not balanced, and may be deep. So `drop`, `same` and
+/// `has_bytes` recurse into the side with fewer bytes, and `copy_part` into the side with fewer
+/// bytes to copy, and they loop over the other side: the depth of recursion is at most the number
+/// of bits of the length. `join` recurses at most twice.
 #[cycle(rope)]
 pub struct Rope {
     pub(crate) node: RopeNode,
 }
 
-/// The root of a rope.
+/// A node of the tree: the root of a rope.
 #[cycle(rope)]
 pub(crate) enum RopeNode {
     /// Bytes in one vector.
@@ -48,6 +48,7 @@ impl Model for Rope {
 
     ghost invariant = { λ r. IsNode r.node };
 
+    // Each side is shorter than its node, since neither is empty: so a recursion into a side ends.
     ghost size = { length };
 
     ghost use Rattle.std.proofs.Common.{arith, length-append};
@@ -62,8 +63,8 @@ impl fmt::Debug for Rope {
 }
 
 impl Drop for Rope {
-    /// Drops the shorter side by recursion and the longer one in the loop. A node that has another owner
-    /// stays.
+    /// Drops the shorter side by recursion and the longer one in the loop. A node that has another
+    /// owner stays.
     fn drop(mut self) {
         loop {
             let Rope { node } = self;
@@ -97,8 +98,8 @@ impl Rope {
         })
     }
 
-    /// Returns the number of bytes. Takes no memory. The clause `bytes` says that each of them is below
-    /// 256: that is part of the invariant, and callers may need it.
+    /// Returns the number of bytes. Takes no memory. Contracts see the bytes as a list of numbers,
+    /// and the clause `bytes` says that each of them is below 256.
     pub fn len(&self) -> usize
         ensures len { result ≡ length self.now }
         ensures bytes { AreBytes self.now }
@@ -121,8 +122,8 @@ impl Rope {
         Ok(Rope { node })
     }
 
-    /// Returns two ropes, one after the other, as a node with two sides; if one is empty, the other alone.
-    /// Fails with AllocError.
+    /// Returns two ropes, one after the other, as a node with two sides; if one is empty, the other
+    /// alone. Fails with AllocError.
     pub(crate) fn pair(alloc: Global, left: Rope, right: Rope) -> Result<Rope, AllocError>
         requires { length left + length right < 2 ^ 64 }
         ensures { IfOk result (λ rope. rope ≡ left ++ right) }

@@ -1,5 +1,5 @@
-//! Tests of deep ropes, since no clause bounds the depth of recursion, and of a text that grows at both
-//! ends.
+//! Tests of deep ropes, since no clause bounds the depth of recursion, and of a text that grows at
+//! both ends.
 
 use crate::rope::Rope;
 use std::alloc::{AllocError, Global};
@@ -19,8 +19,8 @@ fn single(alloc: Global, byte: u8) -> Result<Rope, AllocError> {
     Rope::from_vec(alloc, [byte].to_vec(alloc)?)
 }
 
-/// Returns a node over two ropes. Fails with AllocError, also if one of them has more than 1,000,000
-/// bytes.
+/// Returns a node over two ropes. Fails with AllocError, also if one of them has more than
+/// 1,000,000 bytes: so their lengths together are below 2^64, as `Rope::pair` requires.
 fn pair(alloc: Global, left: Rope, right: Rope) -> Result<Rope, AllocError> {
     if left.len() > 1_000_000 || right.len() > 1_000_000 {
         return Err(AllocError);
@@ -28,7 +28,8 @@ fn pair(alloc: Global, left: Rope, right: Rope) -> Result<Rope, AllocError> {
     Rope::pair(alloc, left, right)
 }
 
-/// Joins two ropes. Fails with AllocError, also if one of them has more than 1,000,000 bytes.
+/// Joins two ropes. Fails with AllocError, also if one of them has more than 1,000,000 bytes: so
+/// their lengths together are below 2^64, as `Rope::join` requires.
 fn join(alloc: Global, left: Rope, right: Rope) -> Result<Rope, AllocError> {
     if left.len() > 1_000_000 || right.len() > 1_000_000 {
         return Err(AllocError);
@@ -62,6 +63,7 @@ fn deep_ropes(rt: HostRuntime) -> Result<(), Fail> {
     let mut bytes = Vec::new(rt.alloc());
     end.append_to(&mut bytes)?;
     assert_eq!(rt; bytes.len(), 200_001);
+    // `byte_at(200_000)`
     assert_eq!(rt; bytes.get(200_000).copied(), Some(204));
     assert!(rt; start.has_bytes(bytes.as_slice()));
     let shared = end.share()?;
@@ -80,6 +82,7 @@ fn text_that_grows_at_both_ends(rt: HostRuntime) -> Result<(), Fail> {
     let mut bytes = Vec::new(rt.alloc());
     rope.append_to(&mut bytes)?;
     assert_eq!(rt; bytes.len(), 2_001);
+    // 246 is `byte_at(999)`, the byte that was added last at both ends.
     assert_eq!(rt; bytes.get(0).copied(), Some(246));
     assert_eq!(rt; bytes.get(1_000).copied(), Some(b'-'));
     assert_eq!(rt; bytes.get(2_000).copied(), Some(246));

@@ -1,10 +1,10 @@
-//! The current texts, about which the questions are.
+//! The texts that questions are about: the current text, and the text of the current grammar.
 
 use crate::text_changes::change_text;
 use crate::words::Mistake;
 use std::alloc::{AllocError, Global};
 
-/// The current texts, about which the questions are.
+/// The texts that questions are about.
 #[derive(Drop)]
 pub struct CurrentTexts {
     /// The current text.
@@ -22,7 +22,9 @@ impl CurrentTexts {
         }
     }
 
-    /// Runs the line if its verb changes a text. Returns whether it does.
+    /// Runs a line if its verb, which is its first word, changes a text; `rest` is the text after
+    /// the verb. Returns whether the verb changes one. Fails with `Misspelt` if a word of `rest` is
+    /// wrong, and with `NoMemory` if memory is refused.
     pub fn follow(&mut self, alloc: Global, verb: &str, rest: &str) -> Result<bool, Mistake> {
         if change_text(alloc, &mut self.text, verb, rest)? {
             return Ok(true);

@@ -1,4 +1,5 @@
-//! Rows: lines of data with a question about a public call and its answer. The prover doesn't check them.
+//! Runs rows of data. A row is a line with a question, such as one about a public call, and a line
+//! `= ANSWER` for each line of the expected answer. The prover doesn't check the answers.
 #![tactic(auto)]
 
 pub mod current_texts;

@@ -7,13 +7,16 @@ use std::io;
 
 /// Answers the questions of rows.
 pub trait Questions {
-    /// Runs the line if its verb changes the state of these questions, such as a current value. Returns whether it
-    /// does.
+    /// Runs a line if its verb, the first word, changes the state of these questions, such as a
+    /// current value; `_rest` is the text after the verb. Returns whether the verb changes the
+    /// state. Fails with the mistake of the line, or with `NoMemory` if memory is refused.
     fn follow(&mut self, _alloc: Global, _verb: &str, _rest: &str) -> Result<bool, Mistake> {
         Ok(false)
     }
 
-    /// Answers the question that begins with a verb. Fails with `Misspelt` if no question has that verb.
+    /// Answers the question that begins with a verb; `rest` is the text after the verb. Fails with
+    /// `Misspelt` if no question has that verb, and otherwise with the mistake of the line, or with
+    /// `NoMemory` if memory is refused.
     fn answer(
         &self,
         alloc: Global,
@@ -23,7 +26,9 @@ pub trait Questions {
     ) -> Result<String, Mistake>;
 }
 
-/// Runs the rows on standard input. Prints each wrong line with its number, and then the number of right answers.
+/// Runs the rows on standard input. Prints each wrong line with its number, from 1, and then the
+/// number of right answer lines. Fails if standard input can't be read, if standard output can't be
+/// written, or if memory is refused.
 pub fn try_rows<R: Input + Print, Q: Questions>(
     rt: &R,
     alloc: Global,
@@ -34,7 +39,8 @@ pub fn try_rows<R: Input + Print, Q: Questions>(
     println!(rt; "{} answers are right", sheet.right)
 }
 
-/// Runs the lines on standard input. Prints each wrong line with its number, from 1.
+/// Runs the lines on standard input. Prints each wrong line with its number, from 1. Fails as
+/// `try_rows` does.
 fn take_lines<R: Input + Print, Q: Questions>(
     rt: &R,
     alloc: Global,
@@ -58,7 +64,8 @@ fn print_wrong<R: Print>(rt: &R, number: u64, wrong: &Option<String>) -> io::Res
     }
 }
 
-/// The current texts, the lines of the last answer that were not compared yet, and the number of right lines.
+/// The current texts, the lines of the last answer that were not compared yet, and the number of
+/// right answer lines.
 #[derive(Drop)]
 struct Sheet {
     texts: CurrentTexts,
@@ -93,7 +100,8 @@ impl Sheet {
         }
     }
 
-    /// Returns a message if lines of the last answer were not compared.
+    /// Returns a message if no line was compared with some lines of the last answer, and forgets
+    /// these lines.
     fn uncompared(&mut self, alloc: Global) -> Result<Option<String>, AllocError> {
         match self.answer.take() {
             Some(answer) => Ok(Some(format!(in alloc; "no line has the answer {answer}")?)),

@@ -3,7 +3,9 @@
 use crate::words::{Mistake, bytes_of, first_word, number};
 use std::alloc::{AllocError, Global};
 
-/// Runs the line if its verb changes the text. Returns whether it does.
+/// Runs a line if its verb changes the text; `rest` is the text after the verb. Returns whether the
+/// verb changes the text. Fails with `Misspelt` if a word of `rest` is wrong, and with `NoMemory`
+/// if memory is refused.
 pub fn change_text(
     alloc: Global,
     text: &mut String,

@@ -8,7 +8,7 @@ use std::fmt::Debug;
 /// Why a row has no answer.
 #[derive(Clone, Copy, Debug)]
 pub enum Mistake {
-    /// A word of the row is unknown or missing.
+    /// A word of the row is unknown, missing, or not the number or the bytes that it has to be.
     Misspelt,
     /// A text is not what the row's verb needs, such as an accepted grammar, or a call did not end as the row assumes.
     Unfit,
@@ -27,12 +27,13 @@ pub fn printed<T: Debug>(alloc: Global, value: &T) -> Result<String, Mistake> {
     Ok(format!(in alloc; "{value:?}")?)
 }
 
-/// Returns the first word of a text, and the text after the space that ends it.
+/// Returns the first word of a text, and the text after the space that ends it: nothing if there is
+/// no space.
 pub fn first_word(text: &str) -> (&str, &str) {
     text.split_once(' ').unwrap_or((text, ""))
 }
 
-/// Returns the texts before and after a separator. Fails with `Misspelt` if it is missing.
+/// Returns the texts before and after the first separator. Fails with `Misspelt` if there is none.
 pub fn halves<'a>(text: &'a str, separator: &str) -> Result<(&'a str, &'a str), Mistake> {
     text.split_once(separator).ok_or(Mistake::Misspelt)
 }
@@ -47,7 +48,8 @@ pub fn short_number(word: &str) -> Result<u16, Mistake> {
     word.parse::<u16>().map_err(|_| Mistake::Misspelt)
 }
 
-/// Returns the parts of a text between separators; `-` alone is none.
+/// Returns the parts of a text between separators, or no part for the text `-`. Fails if memory is
+/// refused.
 pub fn parts<'a>(
     alloc: Global,
     text: &'a str,
@@ -69,7 +71,8 @@ pub fn parts<'a>(
     Ok(found)
 }
 
-/// Returns the numbers of a text, separated by spaces; `-` alone is none. Fails with `Misspelt` if one isn't a `u16`.
+/// Returns the numbers of a text, separated by spaces, or no number for the text `-`. Fails with
+/// `Misspelt` if one isn't a `u16`, and with `NoMemory` if memory is refused.
 pub fn short_numbers(alloc: Global, text: &str) -> Result<Vec<u16>, Mistake> {
     let mut numbers = Vec::new(alloc);
     for word in parts(alloc, text, " ")?.as_slice() {
@@ -78,8 +81,9 @@ pub fn short_numbers(alloc: Global, text: &str) -> Result<Vec<u16>, Mistake> {
     Ok(numbers)
 }
 
-/// Returns the bytes that the words of a text spell, with two hexadecimal digits for each byte. The word `00*1000`
-/// spells 1,000 zero bytes.
+/// Returns the bytes that the words of a text spell, with two hexadecimal digits for each byte. The
+/// word `00*1000` spells 1,000 zero bytes. Fails with `Misspelt` if a word isn't of this form, and
+/// with `NoMemory` if memory is refused.
 pub fn bytes_of(alloc: Global, text: &str) -> Result<Vec<u8>, Mistake> {
     let mut bytes = Vec::new(alloc);
     for word in text.split_whitespace() {
@@ -91,7 +95,8 @@ pub fn bytes_of(alloc: Global, text: &str) -> Result<Vec<u8>, Mistake> {
     Ok(bytes)
 }
 
-/// Returns the bytes that a word spells, with two hexadecimal digits for each byte.
+/// Returns the bytes that a word without `*` spells, with two hexadecimal digits for each byte.
+/// Fails as `bytes_of` does.
 fn bytes_of_word(alloc: Global, word: &str) -> Result<Vec<u8>, Mistake> {
     match decode(alloc, word.as_bytes()) {
         Ok(bytes) => Ok(bytes),
@@ -112,7 +117,8 @@ pub fn shown_bytes(alloc: Global, bytes: &[u8]) -> Result<String, AllocError> {
     encode(alloc, bytes)
 }
 
-/// Returns the number of nodes of a tree, and its file.
+/// Returns the number of nodes of a tree and the bytes of its file, as in `5 nodes, 41475432`.
+/// Prints more than `MAX_PRINTED` bytes as their number.
 pub fn shown_tree_file(alloc: Global, count: u32, file: &[u8]) -> Result<String, Mistake> {
     let file = shown_bytes(alloc, file)?;
     Ok(format!(in alloc; "{count} nodes, {file}")?)

@@ -13,14 +13,15 @@ use ag_value::{NoMemory, ValueFault};
 use std::alloc::{AllocError, Global};
 use std::marker::Model;
 
-/// Any borrowed part of a `SharedBytes`: own bytes, and between them the encodings of shared values.
-/// Contracts see the list of its bytes. The name is that of its main use, the body of a frame of a
-/// tree file, but it may be any other part.
+/// Any borrowed part of a `SharedBytes`: own bytes, and between them the encodings of shared
+/// values. Contracts see the list of its bytes. The name is that of its main use, the body of a
+/// frame of a tree file, but it may be any other part.
 #[derive(Drop)]
 pub struct Body<'a> {
     /// The own bytes of this part.
     own: &'a [u8],
-    /// The splices of this part. Their numbers and offsets count from the beginning of the whole list.
+    /// The splices of this part. Their numbers and offsets count from the beginning of the whole
+    /// list.
     splices: &'a [Splice],
     /// The number of own bytes of the whole list before this part.
     base: usize,
@@ -42,8 +43,9 @@ impl<'a> Model for Body<'a> {
         × (b.base + length b.own.now < 2 ^ 64) };
 }
 
-/// Returns the number of own bytes before `offset`, if own bytes `from` to `end` begin at offset `start`
-/// with no splice between them. Returns `None` if `offset` is before these bytes or past their end.
+/// Returns the number of own bytes of the whole list before `offset`, if the own bytes with the
+/// indices from `from` to below `end` begin at offset `start`, with no splice between them. Returns
+/// `None` if `offset` is before `start` or after the end of these bytes.
 fn own_from(from: usize, start: u64, end: usize, offset: u64) -> Option<usize>
     ensures following { IfSome result (λ own. from ≤ own) }
     ensures at { IfSome result (λ own. offset ≡ start + (own - from)) }
@@ -59,8 +61,8 @@ fn own_from(from: usize, start: u64, end: usize, offset: u64) -> Option<usize>
     Some(own)
 }
 
-/// Returns whether at least `own` own bytes come before the splice with index `count`, or there is no such
-/// splice.
+/// Returns true if there is a splice with index `count` and at least `own` own bytes come before
+/// it, or if the list of splices ends before this index.
 fn is_before(splices: &[Splice], count: usize, own: usize) -> bool
     ensures { IsTrue result → IsBeforeSplice splices.now count own }
 {
@@ -80,7 +82,10 @@ struct Start {
     at: u64,
 }
 
-/// Returns the number of own bytes before `offset`, if no splice comes before it, and otherwise `None`.
+/// Returns the number of own bytes of the whole list before `offset`, if no splice of the part
+/// comes before it. `end` is the number of own bytes of the whole list up to the end of the part.
+/// Returns `None` if a splice comes before the offset, or if the offset is inside a splice or
+/// outside the part.
 fn first_own(splices: &[Splice], start: Start, end: usize, offset: u64) -> Option<usize>
     ensures cut { IfSome result (λ own. CutAt start.base start.at splices.now 0 own offset) }
     ensures within { IfSome result (λ own. own ≤ end) }
@@ -92,8 +97,8 @@ fn first_own(splices: &[Splice], start: Start, end: usize, offset: u64) -> Optio
     Some(own)
 }
 
-/// Returns the number of own bytes before `offset`, if exactly `count` splices come before it, and
-/// otherwise `None`.
+/// Returns the number of own bytes of the whole list before `offset`, if exactly `count` splices of
+/// the part come before it, and otherwise `None`, as `first_own` does.
 fn next_own(
     splices: &[Splice],
     start: Start,
@@ -115,8 +120,8 @@ fn next_own(
     Some(own)
 }
 
-/// Returns the number of own bytes before `offset`, if exactly `count` splices come before it, and
-/// otherwise `None`.
+/// Returns the number of own bytes of the whole list before `offset`, if exactly `count` splices of
+/// the part come before it, and otherwise `None`, as `first_own` does. `count` may be 0.
 fn own_at(splices: &[Splice], start: Start, end: usize, offset: u64, count: usize) -> Option<usize>
     ensures cut { IfSome result (λ own. CutAt start.base start.at splices.now count own offset) }
     ensures within { IfSome result (λ own. own ≤ end) }
@@ -164,15 +169,17 @@ impl<'a> Body<'a> {
         Some(self.own)
     }
 
-    /// Returns the number of shared values that begin before an offset from the first byte.
+    /// Returns the number of shared values of this part that begin before an offset, in bytes from
+    /// the first byte of the part.
     pub fn splices_before(&self, offset: u64) -> usize {
         let place = self.at.saturating_add(offset);
         self.splices.partition_point(|splice| splice.at < place)
     }
 
-    /// Splits the body at an offset from its first byte, after `count` of its shared values. Returns
-    /// `None` if the offset is inside a shared value or greater than the length, or if the number of
-    /// shared values before it is not `count`; no clause says when. Takes no memory.
+    /// Splits the body at an offset, in bytes from its first byte, before which exactly `count` of
+    /// its shared values come. Returns `None` if the offset is inside a shared value or greater
+    /// than the length, or if another number of shared values comes before it. No clause says when
+    /// the result is `None`. Takes no memory.
     pub fn cut(self, offset: u64, count: usize) -> Option<(Body<'a>, Body<'a>)>
         ensures parts { IfSome result (λ p. self.entry ≡ p.0 ++ p.1) }
         ensures size { IfSome result (λ p. length p.0 ≡ offset) }
@@ -238,7 +245,8 @@ impl<'a> Body<'a> {
         }
     }
 
-    /// Fills `out` with the bytes from an offset on. Takes no memory.
+    /// Fills `out` with the bytes from an offset on. Takes no memory. Begins with the last shared
+    /// value before the offset, so that those before it are not visited one by one.
     pub fn read_at(&self, offset: u64, out: &mut [u8])
         requires { offset + length out.old ≤ length self.now }
         ensures { out.new ≡ slice_range self.now offset (offset + length out.old) }
@@ -249,8 +257,9 @@ impl<'a> Body<'a> {
         }
     }
 
-    /// Returns the offset of the last shared value that begins before an offset, and the bytes from there
-    /// on. Returns `None` if no shared value begins before it.
+    /// Returns where the last shared value before `offset` begins, and the bytes from that offset
+    /// on. Returns `None` if no shared value begins before `offset`. Both offsets are in bytes from
+    /// the body's first byte.
     fn from_last_shared(&self, offset: u64) -> Option<(u64, Body<'a>)>
         ensures before { IfSome result (λ p. p.0 ≤ offset) }
         ensures rest { IfSome result (λ p. p.1 ≡ drop p.0 self.now) }
@@ -264,7 +273,8 @@ impl<'a> Body<'a> {
         Some((start, rest))
     }
 
-    /// Fills `out` with the bytes from an offset on. Visits the shared values from the first one on.
+    /// Fills `out` with the bytes from an offset on. Visits the shared values from the first one
+    /// on.
     fn copy_from(&self, offset: u64, out: &mut [u8])
         requires { offset + length out.old ≤ length self.now }
         ensures { out.new ≡ slice_range self.now offset (offset + length out.old) }
@@ -287,8 +297,8 @@ impl<'a> Body<'a> {
         copy_own(&own[from..], place, offset, done, out);
     }
 
-    /// Appends a copy of all bytes to a vector. Fails with AllocError if memory runs out; the vector is
-    /// then unchanged.
+    /// Appends a copy of all bytes to a vector. Fails with AllocError if memory runs out; the
+    /// vector's bytes are then unchanged.
     pub fn append_to(&self, out: &mut Vec<u8>) -> Result<(), AllocError>
         ensures ok { OnOk result (out.new.items ≡ out.old.items ++ self.now) }
         ensures err { OnErr result (out.new.items ≡ out.old.items) }
@@ -301,10 +311,11 @@ impl<'a> Body<'a> {
         Ok(())
     }
 
-    /// Takes the value whose encoding is a prefix of the body: a shared one in one step, and one of own
-    /// bytes as `Carried::read` does. Returns the value and the rest of the body, or `None` if the body
-    /// begins with no value that is either shared or of own bytes alone: then only a copy of all bytes
-    /// (`append_to`) shows whether the body begins with a value. Fails with NoMemory.
+    /// Returns the value whose encoding is a prefix of the body, and the rest of the body. A shared
+    /// value gets one more owner, and a value of own bytes is read as `Carried::read` does. Returns
+    /// `None` if the body begins neither with a shared value nor with a value of own bytes alone.
+    /// It may still begin with a value then, which only a copy of all bytes (`append_to`) shows.
+    /// Fails with NoMemory.
     pub fn take(&self, alloc: Global) -> Result<Option<(Carried, Body<'a>)>, NoMemory>
         ensures well { IfOk result (λ found. IfSome found (λ p. IsWell p.0)) }
         ensures encoded { IfOk result
@@ -316,7 +327,8 @@ impl<'a> Body<'a> {
         }
     }
 
-    /// Takes the shared value with which the body begins; `bytes` is its encoding. Fails with NoMemory.
+    /// Returns the shared value with which the body begins, for one more owner, and the rest of the
+    /// body; `bytes` is its encoding. Fails with NoMemory if the value has 2^64 - 1 owners.
     fn take_shared(&self, bytes: &Encoded) -> Result<Option<(Carried, Body<'a>)>, NoMemory>
         requires { take (length bytes.now) self.now ≡ bytes.now }
         ensures well { IfOk result (λ found. IfSome found (λ p. IsWell p.0)) }
@@ -329,8 +341,9 @@ impl<'a> Body<'a> {
         Ok(Some((bytes.value()?, rest)))
     }
 
-    /// Takes the value whose encoding is a prefix of the own bytes with which the body begins, or returns
-    /// `None` if there is none. Fails with NoMemory.
+    /// Returns the value whose encoding is a prefix of the own bytes with which the body begins,
+    /// and the rest of the body. Returns `None` if these own bytes begin with no encoding of a
+    /// value. Fails with NoMemory.
     fn take_own(&self, alloc: Global) -> Result<Option<(Carried, Body<'a>)>, NoMemory>
         ensures well { IfOk result (λ found. IfSome found (λ p. IsWell p.0)) }
         ensures encoded { IfOk result
@@ -348,8 +361,9 @@ impl<'a> Body<'a> {
     }
 }
 
-/// Appends a copy of own bytes, the first of which has number `base`, and of the encodings between them.
-/// Fails with AllocError if memory runs out, and may then have appended some of them.
+/// Appends a copy of own bytes, the first of which has number `base`, and of the encodings between
+/// them. Fails with AllocError if memory runs out, and may then have appended a part of these
+/// bytes.
 #[tactic(auto, using(ag_value::proofs::Extending::extending))]
 fn append_all(
     own: &[u8],

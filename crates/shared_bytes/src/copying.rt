@@ -6,10 +6,11 @@ ghost use Rattle.shared_bytes.specs.Reads.{HasRead};
 
 use ag_carried::Encoded;
 
-/// Returns the index in a piece of the next byte to copy, and the number of bytes to copy from there; or
-/// `None` if the slice is full, or if the piece doesn't have the next byte. The piece has the `len` bytes
-/// from offset `place` on. The slice has `size` bytes: it is to hold the bytes from offset `at` on, and
-/// has the first `done` of them.
+/// Returns which bytes of a piece to copy to a slice next: the index of the first one in the piece,
+/// and their number. Returns `None` if the slice is full, or if the piece does not have the next
+/// byte. A piece is a run of own bytes or an encoding; it has the `len` bytes from offset `place`
+/// on. The slice has `size` bytes: it is to hold the bytes from offset `at` on, and has the first
+/// `done` of them. Offsets count from the first byte of the body.
 fn next_part(place: u64, len: usize, at: u64, done: usize, size: usize) -> Option<(usize, usize)>
     requires within { done ≤ size }
     requires room { at + size < 2 ^ 64 }
@@ -30,8 +31,9 @@ fn next_part(place: u64, len: usize, at: u64, done: usize, size: usize) -> Optio
     Some((skip, (len - skip).min(size - done)))
 }
 
-/// Copies bytes of a piece, which begins at offset `place`, into `out`, which is to hold the bytes from
-/// offset `at` on and has the first `done` of them. Returns the number of bytes that `out` then has.
+/// Copies the next bytes that `out` is to hold from a piece, if the piece has them. The piece
+/// begins at offset `place`; `out` is to hold the bytes from offset `at` on, and has the first
+/// `done` of them. Returns the number of bytes that `out` then has.
 pub(crate) fn copy_own(piece: &[u8], place: u64, at: u64, done: usize, out: &mut [u8]) -> usize
     requires within { done ≤ length out.old }
     requires room { at + length out.old < 2 ^ 64 }

@@ -1,5 +1,5 @@
-//! A growing list of bytes that shares the encodings of some values: large ones, shared texts and trees.
-//! Contracts see a plain list of bytes.
+//! A growing list of bytes that shares the encodings of some values: large ones, shared texts and
+//! trees. Contracts see a plain list of bytes.
 #![tactic(auto)]
 
 mod body;

@@ -78,8 +78,8 @@ impl SharedBytes {
         Ok(())
     }
 
-    /// Appends a copy of bytes; the number of all bytes then has to be below 2^64. Fails with AllocError;
-    /// then nothing changes.
+    /// Appends a copy of bytes. The caller guarantees that the number of all bytes is then below
+    /// 2^64. Fails with AllocError; then nothing changes.
     #[inline(always)]
     fn append_own(&mut self, bytes: &[u8]) -> Result<(), AllocError>
         requires { length self.old + length bytes.now < 2 ^ 64 }
@@ -104,8 +104,8 @@ impl SharedBytes {
         Ok(())
     }
 
-    /// Appends an encoding, as one more owner; the number of all bytes then has to be below 2^64. Fails
-    /// with AllocError; then nothing changes.
+    /// Appends an encoding, as one more owner of its value. The caller guarantees that the number
+    /// of all bytes is then below 2^64. Fails with AllocError; then nothing changes.
     fn append_shared(&mut self, bytes: &Encoded) -> Result<(), AllocError>
         requires { length self.old + length bytes.now < 2 ^ 64 }
         ensures ok { OnOk result (self.new ≡ self.old ++ bytes.now) }
@@ -132,8 +132,8 @@ impl SharedBytes {
         self.len = 0;
     }
 
-    /// Appends all bytes of `other`: a copy of its own ones, and its shared values as one more owner.
-    /// Fails with NoMemory; then nothing changes.
+    /// Appends all bytes of `other`: a copy of its own ones, and its shared values as one more
+    /// owner. Fails with NoMemory; then nothing changes.
     pub fn append_all(&mut self, other: &SharedBytes) -> Result<(), NoMemory>
         ensures ok { OnOk result (self.new ≡ self.old ++ other.now) }
         ensures err { OnErr result (self.new ≡ self.old) }
@@ -145,8 +145,8 @@ impl SharedBytes {
         Ok(())
     }
 
-    /// Appends all bytes of `other`; the number of all bytes then has to be below 2^64. Fails with
-    /// AllocError; then nothing changes.
+    /// Appends all bytes of `other`. The caller guarantees that the number of all bytes is then
+    /// below 2^64. Fails with AllocError; then nothing changes.
     fn append_counted(&mut self, other: &SharedBytes) -> Result<(), AllocError>
         requires { length self.old + length other.now < 2 ^ 64 }
         ensures ok { OnOk result (self.new ≡ self.old ++ other.now) }
@@ -190,8 +190,8 @@ impl SharedBytes {
         Body::whole(self.own.as_slice(), self.splices.as_slice(), self.len)
     }
 
-    /// Appends a copy of all bytes to a vector. Fails with AllocError if memory runs out; the vector is
-    /// then unchanged.
+    /// Appends a copy of all bytes to a vector. Fails with AllocError if memory runs out; the
+    /// vector's bytes are then unchanged.
     pub fn append_to(&self, out: &mut Vec<u8>) -> Result<(), AllocError>
         ensures ok { OnOk result (out.new.items ≡ out.old.items ++ self.now) }
         ensures err { OnErr result (out.new.items ≡ out.old.items) }
@@ -200,8 +200,8 @@ impl SharedBytes {
     }
 }
 
-/// Returns the splices as they are after `own` more own bytes, and `at` more bytes in all. Fails with
-/// AllocError.
+/// Returns the splices of a list that is appended to another list, which has `own` own bytes and
+/// `at` bytes in all. Fails with AllocError.
 fn shifted(
     alloc: Global,
     splices: &[Splice],

@@ -1,8 +1,8 @@
-//! Tests that are not rows of data: cursors, devices that fail or return wrong bytes, files, and
-//! files that change while they are read. Refused memory is tested by `tests/refused-memory`. A
-//! crate that has tests is proved a second time with them, so the tests of the libraries below the
-//! translator are in this crate, which has no other code. The crates `cases`, `translations` and
-//! `failures` run the rows of data.
+//! Tests of the libraries below the translator that are no rows of data: cursors over expressions,
+//! list trees and table trees, devices that fail or return wrong bytes, tree files, and tree files
+//! that change while they are read. This crate has no other code, since a crate that has tests is
+//! proved a second time with them. The crates `cases`, `translations` and `failures` answer the rows
+//! of data; `tests/refused-memory` tests refused memory.
 #![tactic(auto)]
 
 #[cfg(test)]

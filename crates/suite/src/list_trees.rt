@@ -50,6 +50,7 @@ fn doubled(alloc: Global, least: usize) -> Result<ListTree, ValueFault> {
 
 /// Returns the flat copy of a list as a tree.
 fn rebuilt(alloc: Global, list: &ListTree) -> Result<ListTree, NoMemory> {
+    // The contract of `weight` says that the list is well, which `from_list` requires.
     let _weight = list.weight();
     ListTree::from_list(alloc, list.to_list(alloc)?)
 }
@@ -75,6 +76,7 @@ fn an_encoding_is_that_of_the_flat_list(rt: HostRuntime) -> Result<(), ValueFaul
     let expected = b"\x02\0\0\0\x02\0\0\0\0\0\0\0\0\0\0\0\0\0\0\0\0\0\x01";
     assert!(rt; bytes.as_slice() == expected.as_slice());
     assert!(rt; list.has_encoding(bytes.as_slice()) && !list.has_encoding(&bytes[..22]));
+    // `copy_part` requires that the encoding has the bytes from 3 to 6.
     if list.weight() < 6 {
         return Err(ValueFault::Malformed);
     }

@@ -9,7 +9,7 @@ use Rattle.table_tree.specs.declared.totals.Totals.{Totals}
 use Rattle.table_tree.specs.declared.tree.TableNode.{TableNode}
 use Rattle.table_tree.specs.declared.tree.TableNode.TheVariants.{Leaf, Fork}
 
--- the pairs in the order of their keys
+-- the pairs in the order of their keys; `left` and `right` are trees, of which definitions see the lists of their pairs
 abbrev pub pairs_of : TableNode → List (List ℕ × Value)
 pairs_of Leaf = []
 pairs_of (Fork rc) = rc.value.left ++ rc.value.entry.value ∷ rc.value.right
@@ -22,7 +22,7 @@ pub record IsTotalled (pairs : List (List ℕ × Value)) (totals : Totals) (bloc
   pub bytes : AreBytes (joined (map spelling_of_pair pairs))
   pub block_is : IfSome block (λ encoded. encoded ≡ joined (map spelling_of_pair pairs))
 
--- the pairs of a fork are a well table, and its totals and its block are theirs
+-- the pairs of a fork are a well table, and the fork's totals and block are those of its pairs
 abbrev pub IsNode : TableNode → Type 0
 IsNode Leaf = Unit {0}
 IsNode (Fork rc) = IsTotalled (pairs_of (Fork rc)) rc.value.totals rc.value.block

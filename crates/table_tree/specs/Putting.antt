@@ -8,8 +8,8 @@ use Rattle.table_tree.specs.declared.putting.PutFault.{PutFault}
 use Rattle.table_tree.specs.declared.putting.PutFault.TheVariants as fault
 use Rattle.table_tree.specs.declared.totals.Totals.{Totals}
 
--- The result is a table, and this table is the expected value; or it is TooDeep or TooHeavy, and the expected value is the
--- error `deep` or `big`; or it is NoMemory.
+-- The result of `put` is right for the expected value. If it is a table, that is the expected value. If it is TooDeep, the
+-- expected value is the error `deep`, and if it is TooHeavy, the error `big`. NoMemory may come in any case.
 abbrev pub IsPut : Value → Result (List (List ℕ × Value)) PutFault → Type 0
 IsPut expected (Ok pairs) = expected ≡ value.Table pairs
 IsPut expected (Err fault.TooDeep) = expected ≡ value.Fault Deep
@@ -24,7 +24,8 @@ IsFaultOf pairs (Some fault.TooHeavy) =
     (depth_of (value.Table pairs) ≤ max_value_depth) × (max_weight < weight_of (value.Table pairs))
 IsFaultOf pairs (Some fault.NoMemory) = ⊥
 
--- the limit that a table with these totals exceeds, if there is one: first that of the depth, then that of the weight
+-- the same for a table whose pairs have these totals: its depth is one more, and its weight five bytes more than that of the
+-- pairs
 abbrev pub IsLimitFault : Totals → Option PutFault → Type 0
 IsLimitFault totals None = (totals.depth < max_value_depth) × (5 + totals.bytes ≤ max_weight)
 IsLimitFault totals (Some fault.TooDeep) = max_value_depth ≤ totals.depth

@@ -20,7 +20,8 @@ pub record AreJoined (before pair after whole : Totals) : Type 0 where
   pub bytes_are : whole.bytes ≡ before.bytes + pair.bytes + after.bytes
   pub depth_is : whole.depth ≡ max (max before.depth pair.depth) after.depth
 
--- the totals are within the limits of well tables, and there are at most as many pairs as bytes
+-- A table with these totals is within the limits of well values: its weight is five bytes more than that of its pairs, and its
+-- depth one more than that of its deepest value. There are at most as many pairs as bytes.
 pub record AreSmall (totals : Totals) : Type 0 where
   pub few : totals.pairs ≤ totals.bytes
   pub light : 5 + totals.bytes ≤ max_weight

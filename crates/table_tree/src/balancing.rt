@@ -1,5 +1,5 @@
-//! The balance of a tree: the heights of the two sides of a node differ by at most one. No contract
-//! depends on it.
+//! Keeping a tree balanced: the heights of the two sides of a node differ by at most one. No
+//! contract depends on the balance.
 
 ghost use Rattle.std.specs.Prelude.{◌≡◌, ◌∷◌, ◌++◌, IfOk};
 ghost use Rattle.ag_value.specs.Well.{IsWell};
@@ -11,9 +11,9 @@ use ag_value::NoMemory;
 use std::alloc::Global;
 use std::rc::Rc;
 
-/// Returns the table of the pairs of a table, a pair and the pairs of another table. If one side is
-/// higher than the other by at least two levels, the root is taken from the higher side. Fails with
-/// NoMemory.
+/// Returns the table of the pairs of `left`, the pair of `entry` and the pairs of `right`. `entry`
+/// is in its root, unless one side is higher than the other by at least two levels: then a
+/// rotation, or a double one, takes the root from the higher side. Fails with NoMemory.
 pub(crate) fn balanced(
     alloc: Global,
     left: TableTree,
@@ -34,8 +34,9 @@ pub(crate) fn balanced(
     TableTree::fork(alloc, left, entry, right)
 }
 
-/// Returns the same table. If its right side was the higher one, the root is taken from there. Fails
-/// with NoMemory.
+/// Returns the same table. If its right side was higher than its left one, the table is rotated to
+/// the left. This is the first half of a double rotation, before `turned_right`. Fails with
+/// NoMemory.
 fn with_high_left(alloc: Global, table: TableTree) -> Result<TableTree, NoMemory>
     ensures { IfOk result (λ same. same ≡ table) }
 {
@@ -53,8 +54,9 @@ fn with_high_left(alloc: Global, table: TableTree) -> Result<TableTree, NoMemory
     )
 }
 
-/// Returns the same table. If its left side was the higher one, the root is taken from there. Fails
-/// with NoMemory.
+/// Returns the same table. If its left side was higher than its right one, the table is rotated to
+/// the right. This is the first half of a double rotation, before `turned_left`. Fails with
+/// NoMemory.
 fn with_high_right(alloc: Global, table: TableTree) -> Result<TableTree, NoMemory>
     ensures { IfOk result (λ same. same ≡ table) }
 {
@@ -72,8 +74,9 @@ fn with_high_right(alloc: Global, table: TableTree) -> Result<TableTree, NoMemor
     )
 }
 
-/// Returns the table of the pairs of a table, a pair and the pairs of another table. The root is that of
-/// `left`, unless `left` is empty. Fails with NoMemory.
+/// Returns the table of the pairs of `left`, the pair of `entry` and the pairs of `right`, rotated
+/// to the right: its root has the pair of the root of `left`, or that of `entry` if `left` is
+/// empty. Fails with NoMemory.
 fn turned_right(
     alloc: Global,
     left: TableTree,
@@ -90,8 +93,9 @@ fn turned_right(
     TableTree::fork(alloc, root.left.share()?, root.entry.clone()?, lower)
 }
 
-/// Returns the table of the pairs of a table, a pair and the pairs of another table. The root is that of
-/// `right`, unless `right` is empty. Fails with NoMemory.
+/// Returns the table of the pairs of `left`, the pair of `entry` and the pairs of `right`, rotated
+/// to the left: its root has the pair of the root of `right`, or that of `entry` if `right` is
+/// empty. Fails with NoMemory.
 fn turned_left(
     alloc: Global,
     left: TableTree,

@@ -5,9 +5,9 @@ ghost use Rattle.std.specs.Prelude.{◌≡◌, ◌↔◌, ◌+◌, ◌<◌, ◌�
 use crate::tree::TableTree;
 
 impl TableTree {
-    /// Returns whether two tables are equal. Takes no memory. Takes time that is linear in the length of
-    /// the encoding if the trees have the same shape, and otherwise at most the time of an `entry_at`
-    /// more for each pair.
+    /// Returns whether two tables are equal. Takes no memory. If the trees have the same shape,
+    /// takes time that is linear in the length of the encoding. Otherwise takes this time and, for
+    /// each pair, at most that of a call of `entry_at`.
     pub fn same(&self, other: &TableTree) -> bool
         ensures { IsTrue result ↔ (self.now ≡ other.now) }
     {
@@ -18,6 +18,7 @@ impl TableTree {
             return same;
         }
         let (Some(root), Some(other_root)) = (self.root(), other.root()) else {
+            // both tables are empty, since they have the same number of pairs
             return true;
         };
         if root.left.len() != other_root.left.len() {

@@ -13,7 +13,8 @@ use crate::entry::byte_count;
 use crate::tree::TableTree;
 use ag_value::NoMemory;
 
-/// The number of bytes before the first pair: the kind of a table, and the number of pairs.
+/// The number of bytes before the first pair: one for the kind of a table, and four for the number
+/// of pairs.
 pub(crate) const HEADER_LENGTH: usize = 5;
 
 impl TableTree {
@@ -33,13 +34,15 @@ impl TableTree {
         }
     }
 
-    /// Fills `out` with the bytes of the encoding from index `from` on. Takes no memory.
+    /// Fills `out` with the bytes of the encoding from offset `from` on (in bytes, from 0). `from`
+    /// plus the length of `out` must not exceed the length of the encoding. Takes no memory.
     pub fn copy_part(&self, from: usize, out: &mut [u8])
         requires { from + length out.old ≤ weight_of (v.Table self.now) }
         ensures { out.new ≡ take (length out.old) (drop from (spelling_of (v.Table self.now))) }
     {
         let header = self.header();
         let mut done = copy_piece(&header[from.min(HEADER_LENGTH)..], 0, out);
+        // if `out` is not full, the rest of the header was copied: `from + done >= HEADER_LENGTH`
         while done < out.len() {
             let piece = self.piece_at(from + done - HEADER_LENGTH);
             done = copy_piece(piece, done, out);
@@ -56,7 +59,8 @@ impl TableTree {
         byte_count(&header) + self.totals().bytes as usize
     }
 
-    /// Returns the bytes of the encoding before the first pair.
+    /// Returns the bytes of the encoding before the first pair: 3, the number of the kind, and the
+    /// number of pairs, big-endian.
     pub(crate) fn header(&self) -> [u8; 5]
         ensures bytes { result ≡ 3 ∷ to_be_bytes w32 (length self.now) }
         ensures well { IsWell (v.Table self.now) }
@@ -94,8 +98,9 @@ impl TableTree {
         root.right.append_pairs(out)
     }
 
-    /// Returns the bytes from an offset of the encodings of the pairs to the end of a block or of the
-    /// encoding of a pair. There is at least one.
+    /// Returns bytes of the encodings of the pairs, joined, from `offset` on (in bytes, from 0), up
+    /// to the end of the block that contains this offset, or of the encoding of the pair there if
+    /// no block does. The result is not empty.
     fn piece_at(&self, offset: usize) -> &[u8]
         requires { offset < length (joined (map spelling_of_pair self.now)) }
         ensures { IsPiece (drop offset (joined (map spelling_of_pair self.now))) result.now }

@@ -40,7 +40,7 @@ impl Model for Entry {
 }
 
 impl Entry {
-    /// Encodes a pair. Fails with NoMemory.
+    /// Encodes a pair and returns its entry. Fails with NoMemory.
     pub(crate) fn new(alloc: Global, key: Text, value: Value) -> Result<Entry, NoMemory>
         requires short { length key ≤ max_weight }
         requires well { IsWell value }
@@ -125,7 +125,8 @@ fn encoded_pair(alloc: Global, key: &str, value: &Value) -> Result<Vec<u8>, NoMe
     Ok(bytes)
 }
 
-/// Returns the number of bytes. The clause `bytes` says that each of them is below 256.
+/// Returns the number of bytes. `Entry::totals` and `TableTree::encoding_len` need its clause
+/// `bytes` (each of the bytes is below 256) for their own.
 #[inline(always)]
 pub(crate) fn byte_count(bytes: &[u8]) -> usize
     ensures len { result ≡ length bytes.now }

@@ -11,7 +11,8 @@ use std::alloc::Global;
 use std::rc::Rc;
 
 impl TableTree {
-    /// Returns the tree of the pairs of a well table, which are moved. Fails with NoMemory.
+    /// Moves the pairs of a well table into a tree. Fails with NoMemory; the pairs are
+    /// then dropped.
     pub fn from_table(alloc: Global, pairs: Items<(Text, Value)>) -> Result<TableTree, NoMemory>
         requires { IsWell (v.Table pairs) }
         ensures { IfOk result (λ table. table ≡ pairs) }
@@ -66,8 +67,8 @@ impl TableTree {
     }
 }
 
-/// Removes the last `count` pairs and returns the tree of them. Fails with NoMemory, and may then have
-/// removed some of them.
+/// Removes the last `count` pairs and returns the tree of them, with the middle pair in the root.
+/// Fails with NoMemory, and may then have removed some of them.
 fn take_last(
     alloc: Global,
     pairs: &mut Vec<(Text, Value)>,

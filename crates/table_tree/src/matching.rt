@@ -54,7 +54,8 @@ impl TableTree {
         root.right.has_pairs(&pairs[before + 1..])
     }
 
-    /// Returns whether bytes are the encodings of the pairs.
+    /// Returns whether bytes are the encodings of the pairs, one after the other. The number of
+    /// bytes must be that of the encodings.
     fn has_encoded_pairs(&self, bytes: &[u8]) -> bool
         requires { length bytes.now ≡ length (joined (map spelling_of_pair self.now)) }
         ensures { IsTrue result ↔ (bytes.now ≡ joined (map spelling_of_pair self.now)) }

@@ -39,11 +39,11 @@ impl<M: OutOfMemory> From<M> for PutFault {
 }
 
 impl TableTree {
-    /// Returns the table in which a key has a value, and all other pairs are those of this table. The
-    /// nodes that are not on the way to the key are shared: time and memory grow with the logarithm of
-    /// the number of pairs, and with the size of the new pair. Fails with TooDeep if the result would
-    /// exceed the greatest depth of well values, else with TooHeavy if it would exceed their greatest
-    /// weight; and with NoMemory.
+    /// Returns the table in which a key has a value, and all other pairs are those of this table.
+    /// The nodes that are not on the way to the key are shared: time and memory grow with the
+    /// logarithm of the number of pairs, and with the size of the new pair. Fails with TooDeep if
+    /// the depth of the new table would exceed 64, with TooHeavy if its weight would exceed
+    /// 1,048,576 but its depth not 64, and with NoMemory.
     pub fn put(&self, alloc: Global, key: &str, value: Value) -> Result<TableTree, PutFault>
         requires short { length key.now ≤ max_weight }
         requires well { IsWell value }
@@ -59,9 +59,11 @@ impl TableTree {
         Ok(table)
     }
 
-    /// Returns TooDeep or TooHeavy if the table in which the entry's key has the entry's value exceeds
-    /// that limit of well values; TooDeep if it exceeds both. Takes constant time if the pairs of the
-    /// table and this one together are within the limits.
+    /// Returns the fault of the table in which the entry's key has the entry's value: TooDeep if
+    /// its depth exceeds 64, otherwise TooHeavy if its weight exceeds 1,048,576, and otherwise
+    /// `None`. Takes constant time if all pairs of this table and the entry together are within
+    /// these limits. Otherwise the way to the key is visited, since a pair with this key would be
+    /// replaced.
     fn fault_with(&self, entry: &Entry) -> Option<PutFault>
         ensures fault { IsFaultOf (with_pair entry.now.0 entry.now.1 self.now) result }
         ensures well { IsWell (v.Table self.now) }
@@ -117,8 +119,9 @@ impl TableTree {
     }
 }
 
-/// Returns TooDeep or TooHeavy if a table with these totals exceeds that limit of well values; TooDeep
-/// if it exceeds both.
+/// Returns the fault of a table whose pairs have these totals: TooDeep if its depth, one more than
+/// that of its deepest value, exceeds 64; otherwise TooHeavy if its weight, five bytes more than
+/// the pairs, exceeds 1,048,576; and otherwise `None`.
 fn limit_fault(totals: Totals) -> Option<PutFault>
     ensures { IsLimitFault totals result }
 {

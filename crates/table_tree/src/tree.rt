@@ -16,15 +16,18 @@ use std::fmt;
 use std::marker::Model;
 use std::rc::Rc;
 
-/// The least and the greatest number of bytes of a long block. `append_encoding` mostly copies
-/// these.
+/// The least number of bytes of a long block. A *block* is the list of the encodings of all pairs
+/// of a subtree, one after the other. The root of a subtree stores its block if this has the length
+/// of a long or of a short one. `append_encoding` mostly copies long blocks.
 const MIN_BLOCK: usize = 768;
 
+/// The greatest number of bytes of a long block.
 const MAX_BLOCK: usize = 2048;
 
-/// The least and the greatest number of bytes of a short block. Long blocks are made of short ones.
+/// The least number of bytes of a short block. Long blocks are made of short ones.
 const MIN_SHORT_BLOCK: usize = 192;
 
+/// The greatest number of bytes of a short block.
 const MAX_SHORT_BLOCK: usize = 512;
 
 /// A well table: its pairs in the order of their keys, as a balanced tree whose nodes may have several
@@ -53,9 +56,10 @@ struct TableBranch {
     right: TableTree,
     /// The totals of all these pairs.
     totals: Totals,
-    /// The number of nodes on the longest way down from this one, itself included.
+    /// The number of nodes on the longest way down from this one, itself included. A greater number
+    /// than 255 is stored as 255.
     height: u8,
-    /// The encodings of all these pairs, if they have the length of a long or a short block.
+    /// The block of all these pairs, if it has the length of a long or a short one.
     block: Option<Items<u8>>,
 }
 
@@ -128,8 +132,8 @@ impl TableTree {
         self.totals().pairs as usize
     }
 
-    /// Returns the weight of the table, which is the length of its encoding in bytes. Takes constant
-    /// time.
+    /// Returns the weight of the table, which is the length of its encoding in bytes: five before
+    /// the pairs, and those of the pairs. Takes constant time.
     pub fn weight(&self) -> u64
         ensures weight { result ≡ weight_of (v.Table self.now) }
         ensures well { IsWell (v.Table self.now) }
@@ -137,7 +141,8 @@ impl TableTree {
         5 + self.totals().bytes as u64
     }
 
-    /// Returns the depth of the table. Takes constant time.
+    /// Returns the depth of the table, which is one more than that of its deepest value, and 1 if
+    /// it is empty. Takes constant time.
     pub fn depth(&self) -> u32
         ensures { result ≡ depth_of (v.Table self.now) }
     {
@@ -201,8 +206,9 @@ impl TableTree {
         }
     }
 
-    /// Returns the table of the pairs of a table, a pair and the pairs of another table. Takes memory for
-    /// one node and for its block, if it has one. Fails with NoMemory.
+    /// Returns the table of the pairs of `left`, the pair of `entry` and the pairs of `right`, with
+    /// `entry` in its root. Takes memory for one node and for its block, if it has one. Fails with
+    /// NoMemory.
     pub(crate) fn fork(
         alloc: Global,
         left: TableTree,
@@ -238,9 +244,9 @@ fn is_block_length(len: usize) -> bool {
     (MIN_BLOCK <= len && len <= MAX_BLOCK) || (MIN_SHORT_BLOCK <= len && len <= MAX_SHORT_BLOCK)
 }
 
-/// Returns the encodings of the pairs of a table, of a pair and of the pairs of another table, one after
-/// the other, if `totals.bytes`, their number of bytes, is the length of a block, and otherwise `None`.
-/// Takes memory for them. Fails with NoMemory.
+/// Returns the block of the pairs of `left`, the pair of `entry` and the pairs of `right`, if
+/// `totals.bytes` is the length of a long or a short block, and otherwise `None`. `totals` are
+/// those of all these pairs. Takes memory for the block. Fails with NoMemory.
 fn block_of(
     alloc: Global,
     left: &TableTree,

@@ -13,11 +13,14 @@ use std::fs;
 use std::process::ExitCode;
 use std::rt::{Clock, Files};
 
-/// Translates each sentence, and writes its translation to a file of its own. Prints the message of each
-/// sentence that fails, and goes on; returns the status of the first of these, or 0. The grammar is read first.
+/// Translates each sentence, and writes its translation to a file of its own. The grammar is read
+/// first. If a sentence fails, prints a message and continues with the next one. Returns the status
+/// of the first sentence that failed; 0 if none did.
 ///
-/// Fails before a sentence is read if the grammar can't be read or is refused, if the folder for the translations is
-/// missing or not a folder (F1), if a translation's file is one of the inputs, or if memory is refused.
+/// Fails before a sentence is read if the grammar can't be read or is refused, if the folder for
+/// the translations is missing or not a folder (F1), if a translation's file is one of the inputs,
+/// with `--work` also if an input or a translation's file is one of the tree files there, and if
+/// memory is refused.
 pub fn run_sentences<'a, R: Files + Input + Print + Eprint + Clock>(
     rt: &'a R,
     alloc: Global,
@@ -65,7 +68,8 @@ fn output_paths(alloc: Global, paths: &BatchPaths<'_>) -> Result<Vec<String>, Al
     Ok(outputs)
 }
 
-/// Fails if one of the translations' files is the grammar or a sentence.
+/// Fails if one of the translations' files is the grammar or a sentence. With `--work` also fails
+/// if an input or a translation's file is one of the tree files there. Fails if memory is refused.
 fn check_overlaps<R: Files>(
     rt: &R,
     alloc: Global,
@@ -82,7 +86,8 @@ fn check_overlaps<R: Files>(
     }
 }
 
-/// Fails if an input, or a translation's file, is one of the tree files in `folder`, and if memory is refused.
+/// Fails if an input, or a translation's file, is one of the tree files in `folder`, and if memory
+/// is refused.
 fn check_work<R: Files>(
     rt: &R,
     alloc: Global,
@@ -110,8 +115,8 @@ fn check_folder<R: Files>(rt: &R, alloc: Global, path: &str) -> Result<(), Fault
     Err(FaultReport::of_file(alloc, fault, path))
 }
 
-/// Reads the sentence at `path`, translates it, and writes the translation to the file at `output`. Each report but
-/// that of refused memory names the sentence.
+/// Reads the sentence at `path`, translates it, and writes the translation to the file at `output`.
+/// Each report but that of refused memory names the sentence.
 fn translate<R: Files + Input + Print + Eprint + Clock>(
     translating: &TranslationRun<'_, R>,
     path: &str,
@@ -126,8 +131,9 @@ fn translate<R: Files + Input + Print + Eprint + Clock>(
     }
 }
 
-/// Returns a report with the path of the sentence that it is about: as its file or, if it names another one, among
-/// its parts. The report of refused memory names no file.
+/// Returns a report with the path of the sentence. The path becomes the report's file if the report
+/// has none. If the report is about another file, which failed (F1, D1 or O2), the path is added to
+/// the text of the message. Any other report, and that of refused memory, stays as it is.
 fn with_sentence(alloc: Global, mut report: FaultReport, path: &str) -> FaultReport {
     if matches!(report.fault, Fault::NoMemory) {
         return report;
@@ -136,6 +142,7 @@ fn with_sentence(alloc: Global, mut report: FaultReport, path: &str) -> FaultRep
         return report.with_file(alloc, path);
     }
     if matches!(report.fault, Fault::File | Fault::Device | Fault::Write) {
+        // only for the path, which `with_file` escapes if it has control characters
         let named = FaultReport::new(alloc, Fault::File).with_file(alloc, path);
         if let Some(name) = &named.file {
             let written = write!(report.parts.found, "for the sentence {}", name.as_str());

@@ -1,4 +1,4 @@
-//! The cause of a translation that is an error, in its message.
+//! The cause of an error that the root's `out` has, in the message of O1.
 
 use ag_value::Value;
 use aggen::{Fault, Translator};
@@ -7,8 +7,7 @@ use std::alloc::Global;
 use treefile::Device;
 use value_reasons::ErrorTranslation;
 
-/// Finds the cause of a translation that is an error: the translator with the text of its grammar, and the
-/// sentence, if there is one.
+/// What is needed to find the cause of an error that the root's `out` has.
 #[derive(Clone, Copy)]
 pub(crate) struct CauseFinder<'a> {
     /// The translator.
@@ -20,9 +19,10 @@ pub(crate) struct CauseFinder<'a> {
 }
 
 impl CauseFinder<'_> {
-    /// Returns what a message says of the cause of a fault, if the fault is a translation that is an error.
-    /// `b` contains the last tree file if the number of passes is odd, `a` if it is even. Returns `None` for other
-    /// faults, and if the cause can't be found.
+    /// Returns what the message of O1 says of the cause, if the root's `out` is an error. `b` has
+    /// to contain the last tree file if the number of passes is odd, and `a` if it is even. Returns
+    /// `None` for other faults, and if the cause is not found, the file can't be read, or memory is
+    /// refused.
     pub(crate) fn cause_of<D: Device>(
         self,
         alloc: Global,
@@ -49,7 +49,8 @@ impl CauseFinder<'_> {
     }
 }
 
-/// Returns a report with what is said of the cause, if there is one; without its parts if memory for that is refused.
+/// Returns a report with the text about the cause, if there is one, after what was found. Returns
+/// the report without all its parts if memory for the text is refused.
 pub(crate) fn with_cause(mut report: FaultReport, cause: Option<String>) -> FaultReport {
     let Some(cause) = cause else {
         return report;

@@ -19,8 +19,13 @@ use std::io::{self, Write};
 use std::rt::{Clock, Files};
 use treefile::{Device, FileDevice, MemDevice, SharedDevice};
 
-/// Translates the tree in a tree file, which keeps its content, and prints the translation or writes it to a
-/// file. The grammar is read first.
+/// Translates the tree in a tree file, and prints the translation or writes it to a file. The tree
+/// file keeps its content. The grammar is read first.
+///
+/// Fails before the grammar is read if the tree file or the grammar is one of the tree files of
+/// `--work`, or if the translation's file is an input or one of these tree files. Fails if an input
+/// can't be read, if the grammar, the tree or the translation is refused, if a tree file or the
+/// output fails, and if memory is refused.
 pub fn evaluate<R: Files + Input + Print + Eprint + Clock>(
     rt: &R,
     alloc: Global,
@@ -51,7 +56,8 @@ pub fn evaluate<R: Files + Input + Print + Eprint + Clock>(
     }
 }
 
-/// A translator, and the paths of the tree file that it translates and of its own tree files.
+/// A translator, with the paths of the tree file to translate, of the output, and of the folder for
+/// the tree files of the passes.
 #[derive(Drop)]
 struct EvaluationRun<'a, R> {
     rt: &'a R,
@@ -59,19 +65,20 @@ struct EvaluationRun<'a, R> {
     translator: &'a Translator,
     grammar: Source<'a>,
     paths: &'a EvalPaths<'a>,
-    /// Whether the progress is shown.
+    /// How messages are printed, and whether the progress is shown.
     screen: Screen,
 }
 
 impl<R: Files + Input + Print + Eprint + Clock> EvaluationRun<'_, R> {
-    /// Translates the tree, and writes the translation to the file at `path`.
+    /// Translates the tree into memory, and writes the translation to the file at `path`.
     fn write(&self, path: &str) -> Result<(), FaultReport> {
         let mut text = Vec::new(self.alloc);
         self.run(&mut text).map_err(without_write_fault)?;
         write_file(self.rt, self.alloc, path, text.as_slice())
     }
 
-    /// Opens the tree file, or reads it from standard input, translates its tree, and writes the translation.
+    /// Opens the tree file, or reads it from standard input into memory. Then translates the tree,
+    /// and writes the translation to `out`.
     fn run<W: Write>(&self, out: &mut W) -> Result<(), FaultReport> {
         match self.paths.tree {
             InputPath::File(path) => {
@@ -139,7 +146,8 @@ impl<R: Files + Input + Print + Eprint + Clock> EvaluationRun<'_, R> {
         Ok(())
     }
 
-    /// Translates the tree on a device to a text in memory, and shows the progress.
+    /// Translates the tree on a device to a text in memory, and shows the progress. Nothing is
+    /// shown in pass 1: it reads `tree`, which is not a `ShownDevice`.
     fn run_shown<T: Device>(
         &self,
         tree: &mut T,
@@ -170,8 +178,10 @@ impl<R: Files + Input + Print + Eprint + Clock> EvaluationRun<'_, R> {
         )
     }
 
-    /// Returns the report of a fault. It names the folder of `--work` if a tree file there can't be opened, read or
-    /// written: if the fault is F1, or D1 and the device of the translated tree does not fail.
+    /// Returns the report of a fault. With `--work` the report names the folder if a tree file
+    /// there seems to have failed: if the fault is F1, or if it is D1 and the device of the
+    /// translated tree still returns its length. Otherwise the report names the translated tree
+    /// file.
     fn report_of<T: Device>(&self, fault: Fault, tree: &mut T) -> FaultReport {
         let is_of_folder = match fault {
             Fault::File => true,
@@ -187,8 +197,9 @@ impl<R: Files + Input + Print + Eprint + Clock> EvaluationRun<'_, R> {
         with_cause(report, cause)
     }
 
-    /// Returns what the message says of the cause, if the translation is an error. Translates the tree once more, with
-    /// the tree files in memory, since the cause is found in the last one.
+    /// Returns what the message says of the cause, if the fault is O1 and the root's `out` is an
+    /// error. Finding the cause needs the file of the last pass. So this translates the tree once
+    /// more, with the tree files in memory.
     fn cause_of<T: Device>(&self, fault: &Fault, tree: &mut T) -> Option<String> {
         if !matches!(fault, Fault::NoText(_)) {
             return None;

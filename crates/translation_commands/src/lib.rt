@@ -1,6 +1,6 @@
-//! The commands that translate and those that write tree files: `run` of one sentence or of many, `eval`, jobs,
-//! `parse` and `upgrade`. Also how messages and progress are shown on standard error, and what the message of an
-//! error says of its cause.
+//! The commands that translate and those that write tree files: `run` of one sentence or of many,
+//! `eval`, jobs, `parse` and `upgrade`. Also how messages and progress are shown on standard error,
+//! and what the message of O1 says of the cause if the root's `out` is an error.
 #![tactic(auto)]
 
 mod batch;

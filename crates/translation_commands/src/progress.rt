@@ -1,4 +1,4 @@
-//! How far a translation is, shown on a terminal.
+//! The progress of a translation, shown on a terminal.
 
 ghost use Rattle.std.specs.Prelude.{◌≡◌};
 
@@ -15,11 +15,12 @@ const DELAY: u64 = 2_000;
 /// How long a line is shown before the next one, in milliseconds.
 const INTERVAL: u64 = 200;
 
-/// The number of calls that append after which the clock is read, while a sentence is parsed.
+/// While a sentence is parsed, the clock is read once in this number of calls that append.
 const APPENDS: u32 = 256;
 
-/// How far a translation is: the pass, and how far the tree file that it reads has been read. A line on
-/// standard error shows it, once the translation has taken two seconds. Failed writes of the line are ignored.
+/// The progress of a translation: the current pass, and which part of its tree file has been read.
+/// A line on standard error shows the progress, once the translation has taken two seconds. Failed
+/// writes of the line are ignored.
 #[derive(Drop)]
 pub struct Progress<'a, R> {
     rt: &'a R,
@@ -29,17 +30,17 @@ pub struct Progress<'a, R> {
     next: Cell<Duration>,
     /// Whether a line is shown.
     is_shown: Cell<bool>,
-    /// The pass of the first tree file that is written.
+    /// The pass of the first tree file that is written: 0 if a sentence is parsed first.
     first: u16,
-    /// The number of tree files that were begun.
+    /// The number of tree files that were begun, that of the parser included.
     written: Cell<u16>,
-    /// The number of calls that appended since the clock was last read for them.
+    /// The number of calls that appended, modulo `APPENDS`.
     appends: Cell<u32>,
 }
 
 impl<'a, R: Clock + Eprint> Progress<'a, R> {
-    /// Returns the progress of a translation that began at a time of the clock, and needs `passes` passes. The
-    /// first tree file that is written is that of pass `first`.
+    /// Returns the progress of a translation that began at a time of the clock, and needs `passes`
+    /// passes. The first tree file that is written is that of pass `first`.
     pub fn new(rt: &'a R, began: Duration, passes: u16, first: u16) -> Progress<'a, R> {
         Progress {
             rt,
@@ -52,19 +53,21 @@ impl<'a, R: Clock + Eprint> Progress<'a, R> {
         }
     }
 
-    /// Notes that the next pass begins to write its tree file.
+    /// Counts a tree file that is begun, by the parser or by a pass. Each of them first clears its
+    /// device.
     fn begin_pass(&self) {
         self.written.set(self.written.get().saturating_add(1));
     }
 
-    /// Returns the pass whose tree file is written; 0 while the sentence is parsed.
+    /// Returns the number of the pass whose tree file is written; 0 while the sentence is parsed.
     fn pass(&self) -> u16 {
         self.first
             .saturating_add(self.written.get())
             .saturating_sub(1)
     }
 
-    /// Notes a call that appends. While the sentence is parsed, shows a line if one is due.
+    /// Counts a call that appends. While the sentence is parsed, each `APPENDS`th call shows a line
+    /// if one is due.
     fn note_append(&self) {
         let appends = self.appends.get().saturating_add(1);
         if appends < APPENDS {
@@ -77,8 +80,8 @@ impl<'a, R: Clock + Eprint> Progress<'a, R> {
         }
     }
 
-    /// Notes that a tree file of `length` bytes has been read from its end down to the offset `at`. Shows a line if one
-    /// is due.
+    /// Shows a line if one is due: a tree file of `length` bytes has been read from its end down to
+    /// the offset `at`.
     fn note_read(&self, at: u64, length: u64) {
         if self.is_due() {
             let line = ProgressLine::Reading {
@@ -90,7 +93,8 @@ impl<'a, R: Clock + Eprint> Progress<'a, R> {
         }
     }
 
-    /// Returns whether a line is due. If so, notes that it is shown now: the next one is due after `INTERVAL`.
+    /// Returns whether a line is due. If so, records that a line is shown now, so that the next one
+    /// is due after `INTERVAL`. Returns false if the clock can't be read.
     fn is_due(&self) -> bool {
         let Ok(now) = self.rt.monotonic() else {
             return false;
@@ -117,12 +121,13 @@ fn percent_of(part: u64, whole: u64) -> u64 {
     part.saturating_mul(100).checked_div(whole).unwrap_or(100)
 }
 
-/// A device that forwards each call to another one, and shows how far the translation is. It has the content,
-/// the honesty and the failures of the other one.
+/// A device that forwards each call to another device, and shows the progress of the translation.
+/// It has the content, the honesty and the failures of the other device.
 #[derive(Drop)]
 pub struct ShownDevice<'a, D, R> {
     inner: D,
-    /// The length in bytes that the last call of `len` returned; 0 if it failed, or before the first call.
+    /// The length in bytes that the last call of `len` returned; 0 if it failed, or before the
+    /// first call.
     length: u64,
     progress: &'a Progress<'a, R>,
 }

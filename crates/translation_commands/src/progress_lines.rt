@@ -1,11 +1,12 @@
-//! The lines that show how far a translation is.
+//! The lines that show the progress of a translation.
 
 use std::fmt;
 
-/// The control characters that erase the line of a terminal.
+/// The control characters that move the cursor of a terminal to the beginning of the line, and
+/// erase the line.
 const ERASE: &str = "\r\u{1b}[K";
 
-/// What a terminal shows of a translation.
+/// A line that replaces the current one on a terminal.
 #[derive(Clone, Copy)]
 pub enum ProgressLine {
     /// Nothing.
@@ -18,7 +19,7 @@ pub enum ProgressLine {
         pass: u16,
         /// The number of passes.
         passes: u16,
-        /// How much of the tree file has been read, in hundredths.
+        /// The part of the tree file that has been read, in hundredths.
         percent: u64,
     },
 }

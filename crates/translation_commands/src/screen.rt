@@ -29,7 +29,8 @@ pub struct Screen {
 }
 
 impl Screen {
-    /// Returns how messages are printed before a command line was parsed: without colour, and without progress.
+    /// Returns the screen for messages if no command line was parsed: without colour, and without
+    /// progress.
     pub fn plain() -> Screen {
         Screen {
             is_quiet: false,
@@ -38,9 +39,13 @@ impl Screen {
         }
     }
 
-    /// Returns how messages are printed. They are marked as the command line says. If it leaves that open, they are
-    /// marked on a terminal, unless the environment variable `NO_COLOR` is not empty, or the terminal is a dumb one.
-    /// Progress is shown on a terminal, unless messages are off or the terminal is a dumb one.
+    /// Returns the screen for a command line's `messages`. `is_terminal` says whether standard
+    /// error is a terminal.
+    ///
+    /// `Color::Always` and `Color::Never` decide whether messages are marked. With `Color::Auto`
+    /// they are marked on a terminal, unless the environment variable `NO_COLOR` is not empty, or
+    /// the terminal is dumb (`is_dumb`). Progress is shown on a terminal, unless messages are quiet
+    /// or the terminal is dumb.
     pub fn new<R: Env + AllocGlobal>(rt: &R, messages: Messages, is_terminal: bool) -> Screen {
         let is_marked = match messages.color {
             Color::Always => true,
@@ -59,8 +64,8 @@ impl Screen {
         self.shows_progress
     }
 
-    /// Returns the progress of a translation, if it is shown. The first tree file that is written is that of
-    /// pass `first`.
+    /// Returns the progress of a translation that begins now. The first tree file that is written
+    /// is that of pass `first`. Returns `None` if no progress is shown, or the clock can't be read.
     pub fn progress<'a, R: Clock + Eprint>(
         self,
         rt: &'a R,
@@ -75,8 +80,9 @@ impl Screen {
         Some(Progress::new(rt, began, passes, first))
     }
 
-    /// Prints a message on standard error, in one line; nothing if messages are off, unless the command line is
-    /// misused. A message that can't be printed is ignored: the status shows which kind of failure it was.
+    /// Prints a message on standard error, in one line. If messages are quiet, prints only one
+    /// about a misused command line. If the message can't be printed, does nothing: the exit status
+    /// still shows the kind of failure.
     pub fn print<R: Eprint>(self, rt: &R, alloc: Global, report: &FaultReport) {
         if self.is_quiet && !matches!(report.fault, Fault::Usage) {
             return;
@@ -93,7 +99,8 @@ impl Screen {
     }
 }
 
-/// Returns whether the environment allows colours.
+/// Returns whether the environment allows colours: if `NO_COLOR` is missing or empty, or can't be
+/// read.
 fn allows_colors<R: Env + AllocGlobal>(rt: &R) -> bool {
     match std::env::var(rt, "NO_COLOR") {
         Ok(value) => value.is_empty(),
@@ -101,7 +108,8 @@ fn allows_colors<R: Env + AllocGlobal>(rt: &R) -> bool {
     }
 }
 
-/// Returns whether the terminal is a dumb one, which shows text alone: `TERM` is `dumb`, or can't be read.
+/// Returns whether the terminal is dumb, which means that it shows text alone: `TERM` is `dumb` or
+/// missing, or can't be read.
 fn is_dumb<R: Env + AllocGlobal>(rt: &R) -> bool {
     match std::env::var(rt, "TERM") {
         Ok(value) => value.as_str() == "dumb",
@@ -109,7 +117,8 @@ fn is_dumb<R: Env + AllocGlobal>(rt: &R) -> bool {
     }
 }
 
-/// Returns the line of a report with the fault's number and the place marked. None if memory is refused.
+/// Returns the line of a report with the fault's number and the place marked; `None` if memory is
+/// refused.
 fn marked_line(alloc: Global, report: &FaultReport) -> Option<String> {
     let line = report.to_string(alloc).ok()?;
     let fault = report.fault.to_string(alloc).ok()?;
@@ -131,8 +140,9 @@ fn number_len(fault: &str) -> usize {
     }
 }
 
-/// Returns the offset of a report's place in what follows its fault: after ` (` for a position, and else that of the
-/// file at the end; 0 if there is neither.
+/// Returns the offset in bytes of a report's place in `rest`, the line after the fault. A position
+/// comes after ` (`, which has 2 bytes. A file without a position is at the end. Returns 0 if there
+/// is neither.
 fn place_start(report: &FaultReport, rest: &str) -> usize {
     match (report.location, &report.file) {
         (Location::At(_), _) => 2,
@@ -141,8 +151,9 @@ fn place_start(report: &FaultReport, rest: &str) -> usize {
     }
 }
 
-/// Returns the number of bytes of a report's place: a file with line and column, or a file alone; 0 without a file.
-/// None if memory is refused.
+/// Returns the number of bytes of a report's place: a file with line and column, or a file alone.
+/// Returns 0 without a file, also for a position: it is not marked. Returns `None` if memory is
+/// refused.
 fn place_len(alloc: Global, report: &FaultReport) -> Option<usize> {
     match (report.location, &report.file) {
         (Location::At(Position { line, column }), Some(file)) => {
@@ -154,7 +165,8 @@ fn place_len(alloc: Global, report: &FaultReport) -> Option<usize> {
     }
 }
 
-/// Returns the parts of a text before and after an offset.
+/// Returns the parts of a text before and after an offset in bytes; the whole text and an empty one
+/// if the offset is not within the text or divides a character.
 fn parts_at(text: &str, at: usize) -> (&str, &str) {
     match text.split_at_checked(at) {
         Some(parts) => parts,

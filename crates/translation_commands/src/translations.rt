@@ -22,9 +22,13 @@ use std::io::{self, Write};
 use std::rt::{Clock, Files};
 use treefile::{Device, FileDevice, SharedDevice};
 
-/// Translates a sentence, and prints the translation or writes it to a file. The grammar is read first, then
-/// the sentence; only then are tree files created, and the translation's file after these. Fails before the grammar is
-/// read if the translation's file is one of the inputs or a tree file.
+/// Translates a sentence, and prints the translation or writes it to a file. Reads the grammar,
+/// then the sentence, then creates the tree files of `--work`, and at last writes the translation.
+///
+/// Fails before the grammar is read if an input is one of the tree files of `--work`, or if the
+/// translation's file is an input or one of these tree files. Fails if an input can't be read, if
+/// the grammar, the sentence or the translation is refused, if a tree file or the output fails, and
+/// if memory is refused.
 pub fn run_sentence<R: Files + Input + Print + Eprint + Clock>(
     rt: &R,
     alloc: Global,
@@ -62,7 +66,9 @@ pub fn run_sentence<R: Files + Input + Print + Eprint + Clock>(
     }
 }
 
-/// Translates the job on standard input, with its trees in memory, and prints the translation.
+/// Translates the job on standard input, with its tree files in memory, and prints the translation.
+/// Fails if the job can't be read or split (`Job::read`), if its grammar, its sentence or the
+/// translation is refused, if the output fails, and if memory is refused.
 pub fn run_input<R: Files + Input + Print + Eprint + Clock>(
     rt: &R,
     alloc: Global,
@@ -74,7 +80,7 @@ pub fn run_input<R: Files + Input + Print + Eprint + Clock>(
     }
 }
 
-/// Translates a job, with its trees in memory, and prints the translation.
+/// Translates a job, with its tree files in memory, and prints the translation.
 fn translate_job<R: Files + Print + Eprint + Clock>(
     rt: &R,
     alloc: Global,
@@ -87,7 +93,7 @@ fn translate_job<R: Files + Print + Eprint + Clock>(
     translating.run(sentence, &mut io::writer(rt))
 }
 
-/// A translator, the folder of its tree files, and whether its progress is shown.
+/// What a run of a translator needs besides the sentence.
 #[derive(Drop)]
 pub struct TranslationRun<'a, R> {
     /// The runtime.
@@ -100,12 +106,12 @@ pub struct TranslationRun<'a, R> {
     pub grammar: Source<'a>,
     /// The folder for the tree files. If there is none, they are kept in memory.
     pub work: Option<&'a str>,
-    /// Whether the progress is shown.
+    /// How messages are printed, and whether the progress is shown.
     pub screen: Screen,
 }
 
 impl<'a, R> TranslationRun<'a, R> {
-    /// Returns a run of a translator that keeps its trees in memory.
+    /// Returns a run of a translator that keeps the tree files in memory.
     fn in_memory(
         rt: &'a R,
         alloc: Global,
@@ -125,14 +131,17 @@ impl<'a, R> TranslationRun<'a, R> {
 }
 
 impl<R: Files + Print + Eprint + Clock> TranslationRun<'_, R> {
-    /// Translates a sentence, and writes the translation to the file at `path`.
+    /// Translates a sentence into memory, and writes the translation to the file at `path`. Fails
+    /// as `run` and `write_file` do.
     pub fn write(&self, sentence: Source<'_>, path: &str) -> Result<(), FaultReport> {
         let mut text = Vec::new(self.alloc);
         self.run(sentence, &mut text).map_err(without_write_fault)?;
         write_file(self.rt, self.alloc, path, text.as_slice())
     }
 
-    /// Translates a sentence, and writes the translation.
+    /// Translates a sentence, and writes the translation to `out`. On failure returns the report:
+    /// it names the folder of the tree files for F1 and D1 with `--work`, and otherwise it is about
+    /// the sentence.
     fn run<W: Write>(&self, sentence: Source<'_>, out: &mut W) -> Result<(), FaultReport> {
         let mut cause = None;
         let translated = match self.screen.progress(self.rt, self.translator, 0) {
@@ -151,8 +160,9 @@ impl<R: Files + Print + Eprint + Clock> TranslationRun<'_, R> {
         }
     }
 
-    /// Returns what the message says of the cause, if the translation is an error. The devices contain the last two
-    /// tree files.
+    /// Returns what the message says of the cause, if the translation failed with O1 and the root's
+    /// `out` is an error. The devices contain the last two tree files then. Returns `None`
+    /// otherwise.
     fn cause_of<D: Device>(
         &self,
         translated: &Result<aggen::Report, Fault>,
@@ -171,8 +181,8 @@ impl<R: Files + Print + Eprint + Clock> TranslationRun<'_, R> {
         finder.cause_of(self.alloc, fault, a, b)
     }
 
-    /// Translates a sentence without showing the progress, and writes the translation. Sets `cause` to what the message
-    /// says of the cause, if the translation is an error.
+    /// Translates a sentence without showing the progress, and writes the translation to `out`.
+    /// Sets `cause` to the result of `cause_of`.
     fn run_unseen<W: Write>(
         &self,
         sentence: Source<'_>,
@@ -200,8 +210,8 @@ impl<R: Files + Print + Eprint + Clock> TranslationRun<'_, R> {
         Ok(())
     }
 
-    /// Translates a sentence, and shows the progress. The translation is written after the last line of progress has
-    /// been erased. Sets `cause` as `run_unseen` does.
+    /// Translates a sentence into memory, and shows the progress. Then erases the line of progress,
+    /// and writes the translation to `out`. Sets `cause` as `run_unseen` does.
     fn run_shown<W: Write>(
         &self,
         sentence: Source<'_>,
@@ -232,8 +242,9 @@ impl<R: Files + Print + Eprint + Clock> TranslationRun<'_, R> {
         write_translation(translated, text.as_slice(), out)
     }
 
-    /// Translates a sentence with the tree files in a folder, and shows the progress. Returns what the message says of
-    /// the cause too, if the translation is an error.
+    /// Translates a sentence to `text` with the tree files in a folder, and shows the progress.
+    /// Returns the result of the translation and that of `cause_of`. If a tree file can't be opened
+    /// or written out, returns that fault and no cause.
     fn run_shown_in(
         &self,
         folder: &str,
@@ -269,8 +280,8 @@ impl<R: Files + Print + Eprint + Clock> TranslationRun<'_, R> {
     }
 }
 
-/// Writes to both files what their devices have buffered; to the second one also if the first one fails. Fails with
-/// D1 if a write fails.
+/// Writes to both files the bytes that their devices have buffered, to the second one also if the
+/// first one fails. Fails with D1 if one of these writes or an earlier one failed.
 pub fn finish<F: io::Read + Write + io::Seek + OpenFile + Drop>(
     mut a: FileDevice<F>,
     mut b: FileDevice<F>,
@@ -282,9 +293,10 @@ pub fn finish<F: io::Read + Write + io::Seek + OpenFile + Drop>(
     Ok(())
 }
 
-/// Writes the text of a translation that was made in memory. Fails with O2 if a write to `out` fails or takes
-/// no byte. If the translation failed, fails as it did, and nothing is written; but with NoMemory for O2, since
-/// a write to a buffer in memory fails only if memory is refused.
+/// Writes the text of a translation that was made in memory. Fails with O2 if a write to `out`
+/// fails or takes no byte. If `translated` is a failure, writes nothing, and fails with the same
+/// fault. But O2 becomes NoMemory, since a write to a buffer in memory fails only if memory is
+/// refused.
 pub fn write_translation<W: Write>(
     translated: Result<aggen::Report, Fault>,
     text: &[u8],
@@ -304,8 +316,8 @@ pub fn write_translation<W: Write>(
     }
 }
 
-/// Returns the report of a failed translation into memory: with NoMemory instead of O2, since a write to a buffer in
-/// memory fails only if memory is refused.
+/// Returns the report of a failed translation into memory, with NoMemory instead of O2: a write to
+/// a buffer in memory fails only if memory is refused.
 pub fn without_write_fault(mut report: FaultReport) -> FaultReport
     ensures { result.fault ≢ Fault.Write }
 {

@@ -11,8 +11,12 @@ use std::io;
 use std::rt::Files;
 use treefile::FileDevice;
 
-/// Writes the tree file of a sentence, and prints the number of its nodes. The grammar is read first, then the
-/// sentence, and only then is the tree file created. Fails before if the tree file is one of these two.
+/// Writes the tree file of a sentence, and prints the number of nodes. Reads the grammar, then the
+/// sentence, and then creates the tree file.
+///
+/// Fails before the grammar is read if the tree file is the grammar or the sentence. Fails if an
+/// input can't be read, if the grammar or the sentence is refused, if the tree file or the output
+/// fails, and if memory is refused.
 pub fn parse_file<R: Files + Input + Print>(
     rt: &R,
     alloc: Global,
@@ -24,7 +28,7 @@ pub fn parse_file<R: Files + Input + Print>(
     parse_file_with(rt, alloc, &translator, paths)
 }
 
-/// Reads the sentence, writes its tree file with a translator, and prints the number of its nodes.
+/// Reads the sentence, writes its tree file with a translator, and prints the number of nodes.
 fn parse_file_with<R: Files + Input + Print>(
     rt: &R,
     alloc: Global,
@@ -42,7 +46,7 @@ fn parse_file_with<R: Files + Input + Print>(
     }
 }
 
-/// Opens the file at `path`, writes the tree file of a sentence there, and prints the number of its
+/// Opens the file at `path`, writes the tree file of a sentence there, and prints the number of
 /// nodes.
 fn write_tree<R: Files + Print>(
     rt: &R,
@@ -59,8 +63,12 @@ fn write_tree<R: Files + Print>(
     }
 }
 
-/// Converts a tree file of version 1 to version 2, and prints the number of its nodes. The grammar is read first,
-/// then the old file is opened, and only then is the new one created. Fails before if the new file is the grammar.
+/// Converts a tree file of version 1 to version 2, and prints the number of nodes. Reads the
+/// grammar, then opens the old file, and then creates the new one. Both may be one file.
+///
+/// Fails before the grammar is read if the new file is the grammar. Fails if the grammar can't be
+/// read or is refused, if the old file is refused, if a file or the output fails, and if memory is
+/// refused.
 pub fn convert_file<R: Files + Input + Print>(
     rt: &R,
     alloc: Global,
@@ -71,7 +79,7 @@ pub fn convert_file<R: Files + Input + Print>(
     convert_file_with(rt, alloc, &translator, paths)
 }
 
-/// Opens the old file, converts it with a translator, and prints the number of its nodes.
+/// Opens the old file, converts it with a translator, and prints the number of nodes.
 fn convert_file_with<R: Files + Print>(
     rt: &R,
     alloc: Global,
@@ -84,7 +92,7 @@ fn convert_file_with<R: Files + Print>(
     }
 }
 
-/// Converts the tree file of `old`, and prints the number of its nodes.
+/// Converts the tree file of `old`, and prints the number of nodes.
 fn convert_tree<R: Files + Print>(
     rt: &R,
     alloc: Global,
@@ -104,8 +112,7 @@ fn convert_tree<R: Files + Print>(
     }
 }
 
-/// Opens the file at `path`, converts the tree file of `old` to it, and prints the number of its
-/// nodes.
+/// Opens the file at `path`, converts the tree file of `old` to it, and prints the number of nodes.
 fn write_converted<R: Files + Print>(
     rt: &R,
     alloc: Global,

@@ -16,7 +16,7 @@ use rows::words::Mistake;
 use std::alloc::{AllocError, Global};
 use std::cell::Cell;
 
-/// The grammar of groups of lists.
+/// The grammar of groups of lists of letters. A `;` ends a group, and a `,` ends a list.
 const GROUPS: &str = "start S; symbol S syn out; symbol T syn c; symbol V syn c;
 S = T \";\" S { $0.out = \"\"; }
 S = { $0.out = \"\"; }
@@ -48,7 +48,8 @@ fn frames_answer(alloc: Global, bytes: u64, puts: u64, before: u64) -> Result<St
 }
 
 /// Returns whether each file of a device was read at least 112 times after its header, and at least 400 frames were
-/// appended between each of these reads and the next. What was appended before the last read is ignored.
+/// appended between each of these reads and the next. What was appended before the last read is ignored. The frames of
+/// the tree's nodes fill 112 blocks of 4,096 bytes, and a block has about 585 of them.
 fn is_by_blocks(device: &CountingDevice<'_>) -> bool {
     device.fewest_reads() >= 112 && device.least_gap() >= 400
 }
@@ -178,6 +179,7 @@ fn run<'p>(
     requires { IsPlan grammar.now plan.now.0 plan.now.1 }
 {
     let mut meter = Meter::new();
+    // The contract of `passes` says that there is a greatest pass, as `run_all` requires.
     let _passes = plan.assignment().passes();
     match run_all(alloc, grammar, plan, 1, a, b, &mut meter) {
         Ok((last, passed)) => Ok(format!(in alloc;

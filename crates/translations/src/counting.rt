@@ -13,9 +13,10 @@ struct Reading {
     reads: u64,
     /// The number of appends before the last read.
     puts: u64,
-    /// The number of appends between the last two reads.
+    /// The number of appends between the last two reads, or `u64::MAX` before the second read.
     last_gap: u64,
-    /// The least number of appends between two successive reads, without the last two reads.
+    /// The least number of appends between two successive reads before the last one, or `u64::MAX` before
+    /// the third read.
     least_gap: u64,
 }
 

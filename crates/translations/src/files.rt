@@ -1,17 +1,17 @@
-//! Answers questions about the tree file of a value, and about reading a source to its end.
+//! Answers questions about the file that `show_value` writes, and about `bytes_of`, which reads a reader to its end.
 
 use aggen::{bytes_of, show_value};
 use rows::words::{Mistake, shown_bytes};
 use std::alloc::{AllocError, Global};
 use treefile::MemDevice;
 
-/// Returns the bytes of a file, and the text that was printed.
+/// Returns the bytes of a file, then the printed text.
 fn file_text(alloc: Global, file: &MemDevice, out: &[u8]) -> Result<String, AllocError> {
     let file = shown_bytes(alloc, file.bytes())?;
     format!(in alloc; "{file} {:?}", str::from_utf8(out))
 }
 
-/// Returns the file of the value of an expression, and the line that `show_value` prints. Fails with `Unfit` if
+/// Returns the file that `show_value` writes for an expression, then the line that it prints. Fails with `Unfit` if
 /// `show_value` fails.
 pub fn file_answer(alloc: Global, text: &str) -> Result<String, Mistake> {
     let mut device = MemDevice::new(alloc);

@@ -1,4 +1,4 @@
--- Which fault follows from the fault of a part. This project's.
+-- The conversions of faults of other crates to faults of this crate. All of this is this project's.
 use Rattle.ag_value.specs.declared.fault.ValueFault.{ValueFault}
 use Rattle.ag_value.specs.declared.fault.ValueFault.TheVariants as value_fault
 use Rattle.treefile.specs.declared.reading.FrameFault.{FrameFault}
@@ -8,10 +8,12 @@ use Rattle.tree_index.specs.declared.fault.ShapeFault.TheVariants as record_faul
 use Rattle.tree_index.specs.declared.fault.TreeFault.{TreeFault}
 use Rattle.tree_index.specs.declared.fault.TreeFault.TheVariants as tree_fault
 
+-- of a fault of reading a value
 abbrev pub record_fault_of : ValueFault → ShapeFault
 record_fault_of value_fault.Malformed = record_fault.Damaged
 record_fault_of value_fault.NoMemory = record_fault.NoMemory
 
+-- of a fault of reading a frame
 abbrev pub tree_fault_of : FrameFault → TreeFault
 tree_fault_of frame_fault.NotATreeFile = tree_fault.Damaged 0
 tree_fault_of (frame_fault.Damaged at) = tree_fault.Damaged at

@@ -1,5 +1,5 @@
--- The nodes of a tree in the order in which its file is read from its end, and the index that has them. All of this is this
--- project's.
+-- The nodes of a tree in the order in which the tree's file is read from its end, and the index that has these nodes. All of
+-- this is this project's.
 use Rattle.std.specs.Prelude.{ℕ, zero, suc, ◌≡◌, ◌<◌, ◌^◌, List, [], ◌∷◌, ◌++◌, ◌≤◌, drop, map, reverse, length, slice_get}
 use Rattle.std.specs.Prelude.{Option, None, Some, Ok}
 use Rattle.std.specs.List.{flat_map}
@@ -48,6 +48,7 @@ abbrev mutual
   nodes_of_all d none vs = []
   nodes_of_all d (more t ts) vs = both d (nodes_of d t (vs 0)) (nodes_of_all d ts (rest vs))
 
+-- the nodes of one subtree
 abbrev pub nodes_below : Direction → Subtree → List Subtree
 nodes_below d s = nodes_of d s.tree s.values
 
@@ -63,11 +64,11 @@ kind_of (node p ts) = kind.Node p
 abbrev pub kind_at : Subtree → NodeKind
 kind_at s = kind_of s.tree
 
--- the number of nodes of its subtree
+-- the number of nodes of a subtree
 abbrev pub size_at : Subtree → ℕ
 size_at s = node_count s.tree
 
--- the body of its record in the file of a pass
+-- the body of a node's record in the file of pass k, by the assignment m
 abbrev pub record_of : Grammar → Passes → ℕ → Tree → Valuation → List ℕ
 record_of g m k (leaf c x) v = token_body c x
 record_of g m k (node p ts) v = node_body version_two g m k p (v []) (copies_of g m k ts (children v))
@@ -75,7 +76,7 @@ record_of g m k (node p ts) v = node_body version_two g m k p (v []) (copies_of 
 abbrev pub record_at : Grammar → Passes → ℕ → Subtree → List ℕ
 record_at g m k s = record_of g m k s.tree s.values
 
--- Records of a content, one after the other, end at these offsets.
+-- At each of these offsets of a content ends a frame with the body at the same index of the list of bodies.
 abbrev pub AreEnds : List ℕ → List ℕ → List (List ℕ) → Type 0
 AreEnds content [] [] = Unit {0}
 AreEnds content [] (body ∷ bodies) = ⊥
@@ -87,7 +88,7 @@ AreEnds content (end ∷ ends) (body ∷ bodies) = (next_before version_two cont
 abbrev pub back_from : ℕ → Direction
 back_from pass = other (direction_of pass)
 
--- An index has the nodes of a tree: what each is, and the number of nodes of its subtree.
+-- An index of the file of pass k has the nodes of a tree: what each node is, and the number of nodes of its subtree.
 pub record HasNodes (k : ℕ) (t : Tree) (v : Valuation) (index : TreeIndex) : Type 0 where
   pub pass : index.pass ≡ k
   pub kinds : index.kinds.items ≡ map kind_at (nodes_of (back_from k) t v)
@@ -99,7 +100,8 @@ pub record IsIndexOf (g : Grammar) (m : Passes) (k : ℕ) (t : Tree) (v : Valuat
     pub nodes : HasNodes k t v index
     pub ends : AreEnds content index.ends.items (map (record_at g m k) (nodes_of (back_from k) t v))
 
--- Something is true of each tree and values whose file a content is.
+-- P holds for each legal assignment m, pass k, tree t of the grammar and values v such that the content is the file of pass k
+-- of t and v by m.
 abbrev pub OfEach : (Passes → ℕ → Tree → Valuation → Type 0) → Grammar → List ℕ → Type 0
 OfEach P g content = (m : Passes) (k : ℕ) (t : Tree) (v : Valuation) → k < 2 ^ 16 → IsLegal g m → IsTreeOf g t
     → IsFileOfTree version_two g m k t v content → P m k t v
@@ -108,7 +110,7 @@ OfEach P g content = (m : Passes) (k : ℕ) (t : Tree) (v : Valuation) → k < 2
 abbrev pub IsIndexIn : Grammar → List ℕ → TreeIndex → Type 0
 IsIndexIn g content index = OfEach (λ m k t v. IsIndexOf g m k t v content index) g content
 
--- what an index says of a node
+-- what an index has for the number of a node: the end of its record, what it is, and the number of nodes of its subtree
 abbrev pub end_of : TreeIndex → ℕ → Option ℕ
 end_of index number = slice_get index.ends.items number
 
@@ -118,27 +120,27 @@ kind_in index number = slice_get index.kinds.items number
 abbrev pub size_of : TreeIndex → ℕ → Option ℕ
 size_of index number = slice_get index.sizes.items number
 
--- the number of children of what a node is
+-- The number of children of a node of this kind; 0 if there is no node.
 abbrev pub HasCount : Grammar → Option NodeKind → ℕ → Type 0
 HasCount g None count = count ≡ 0
 HasCount g (Some (kind.Token c)) count = count ≡ 0
 HasCount g (Some (kind.Node p)) count = (q : Production) → IsProduction g p q → count ≡ length (stored_items q.items)
 
--- The nodes of a subtree are in a list of nodes from a number on.
+-- A list of nodes has the nodes of the tree t, one after the other, from index `number` on.
 pub record IsSubtreeAt (d : Direction) (nodes : List Subtree) (number : ℕ) (t : Tree) (v : Valuation) : Type 0 where
   pub prefix : List Subtree
   pub others : List Subtree
   pub split : nodes ≡ prefix ++ (nodes_of d t v ++ others)
   pub at : length prefix ≡ number
 
--- those of some subtrees, one after the other
+-- A list of nodes has the nodes of some subtrees, one subtree after the other, from index `number` on.
 pub record StandAt (d : Direction) (nodes : List Subtree) (number : ℕ) (subtrees : List Subtree) : Type 0 where
   pub prefix : List Subtree
   pub others : List Subtree
   pub split : nodes ≡ prefix ++ (nodes_in d subtrees ++ others)
   pub at : length prefix ≡ number
 
--- The number is that of the child at a place, which counts from 1, of a node with these children.
+-- In a list of nodes, `number` is the index of the child at a place (from 1) of a node with the children ts.
 pub record IsKid (d : Direction) (nodes : List Subtree) (ts : Forest) (v : Valuation) (place number : ℕ) : Type 0 where
   pub index : ℕ
   pub counted : place ≡ suc index
@@ -146,24 +148,26 @@ pub record IsKid (d : Direction) (nodes : List Subtree) (ts : Forest) (v : Valua
   pub there : slice_get (kids ts (children v)) index ≡ Some kid
   pub occurs : IsSubtreeAt d nodes number kid.tree kid.values
 
+-- the same for a tree, which has no children if it is a leaf
 abbrev pub IsKidOf : Direction → List Subtree → Tree → Valuation → ℕ → ℕ → Type 0
 IsKidOf d nodes (leaf c x) v place number = ⊥
 IsKidOf d nodes (node p ts) v place number = IsKid d nodes ts v place number
 
--- In each tree of the grammar that the index has, a number is that of the child at a place of the node of another number.
+-- In each tree of the grammar that the index has, `child` is the number of the child at a place (from 1) of node `number`.
 abbrev pub HasChild : Grammar → TreeIndex → ℕ → ℕ → ℕ → Type 0
 HasChild g index number place child = (k : ℕ) (t : Tree) (v : Valuation) (x : Item) (tree : Tree) (w : Valuation)
     → HasNodes k t v index → Fits g x tree → IsSubtreeAt (back_from k) (nodes_of (back_from k) t v) number tree w
     → IsKidOf (back_from k) (nodes_of (back_from k) t v) tree w place child
 
--- The number is that of the child of a node that comes after `before` others, in the direction in which the file is read.
+-- In each tree that the index has, the children of node `number` without the first `before` ones, in the direction in which
+-- the file is read, begin at number `child`.
 abbrev pub HasLater : TreeIndex → ℕ → ℕ → ℕ → Type 0
 HasLater index number before child = (k : ℕ) (t : Tree) (v : Valuation) (p : ℕ) (ts : Forest) (w : Valuation)
     → HasNodes k t v index → before ≤ length (kids ts (children w))
     → IsSubtreeAt (back_from k) (nodes_of (back_from k) t v) number (node p ts) w
     → StandAt (back_from k) (nodes_of (back_from k) t v) child (drop before (in_order (back_from k) (kids ts (children w))))
 
--- The item of the node of a number, in each tree of the grammar that an index has.
+-- In each tree of the grammar that an index has, the item of the node of a number is `found`.
 abbrev pub HasItem : Grammar → TreeIndex → ℕ → Item → Type 0
 HasItem g index number found = (k : ℕ) (t : Tree) (v : Valuation) (x : Item) (tree : Tree) (w : Valuation) → HasNodes k t v index
     → Fits g x tree → IsSubtreeAt (back_from k) (nodes_of (back_from k) t v) number tree w → x ≡ found
@@ -174,7 +178,7 @@ child_in t v zero = None
 child_in (leaf c x) v (suc index) = None
 child_in (node p ts) v (suc index) = slice_get (kids ts (children v)) index
 
--- A node of a tree is at the end of some places from the root.
+-- The node `found` of a tree is at the end of some places from the root.
 abbrev pub IsAtEndOf : List ℕ → Tree → Valuation → Subtree → Type 0
 IsAtEndOf [] t v found = found ≡ record { tree = t; values = v }
 IsAtEndOf (place ∷ places) t v found = (child : Subtree) × (child_in t v place ≡ Some child)
@@ -186,24 +190,24 @@ pub record IsNumberIn (d : Direction) (t : Tree) (v : Valuation) (places : List 
   pub there : IsAtEndOf places t v found
   pub numbered : IsSubtreeAt d (nodes_of d t v) number found.tree found.values
 
--- so it is in each tree of the grammar that the index has
+-- In each tree of the grammar that the index has, a number is that of the node at the end of some places.
 abbrev pub HasNodeAt : Grammar → TreeIndex → List ℕ → ℕ → Type 0
 HasNodeAt g index places number = (k : ℕ) (t : Tree) (v : Valuation) → HasNodes k t v index → IsTreeOf g t
     → IsNumberIn (back_from k) t v places number
 
--- In no tree that the index has, and which has fewer than 2 ^ 32 nodes, a child of the node comes after `before` others.
+-- In no tree of fewer than 2 ^ 32 nodes that the index has does node `number` have a child after `before` others.
 abbrev pub HasNoLater : TreeIndex → ℕ → ℕ → Type 0
 HasNoLater index number before = (k : ℕ) (t : Tree) (v : Valuation) (p : ℕ) (ts : Forest) (w : Valuation) → HasNodes k t v index
     → node_count t < 2 ^ 32 → before < length (kids ts (children w))
     → IsSubtreeAt (back_from k) (nodes_of (back_from k) t v) number (node p ts) w → ⊥
 
--- In no such tree of the grammar the node has a child at a place.
+-- In no tree of the grammar of fewer than 2 ^ 32 nodes that the index has does node `number` have a child at a place.
 abbrev pub HasNoChild : Grammar → TreeIndex → ℕ → ℕ → Type 0
 HasNoChild g index number place = (k : ℕ) (t : Tree) (v : Valuation) (x : Item) (tree : Tree) (w : Valuation)
     → HasNodes k t v index → node_count t < 2 ^ 32 → Fits g x tree
     → IsSubtreeAt (back_from k) (nodes_of (back_from k) t v) number tree w → child_in tree w place ≡ None
 
--- In no tree of the grammar that the index has, and which has fewer than 2 ^ 32 nodes, a node is at the end of some places.
+-- In no tree of the grammar of fewer than 2 ^ 32 nodes that the index has is a node at the end of some places.
 abbrev pub HasNoNodeAt : Grammar → TreeIndex → List ℕ → Type 0
 HasNoNodeAt g index places = (k : ℕ) (t : Tree) (v : Valuation) (found : Subtree) → HasNodes k t v index
     → node_count t < 2 ^ 32 → IsTreeOf g t → IsAtEndOf places t v found → ⊥

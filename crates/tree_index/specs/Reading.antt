@@ -1,4 +1,4 @@
--- The reading of a tree file from its end, and the index so far. All of this is this project's.
+-- The reading of a tree file from its end, and the index of the nodes that were read. All of this is this project's.
 use Rattle.std.specs.Prelude.{ℕ, ◌≡◌, ◌+◌, ◌-◌, ◌<◌, ◌≤◌, ◌⊎◌, Bool, List, [], ◌∷◌, ◌++◌, map, drop, length, get_or, min, set}
 use Rattle.std.specs.Prelude.{Some, Ok}
 use Rattle.ag_grammar.specs.declared.direction.Direction.{Direction}
@@ -32,7 +32,7 @@ BeginsRecord g (item.Symbol s) body number = (q : Production) × (bytes : List �
 BeginsRecord g (item.Terminal (Class c)) body number = (bytes : List ℕ) × (number ≡ c) × (body ≡ body_from Token number bytes)
 BeginsRecord g (item.Terminal (Literal l)) body number = ⊥
 
--- A record was read: its body is before the offset at which the reader was.
+-- A record of an item was read: it is the body of the frame that ends at the offset at which the reader was.
 pub record HasFetched (g : Grammar) (honest : Bool) (content : List ℕ) (x : Item) (old new : BackState) (fetched : Fetched) : Type
     0 where
   pub body : List ℕ
@@ -44,7 +44,7 @@ pub record HasFetched (g : Grammar) (honest : Bool) (content : List ℕ) (x : It
   pub few : old.progress.records < MAX_NODES
   pub counted : new.progress.records ≡ old.progress.records + 1
 
--- A node was added to an index.
+-- A node was added to an index, with a subtree of one node.
 pub record HasAdded (end : ℕ) (what : NodeKind) (old new : TreeIndex) : Type 0 where
   pub pass : new.pass ≡ old.pass
   pub ends : new.ends.items ≡ old.ends.items ++ end ∷ []
@@ -55,14 +55,15 @@ pub record HasAdded (end : ℕ) (what : NodeKind) (old new : TreeIndex) : Type 0
 abbrev pub in_four_bytes : ℕ → ℕ
 in_four_bytes count = min count 4294967295
 
--- A node of an index was closed: its subtree has all nodes from it on.
+-- A node of an index was closed: the size of its subtree is the number of nodes from this node on.
 pub record HasClosed (number : ℕ) (old new : TreeIndex) : Type 0 where
   pub pass : new.pass ≡ old.pass
   pub ends : new.ends.items ≡ old.ends.items
   pub kinds : new.kinds.items ≡ old.kinds.items
   pub sizes : new.sizes.items ≡ set old.sizes.items number (in_four_bytes (length old.sizes.items - number))
 
--- A node of a production of an accepted grammar was opened.
+-- `open_node` is a node of a production of an accepted grammar. It has the next number of the index, and none of its children
+-- was visited.
 pub record IsOpened (g : Grammar) (index : TreeIndex) (production : ℕ) (open_node : OpenRecord) : Type 0 where
   pub accepted : IsAccepted g
   pub number : open_node.number ≡ in_four_bytes (length index.ends.items)
@@ -82,17 +83,18 @@ pub record Family : Type 0 where
   pub trees : Forest
   pub values : ℕ → Valuation
 
--- those that are not visited yet, in the order of the reading
+-- the children of an open node that are not visited yet, in the order in which the file is read
 abbrev pub upcoming : Direction → OpenRecord → Family → List Subtree
 upcoming d o f = drop o.visited (in_order d (kids f.trees f.values))
 
--- the nodes that are to come below open nodes, the innermost of which comes first
+-- The nodes below open nodes that are not read yet, in the order in which the file is read. The list of open nodes begins with
+-- the innermost one.
 abbrev pub nodes_to_come : Direction → List OpenRecord → List Family → List Subtree
 nodes_to_come d [] fs = []
 nodes_to_come d (o ∷ os) [] = []
 nodes_to_come d (o ∷ os) (f ∷ fs) = nodes_in d (upcoming d o f) ++ nodes_to_come d os fs
 
--- Open nodes are of their productions, and their children are trees of the items.
+-- Each open node has a production of the grammar, and its children are trees of the production's items.
 abbrev pub AreOpen : Grammar → List OpenRecord → List Family → Type 0
 AreOpen g [] [] = Unit {0}
 AreOpen g [] (f ∷ fs) = ⊥
@@ -100,23 +102,25 @@ AreOpen g (o ∷ os) [] = ⊥
 AreOpen g (o ∷ os) (f ∷ fs) = (q : Production) × IsProduction g o.production q × FitsAll g (stored_items q.items) f.trees
     × (o.children ≡ length (stored_items q.items)) × AreOpen g os fs
 
--- Where the nodes end that are open after n nodes were read, by the sizes of all nodes: with what is to come below them.
+-- n nodes were read. The subtree of each open node ends after the nodes that are not read yet below it and below the open nodes
+-- inside it. `sizes` are the sizes of the subtrees of all nodes of the tree.
 abbrev pub AreEnding : Direction → List ℕ → ℕ → List OpenRecord → List Family → Type 0
 AreEnding d sizes n [] fs = Unit {0}
 AreEnding d sizes n (o ∷ os) [] = ⊥
 AreEnding d sizes n (o ∷ os) (f ∷ fs) = (o.number + get_or sizes o.number 0 ≡ n + length (nodes_in d (upcoming d o f)))
     × (o.number < n) × AreEnding d sizes (n + length (nodes_in d (upcoming d o f))) os fs
 
--- the number of an open node
+-- The number is that of one of the open nodes.
 abbrev pub IsOpenNumber : ℕ → List OpenRecord → Type 0
 IsOpenNumber i [] = ⊥
 IsOpenNumber i (o ∷ os) = (i ≡ o.number) ⊎ IsOpenNumber i os
 
--- The sizes so far are those of the nodes, except those of open nodes.
+-- The sizes that an index has so far are the right ones, except those of open nodes.
 abbrev pub AreSizes : List ℕ → List ℕ → List OpenRecord → Type 0
 AreSizes sizes so_far os = (i : ℕ) → i < length so_far → (get_or so_far i 0 ≡ get_or sizes i 0) ⊎ IsOpenNumber i os
 
--- The index of the nodes that were read, which precede the nodes that are still to be read.
+-- An index has the nodes of a tree that were read, and the nodes `pending` are those that are not read yet. `os` are the open
+-- nodes.
 pub record IsBegun (g : Grammar) (m : Passes) (k : ℕ) (t : Tree) (v : Valuation) (content : List ℕ) (records : ℕ)
     (os : List OpenRecord) (index : TreeIndex) (pending : List Subtree) : Type 0 where
   pub read : List Subtree
@@ -129,7 +133,8 @@ pub record IsBegun (g : Grammar) (m : Passes) (k : ℕ) (t : Tree) (v : Valuatio
   pub counted : length read ≡ records
   pub few : records ≤ MAX_NODES
 
--- The reading of a tree has come so far.
+-- The state of the reading between two records. `records` records were read, and the index has their nodes. The records of the
+-- other nodes, which are below the open nodes, end at offset `at`.
 pub record IsSoFar (g : Grammar) (m : Passes) (k : ℕ) (t : Tree) (v : Valuation) (content : List ℕ) (at records : ℕ)
     (os : List OpenRecord) (index : TreeIndex) : Type 0 where
   pub families : List Family
@@ -138,7 +143,8 @@ pub record IsSoFar (g : Grammar) (m : Passes) (k : ℕ) (t : Tree) (v : Valuatio
   pub ending : AreEnding (back_from k) (map size_at (nodes_of (back_from k) t v)) records os families
   pub left : ReadsBack version_two content at (map (record_at g m k) (nodes_to_come (back_from k) os families))
 
--- It comes to a tree of an item next, below open nodes.
+-- The state of the reading before a record of the item x: a subtree that fits this item comes next, and then the nodes that are
+-- not read yet below the open nodes.
 pub record IsPending (g : Grammar) (m : Passes) (k : ℕ) (t : Tree) (v : Valuation) (content : List ℕ) (at records : ℕ) (x : Item)
     (os : List OpenRecord) (index : TreeIndex) : Type 0 where
   pub tree : Tree
@@ -152,11 +158,12 @@ pub record IsPending (g : Grammar) (m : Passes) (k : ℕ) (t : Tree) (v : Valuat
   pub left : ReadsBack version_two content at (map (record_at g m k)
       (nodes_of (back_from k) tree values ++ nodes_to_come (back_from k) os families))
 
--- So it is of each tree and values whose file of a pass the content is.
+-- `IsSoFar` holds of each tree and values whose file of a pass the content is.
 abbrev pub HasComeTo : Grammar → List ℕ → BackState → List OpenRecord → TreeIndex → Type 0
 HasComeTo g content back os index = OfEach (λ m k t v. IsSoFar g m k t v content back.progress.at back.progress.records os index)
     g content
 
+-- `IsPending` holds of each tree and values whose file of a pass the content is.
 abbrev pub IsNextRecord : Grammar → List ℕ → BackState → Item → List OpenRecord → TreeIndex → Type 0
 IsNextRecord g content back x os index =
     OfEach (λ m k t v. IsPending g m k t v content back.progress.at back.progress.records x os

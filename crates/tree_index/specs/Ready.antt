@@ -1,10 +1,10 @@
--- When the reading of a tree file can go on. All of this is this project's.
+-- The condition under which the reading of a tree file can continue. All of this is this project's.
 use Rattle.std.specs.Prelude.{◌≡◌, ℕ, Bool, List, None}
 use Rattle.backreader.specs.BackState.{BackState, IsOver}
 use Rattle.treefile.specs.devices.Device.{WhenHonest}
 use Rattle.treefile.specs.records.TreeFile.{version_two}
 
--- A reader is one of the content, of version 2, and has no permanent fault.
+-- A reader reads this content as a file of version 2, and has no permanent fault.
 pub record IsReady (honest : Bool) (content : List ℕ) (state : BackState) : Type 0 where
   pub over : WhenHonest honest (IsOver content state)
   pub version : state.progress.version ≡ version_two

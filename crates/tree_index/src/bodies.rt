@@ -6,10 +6,12 @@ ghost use Rattle.treefile.specs.devices.Device.{LeavesContent, Persists};
 use std::alloc::Global;
 use treefile::{Device, FileVersion, FrameFault, LENGTH_BYTES, fits_before};
 
-/// Returns the body of the frame that ends at an offset of a file of version 2. Takes memory for the body.
+/// Returns the body of the frame that ends at offset `end`, in bytes, of a file of version 2. The
+/// caller has to name the end of a frame, as an index does: the four bytes before it are read as
+/// the body's length. Takes memory for the body.
 ///
-/// Fails with B2 and the offset if no frame ends there, with D1 if a call of the device fails, and if
-/// memory is refused.
+/// Fails with B2 and the offset if a body of this length does not fit between the header and the
+/// offset, with D1 if a call of the device fails, and if memory is refused.
 pub fn body_before<D: Device>(
     alloc: Global,
     device: &mut D,

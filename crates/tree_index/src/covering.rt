@@ -10,21 +10,24 @@ use ag_grammar::{Grammar, Item, Terminal};
 use ag_value::NoMemory;
 use std::alloc::Global;
 
-/// Tokens of the subtree of a node, from one to another, by their numbers among its tokens, from 0.
+/// A range of the tokens of a node's subtree. These tokens are numbered from 0, in the order of the
+/// sentence.
 #[derive(Clone, Copy, Debug, PartialEq, Eq)]
 pub struct TokenRange {
     /// The number of the first token.
     pub first: u32,
-    /// The number of the last token, not before the first one.
+    /// The number of the last token of the range; not less than `first`.
     pub last: u32,
 }
 
-/// A child whose subtree has all tokens of a range: its number in the index, its place, and the range among the
-/// tokens of its subtree.
+/// A child whose subtree has all tokens of a range.
 #[derive(Clone, Copy)]
 struct Step {
+    /// The child's number in the index.
     node: u32,
+    /// The child's place, from 1.
     place: u16,
+    /// The range among the tokens of the child's subtree.
     range: TokenRange,
 }
 
@@ -34,8 +37,8 @@ impl TokenRange {
         self.last < count
     }
 
-    /// Returns the range among the tokens after the first `count` ones; `None` if it begins with one of these
-    /// `count`.
+    /// Returns the same range, with tokens numbered from 0 after the first `count` ones; `None` if
+    /// the range begins with one of these `count` tokens.
     fn after(self, count: u32) -> Option<TokenRange> {
         Some(TokenRange {
             first: self.first.checked_sub(count)?,
@@ -45,8 +48,9 @@ impl TokenRange {
 }
 
 impl TreeIndex {
-    /// Returns the places from the root to the deepest node of a production whose subtree has all tokens of a
-    /// range of the sentence. It is the root if the tree does not have them. Fails if memory is refused.
+    /// Returns the places from the root to the deepest node of a production whose subtree has all
+    /// tokens of a range of the sentence. Returns the empty list, the path of the root, if the tree
+    /// does not have all tokens of the range. Fails if memory is refused.
     pub fn find_covering(
         &self,
         alloc: Global,
@@ -59,7 +63,7 @@ impl TreeIndex {
         let mut places = Vec::new(alloc);
         let mut node = 0u32;
         let mut range = range;
-        // a tree that was read has no more levels
+        // a tree that was read has at most `MAX_DEPTH` levels
         for _level in 0..MAX_DEPTH {
             let Some(step) = self.covering_child(grammar, counts, node, range) else {
                 return Ok(places);
@@ -71,8 +75,8 @@ impl TreeIndex {
         Ok(places)
     }
 
-    /// Returns the child of a node that is a node of a production and whose subtree has all tokens of a range, if
-    /// there is one.
+    /// Returns the child of a node that is a node of a production and whose subtree has all tokens
+    /// of a range, if there is one.
     fn covering_child(
         &self,
         grammar: &Grammar,

@@ -1,4 +1,4 @@
-//! Why a tree file was not read.
+//! Why a tree file, or a record of one, was not read.
 
 ghost use Rattle.std.specs.Prelude.{◌≡◌};
 ghost use Rattle.tree_index.specs.Faults.{record_fault_of, tree_fault_of};
@@ -36,12 +36,14 @@ impl From<NoMemory> for ShapeFault {
     }
 }
 
-/// Why a tree file was not read.
+/// Why a tree file, or a record of one, was not read.
 #[derive(Clone, Copy, Debug, PartialEq, Eq)]
 pub enum TreeFault {
-    /// R1: no tree of the grammar has this file by the plan. The offset in bytes is 0 if the file does not begin as a
-    /// tree file, 4 if the plan does not have its pass, else the end of the first record from the end of the
-    /// file that shows it, or the offset at which one should end.
+    /// R1: no tree of the grammar has this file by the plan. The offset in bytes is 0 if the file
+    /// does not begin as a tree file of version 2, and 4 if the plan does not have the file's pass.
+    /// Otherwise it is the end of the first wrong record that is read, from the end of the file on,
+    /// or the offset at which a record should end. If only one record is read: no record of the
+    /// item ends at this offset.
     Damaged(u64),
     /// P2: no tree of at most `MAX_DEPTH` levels has this file.
     TooDeep,

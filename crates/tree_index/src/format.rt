@@ -16,7 +16,8 @@ use planchecker::Plan;
 use std::alloc::Global;
 use treefile::Device;
 
-/// How the records of a tree file are read: by a grammar, its plan, and the pass that wrote the file.
+/// How the records of a tree file are read: by a grammar, its plan, and the pass that wrote the
+/// file.
 #[derive(Clone, Copy)]
 pub struct FileFormat<'a> {
     /// The grammar.
@@ -32,19 +33,20 @@ pub struct FileFormat<'a> {
 pub struct NodeRecord {
     /// The number of the node's production, or of the token's class.
     pub number: u16,
-    /// The values of the record.
+    /// The values of the record: the node's own values, and then copies of its children's
+    /// synthesized ones.
     row: Vec<Carried>,
 }
 
 impl<'a> FileFormat<'a> {
-    /// Returns the production of a number.
+    /// Returns the production of a number; `None` if the grammar does not have it.
     pub fn production(&self, number: u16) -> Option<&'a Production>
         ensures { IfSome result (λ production. IsProduction self.now.grammar.now number production.now) }
     {
         self.grammar.productions().get(usize::from(number))
     }
 
-    /// Returns the number of values of an item in the row of its own record.
+    /// Returns the number of an item's own values in a record of the item, without copies.
     pub(crate) fn own_width(&self, item: Item) -> usize {
         match item {
             Item::Symbol(symbol) => count_up_to(passes_of(self.plan, symbol), self.pass),
@@ -53,12 +55,13 @@ impl<'a> FileFormat<'a> {
         }
     }
 
-    /// Returns the number of copies of an item's values in the row of its parent.
+    /// Returns the number of copies of a child's values in its parent's record.
     pub(crate) fn copied_width(&self, item: Item) -> usize {
         count_up_to(copied_passes(self.grammar, self.plan, item), self.pass)
     }
 
-    /// Returns the index, in the row of a node, of the copies of the values of a child, by its place from 1.
+    /// Returns the index in a record's row at which the copies of the values of the child at
+    /// `place` (from 1) begin.
     pub(crate) fn copies_at(&self, production: &Production, place: u16) -> usize {
         let mut at = self.own_width(Item::Symbol(production.left));
         for before in 1..place {
@@ -69,7 +72,8 @@ impl<'a> FileFormat<'a> {
         at
     }
 
-    /// Returns the pass of an attribute of an item, 0 for a token's text; `None` if the item does not have it.
+    /// Returns the pass of an attribute (by its number from 0) of an item; 0 for a token's text.
+    /// Returns `None` if the item does not have the attribute.
     pub fn pass_of(&self, item: Item, attr: u16) -> Option<u16> {
         match item {
             Item::Symbol(symbol) => { passes_of(self.plan, symbol).get(usize::from(attr)).copied() }
@@ -78,7 +82,8 @@ impl<'a> FileFormat<'a> {
         }
     }
 
-    /// Returns the name of an attribute of an item.
+    /// Returns the name of an attribute (by its number from 0) of an item; `None` if the item does
+    /// not have it.
     pub fn attribute_name(&self, item: Item, attr: u16) -> Option<&'a str> {
         match item {
             Item::Symbol(symbol) => {
@@ -102,8 +107,9 @@ impl<'a> FileFormat<'a> {
         false
     }
 
-    /// Reads a body as the record of an item, and appends its values to a row. Returns the number of the
-    /// production or of the class.
+    /// Reads a body as the record of an item, and appends its values to a row. Returns the number
+    /// of the production or of the class. Fails with `Damaged` if the body is not a record of the
+    /// item, and with `NoMemory`.
     pub(crate) fn read_into(
         &self,
         alloc: Global,
@@ -125,8 +131,8 @@ impl<'a> FileFormat<'a> {
         Ok(number)
     }
 
-    /// Reads the values of a node of a production: its own, and the copies of its children's. No bytes may
-    /// be left.
+    /// Reads the values of a node of a production: its own, and the copies of its children's. Fails
+    /// with `Damaged` if `spellings` are not exactly this number of values, and with `NoMemory`.
     fn read_row(
         &self,
         alloc: Global,
@@ -146,8 +152,9 @@ impl<'a> FileFormat<'a> {
         }
     }
 
-    /// Reads the record of an item that ends at an offset. Fails with R1 if there is not one, with D1
-    /// if a call of the device fails, and if memory is refused.
+    /// Reads the record that ends at offset `end`, in bytes, as a record of an item. The offset has
+    /// to be the end of a frame, as for `body_before`. Fails with R1 and the offset if the frame
+    /// has no record of the item, with D1 if a call of the device fails, and if memory is refused.
     pub fn read_record<D: Device>(
         &self,
         alloc: Global,
@@ -169,7 +176,8 @@ impl<'a> FileFormat<'a> {
         }
     }
 
-    /// Returns the value of an attribute at the item of a record; `None` if the file does not have it.
+    /// Returns the value of an attribute (by its number from 0) of the node whose record it is.
+    /// `item` is the item of the node. Returns `None` if the record does not have the value.
     pub fn own_value<'r>(
         &self,
         record: &'r NodeRecord,
@@ -183,8 +191,9 @@ impl<'a> FileFormat<'a> {
         self.value_at(record, passes, 0, attr)
     }
 
-    /// Returns the value of a synthesized attribute of a child, by its place from 1, from the copies in the
-    /// record of its parent, a node of a production; `None` if the file does not have it.
+    /// Returns the value of a synthesized attribute of the child at `place` (from 1), from the
+    /// copies in the record of its parent, a node of `production`. Returns `None` if the record
+    /// does not have the value.
     pub fn copied_value<'r>(
         &self,
         record: &'r NodeRecord,
@@ -197,8 +206,10 @@ impl<'a> FileFormat<'a> {
         self.value_at(record, passes, self.copies_at(production, place), attr)
     }
 
-    /// Returns the value of an attribute, by its number among attributes with these passes, whose values
-    /// begin at an index of a row.
+    /// Returns the value of attribute number `attr` of a list of attributes. `passes` are the
+    /// passes of these attributes, and their values begin at index `start` of the record's row.
+    /// Returns `None` if the attribute has a later pass than the file, or the record does not have
+    /// the value.
     fn value_at<'r>(
         &self,
         record: &'r NodeRecord,

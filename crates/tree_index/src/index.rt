@@ -21,9 +21,9 @@ pub enum NodeKind {
     Token(u16),
 }
 
-/// For each node of a tree file what it is, where its record ends, and the number of nodes of its subtree.
-/// Nodes are numbered from 0 in the order in which a file is read from its end: each node before its
-/// children.
+/// For each node of a tree file what it is, where its record ends, and the number of nodes of its
+/// subtree. Nodes are numbered from 0 in the order in which a file is read from its end: each node
+/// before its children.
 #[derive(Drop)]
 pub struct TreeIndex {
     pass: u16,
@@ -48,7 +48,8 @@ impl TreeIndex {
         }
     }
 
-    /// Adds the node whose record ends at an offset, and returns its number. Fails if memory is refused.
+    /// Adds the node whose record ends at offset `end`, in bytes, and returns its number. Its size
+    /// is 1 until `close` sets it. Fails if memory is refused.
     pub(crate) fn add(&mut self, end: u64, kind: NodeKind) -> Result<u32, NoMemory>
         ensures added { OnOk result (HasAdded end kind self.old self.new) }
         ensures number { IfOk result (λ number. number ≡ in_four_bytes (length self.old.ends.items)) }
@@ -60,7 +61,8 @@ impl TreeIndex {
         Ok(number)
     }
 
-    /// Closes a node: all nodes added after it are in its subtree.
+    /// Closes a node: sets the size of its subtree to the number of nodes from this node on. Does
+    /// nothing if the index does not have the node.
     pub(crate) fn close(&mut self, node: u32)
         ensures { HasClosed node self.old self.new }
     {
@@ -75,35 +77,38 @@ impl TreeIndex {
         self.pass
     }
 
-    /// Returns the number of nodes of the tree.
+    /// Returns the number of nodes of the index, at most 4,294,967,295.
     pub fn node_count(&self) -> u32
         ensures { result ≡ in_four_bytes (length self.now.ends.items) }
     {
         number_of(self.ends.len())
     }
 
-    /// Returns the offset in bytes at which the record of a node ends.
+    /// Returns the offset in bytes at which the record of a node ends; `None` if the index does not
+    /// have the node.
     pub fn end(&self, node: u32) -> Option<u64>
         ensures { result ≡ end_of self.now node }
     {
         self.ends.get(node as usize).copied()
     }
 
-    /// Returns what a node is.
+    /// Returns what a node is; `None` if the index does not have the node.
     pub fn kind(&self, node: u32) -> Option<NodeKind>
         ensures { result ≡ kind_in self.now node }
     {
         self.kinds.get(node as usize).copied()
     }
 
-    /// Returns the number of nodes of the subtree of a node.
+    /// Returns the number of nodes of the subtree of a node; `None` if the index does not have the
+    /// node.
     pub fn size(&self, node: u32) -> Option<u32>
         ensures { result ≡ size_of self.now node }
     {
         self.sizes.get(node as usize).copied()
     }
 
-    /// Returns what a node is, as an item of a right side.
+    /// Returns the symbol or the class of a node, as an item of a right side. Returns `None` if the
+    /// index does not have the node, or the grammar does not have its production.
     pub fn item(&self, grammar: &Grammar, node: u32) -> Option<Item>
         ensures { IfSome result (HasItem grammar.now self.now node) }
     {
@@ -116,7 +121,7 @@ impl TreeIndex {
         }
     }
 
-    /// Returns the number of children of a node.
+    /// Returns the number of children of a node; 0 if the index does not have the node.
     pub fn child_count(&self, grammar: &Grammar, node: u32) -> u16
         ensures { HasCount grammar.now (kind_in self.now node) result }
     {
@@ -126,7 +131,8 @@ impl TreeIndex {
         }
     }
 
-    /// Returns a child of a node, by its place from 1.
+    /// Returns the number of the child of a node at a place, from 1; `None` if the node has no such
+    /// child.
     pub fn child(&self, grammar: &Grammar, node: u32, place: u16) -> Option<u32>
         ensures child { IfSome result (HasChild grammar.now self.now node place) }
         ensures complete { IfNone result (HasNoChild grammar.now self.now node place) }
@@ -135,12 +141,14 @@ impl TreeIndex {
         if place == 0 || count < place {
             return None;
         }
-        // the file of an odd pass is read from left to right
+        // an odd pass writes from right to left, so its file is read from the end from left to
+        // right
         let direction = Direction::of_pass(self.pass).turned();
         self.child_after(node, others_before(direction, count, place))
     }
 
-    /// Returns the child of a node that comes after `before` others in the order of the index.
+    /// Returns the number of the child of a node that comes after `before` other children in the
+    /// order of the index. The node must have such a child.
     fn child_after(&self, node: u32, before: u16) -> Option<u32>
         ensures later { IfSome result (HasLater self.now node before) }
         ensures complete { IfNone result (HasNoLater self.now node before) }
@@ -152,7 +160,8 @@ impl TreeIndex {
         Some(child)
     }
 
-    /// Returns the node at the end of a path of places from the root.
+    /// Returns the number of the node at the end of a path of places (each from 1) from the root;
+    /// `None` if there is no such node.
     pub fn find(&self, grammar: &Grammar, places: &[u16]) -> Option<u32>
         ensures node { IfSome result (HasNodeAt grammar.now self.now places.now) }
         ensures complete { IfNone result (HasNoNodeAt grammar.now self.now places.now) }
@@ -165,7 +174,8 @@ impl TreeIndex {
     }
 }
 
-/// Returns the number of the children, of `count`, that come in a direction before the one at a place.
+/// Returns the number of children that come before the child at `place` (from 1) in a direction, if
+/// a node has `count` children.
 fn others_before(direction: Direction, count: u16, place: u16) -> u16
     requires from_one { 0 < place }
     requires within { place ≤ count }
@@ -178,14 +188,15 @@ fn others_before(direction: Direction, count: u16, place: u16) -> u16
     }
 }
 
-/// Returns a count of nodes in four bytes; 4,294,967,295 for a greater one.
+/// Returns a count of nodes as a `u32`, or 4,294,967,295 if the count is greater.
 fn number_of(count: usize) -> u32
     ensures { result ≡ in_four_bytes count }
 {
     count.min(u32::MAX as usize) as u32
 }
 
-/// Returns the number of children of a node of a production.
+/// Returns the number of children of a node of a production; 0 if the grammar does not have the
+/// production.
 pub(crate) fn child_count(grammar: &Grammar, production: u16) -> u16
     ensures count { (q : TheProduction) → IsProduction grammar.now production q
         → result ≡ length (stored_items q.items) }
@@ -197,7 +208,7 @@ pub(crate) fn child_count(grammar: &Grammar, production: u16) -> u16
     }
 }
 
-/// Returns the number of items that are children.
+/// Returns the number of items that are children: symbols and classes, which are nodes of a tree.
 fn stored_among(items: &[Item]) -> u16
     requires { length items.now < 2 ^ 16 }
     ensures { result ≡ length (stored_items items.now) }

@@ -3,7 +3,7 @@
 use ag_grammar::{Grammar, Item, Symbol, Terminal};
 use planchecker::Plan;
 
-/// Returns the passes of a symbol's attributes; none if the plan does not have it.
+/// Returns the passes of a symbol's attributes; an empty list if the plan does not have the symbol.
 pub(crate) fn passes_of(plan: &Plan, symbol: u16) -> &[u16] {
     match plan.assignment().rows().get(usize::from(symbol)) {
         Some(row) => row.as_slice(),
@@ -11,7 +11,8 @@ pub(crate) fn passes_of(plan: &Plan, symbol: u16) -> &[u16] {
     }
 }
 
-/// Returns the passes of the synthesized attributes of a symbol.
+/// Returns the passes of the synthesized attributes of the symbol of a number; an empty list if the
+/// grammar or the plan does not have the symbol.
 fn synthesized_passes<'a>(grammar: &Grammar, plan: &'a Plan, symbol: u16) -> &'a [u16] {
     let passes = passes_of(plan, symbol);
     match grammar.symbols().get(usize::from(symbol)) {
@@ -20,13 +21,14 @@ fn synthesized_passes<'a>(grammar: &Grammar, plan: &'a Plan, symbol: u16) -> &'a
     }
 }
 
-/// Returns the passes of a symbol's synthesized attributes, which come first.
+/// Returns the passes of a symbol's synthesized attributes, from the passes of all its attributes:
+/// the synthesized ones come first.
 fn synthesized_among<'a>(symbol: &Symbol, passes: &'a [u16]) -> &'a [u16] {
     &passes[..symbol.syn.as_slice().len().min(passes.len())]
 }
 
-/// Returns the passes of the values at an item of which its parent's record has copies: of a symbol's
-/// synthesized attributes, and of a token's text, which is there from the beginning.
+/// Returns the passes of those attributes of a child that its parent's record copies: the
+/// synthesized attributes of a symbol, or the text of a token, which has pass 0.
 pub(crate) fn copied_passes<'a>(grammar: &Grammar, plan: &'a Plan, item: Item) -> &'a [u16] {
     match item {
         Item::Symbol(symbol) => synthesized_passes(grammar, plan, symbol),
@@ -35,7 +37,7 @@ pub(crate) fn copied_passes<'a>(grammar: &Grammar, plan: &'a Plan, item: Item) -
     }
 }
 
-/// Returns the number of those passes that are at most `last`.
+/// Returns the number of elements of `passes` that are at most `last`.
 pub(crate) fn count_up_to(passes: &[u16], last: u16) -> usize {
     let mut count = 0usize;
     for pass in passes {

@@ -12,8 +12,9 @@ struct Run {
     count: u32,
 }
 
-/// A path from the root: the places of children, from 1. As text it is `/` for the root, `/2/1` for the
-/// first child of its second child, and `/1*897/2` for 897 times the first child and then the second.
+/// A path from the root: the places of children, from 1. As text, the path of the root is `/`. The
+/// path of the first child of its second child is `/2/1`. `/1*897/2` is 897 times the first child,
+/// and then the second.
 #[derive(Debug, Drop)]
 pub struct NodePath {
     runs: Vec<Run>,
@@ -22,7 +23,7 @@ pub struct NodePath {
 /// Why a text is not a path.
 #[derive(Clone, Copy, Debug, PartialEq, Eq)]
 pub enum PathFault {
-    /// It is not written as a path.
+    /// The text does not have the form of a path.
     NotAPath,
     /// Memory was refused.
     NoMemory,
@@ -36,7 +37,7 @@ impl NodePath {
         }
     }
 
-    /// Goes to a child, by its place from 1. Fails if memory is refused.
+    /// Extends the path to a child, by its place from 1. Fails if memory is refused.
     pub fn push(&mut self, place: u16) -> Result<(), NoMemory> {
         if self.extend(place) {
             return Ok(());
@@ -44,7 +45,8 @@ impl NodePath {
         Ok(self.runs.push(Run { place, count: 1 })?)
     }
 
-    /// Makes the last run longer by one if it is of this place. Returns whether it is.
+    /// Makes the last run longer by one if the run repeats this place. Returns whether the run
+    /// does.
     fn extend(&mut self, place: u16) -> bool {
         match self.runs.last_mut() {
             Some(run) if run.place == place => {
@@ -55,14 +57,15 @@ impl NodePath {
         }
     }
 
-    /// Goes to the parent; does nothing at the root.
+    /// Removes the last place, so that the path is that of the parent; does nothing at the root.
     pub fn pop(&mut self) {
         if !self.shorten() {
             let _last = self.runs.pop();
         }
     }
 
-    /// Makes the last run shorter by one if it has more than one place. Returns whether it has.
+    /// Makes the last run shorter by one if its place is repeated. Returns whether the place is
+    /// repeated.
     fn shorten(&mut self) -> bool {
         match self.runs.last_mut() {
             Some(run) if 1 < run.count => {
@@ -73,10 +76,11 @@ impl NodePath {
         }
     }
 
-    /// Reads a path: `/` for the root, or `/` and a step, one or more times. A step is a place, from 1 to
-    /// 65,535, or a place, `*` and a number of repetitions, from 1 to 65,535: `/1/1/1` is the same as
-    /// `/1*3`. A number may begin with `+` or zeros. Fails with `NotAPath` for another text (also for one
-    /// that ends with `/`, except `/` itself), and with `NoMemory` if memory is refused.
+    /// Reads a path: `/` for the root, or a sequence of one or more runs, each after a `/`. A run
+    /// is a place, from 1 to 65,535, or a place, `*` and a number of repetitions, from 1 to 65,535:
+    /// `/1/1/1` is the same path as `/1*3`. A number may begin with `+` or zeros. Fails with
+    /// `NotAPath` for another text (also for one that ends with `/`, except `/` itself), and with
+    /// `NoMemory` if memory is refused.
     pub fn parse(alloc: Global, text: &str) -> Result<NodePath, PathFault> {
         let Some(rest) = text.strip_prefix('/') else {
             return Err(PathFault::NotAPath);
@@ -107,7 +111,7 @@ impl NodePath {
         Ok(places)
     }
 
-    /// Returns the path of these places. Fails if memory is refused.
+    /// Returns the path with the given places, from the root down. Fails if memory is refused.
     pub fn of_places(alloc: Global, places: &[u16]) -> Result<NodePath, NoMemory> {
         let mut path = NodePath::root(alloc);
         for place in places {
@@ -117,7 +121,9 @@ impl NodePath {
     }
 }
 
-/// Reads a place, or a place and the number of times that it is repeated.
+/// Reads the text of a run: a place, or a place, `*` and a number of repetitions. Returns `None`
+/// for another text, and if a number is out of range. A path in a tree has fewer than `MAX_DEPTH`
+/// places.
 fn run_of(part: &str) -> Option<Run> {
     let (place, count) = match part.split_once('*') {
         Some((place, count)) => (number_in(place)?, number_in(count)?),
@@ -147,7 +153,8 @@ impl fmt::Display for NodePath {
     }
 }
 
-/// Writes a run: the place once or twice, or with the number of times.
+/// Writes a run: `/2` for one place, `/2/2` for two, and `/2*3` for three; a greater count
+/// likewise.
 fn write_run<W: fmt::Write>(f: &mut fmt::Formatter<W>, run: Run) -> fmt::Result {
     let Run { place, count } = run;
     match count {

@@ -25,45 +25,52 @@ use treefile::Device;
 /// The offset in bytes of the number of the pass in a header.
 const PASS_OFFSET: u64 = 4;
 
-/// The greatest number of bytes of a file whose bodies are always copied, in blocks. They could be lent one
-/// by one, which takes longer for small bodies.
+/// The greatest size in bytes of a file whose bodies `read_shape` copies, in blocks. From a larger
+/// file it borrows bodies one by one, if the device lends them. For small bodies this takes longer
+/// than copying.
 const MAX_COPIED: u64 = 4_194_304;
 
-/// A bound of the number of turns of a reading: one to each node below the root, one to leave each node, and one at
-/// which no node is open.
+/// A bound of the number of turns of the loop in `read_file`: one to read each node below the root,
+/// one to close each node, and one at which no node is open.
 const MAX_TURNS: u32 = 2 * MAX_NODES + 1;
 
-/// An open node: its record was read, and it was not closed yet.
+/// An open node: a node of a production that was read and is not closed yet.
 #[derive(Clone, Copy)]
 pub(crate) struct OpenRecord {
-    /// Its number in the index.
+    /// The number of the node in the tree's index.
     number: u32,
-    /// The number of its production.
+    /// The number of the node's production.
     production: u16,
-    /// The number of its children.
+    /// The number of the node's children.
     children: u16,
     /// The number of children that were visited.
     visited: u16,
-    /// The index at which its row begins.
+    /// The position, in the list of all values, at which the node's row begins: the node's own
+    /// values, and then copies of its children's synthesized ones.
     row: usize,
 }
 
-/// The copies that a row has of the values of a child: the index of the first, and their number.
+/// The copies that a node's row has of the values of a child.
 #[derive(Clone, Copy)]
 struct Copies {
+    /// The position of the first copy in the list of all values.
     at: usize,
+    /// The number of copies.
     width: usize,
 }
 
-/// The copies of the root's values: there are none.
+/// No copies: for the root, and if values are not read.
 const NO_COPIES: Copies = Copies { at: 0, width: 0 };
 
-/// A record that was read: its item, the number in it, its end, and the index at which its row begins.
+/// A record that was read.
 #[derive(Clone, Copy)]
 struct Fetched {
     item: Item,
+    /// The number of the production, or of the token's class.
     number: u16,
+    /// The offset in bytes at which the record ends.
     end: u64,
+    /// The position at which the record's row begins in the list of all values.
     row: usize,
 }
 
@@ -73,7 +80,7 @@ struct Mode<'a> {
     alloc: Global,
     format: FileFormat<'a>,
     with_values: bool,
-    /// Whether bodies are lent, not copied, if the device has them in memory.
+    /// Whether bodies are borrowed, not copied, if the device lends them.
     lends: bool,
 }
 
@@ -85,8 +92,10 @@ struct Expected {
 }
 
 impl Mode<'_> {
-    /// Reads a body as the record of an item, and appends its row if values are read. Returns the number in
-    /// the record.
+    /// Reads a body as the record of an item, and appends the record's row to `values` if values
+    /// are read. Returns the number of the production, or of the token's class. Fails with
+    /// `Damaged` if the body is not a record of the item, and with `NoMemory`. If values are not
+    /// read, only the beginning of the body is checked.
     fn read_body(
         &self,
         item: Item,
@@ -105,8 +114,9 @@ impl Mode<'_> {
         }
     }
 
-    /// Returns the copies that are compared with the values of a child, by its place, in the row of its
-    /// parent, a node of a production. The row begins at an index.
+    /// Returns where the copies of a child's values are. `row` is the position of the parent's row,
+    /// `production` the parent's production, and `place` the child's place, from 1. Returns
+    /// `NO_COPIES` if values are not read.
     fn copies_of(&self, row: usize, production: &Production, place: u16) -> Copies {
         if !self.with_values {
             return NO_COPIES;
@@ -121,7 +131,8 @@ impl Mode<'_> {
         }
     }
 
-    /// Returns the record that is expected next at a node with a child that was not visited.
+    /// Returns the record of the next child of an open node. Returns `None` if all children were
+    /// visited, or if the grammar has no such production or child.
     fn expected_child(&self, node: OpenRecord) -> Option<Expected>
         ensures { IfSome result (λ expected. (q : TheProduction)
             → IsProduction self.now.format.grammar.now node.production q
@@ -142,8 +153,13 @@ impl Mode<'_> {
     }
 }
 
-/// Reads the next body of a file as the record of an item, and appends its row if values are read. If bodies are
-/// lent and the device lends this one, reads only its kind and its number.
+/// Reads the next body, toward the beginning of the file, as the record of an item, and appends its
+/// row if values are read. If the mode lends bodies and the device lends this body, reads only the
+/// kind and the number in it.
+///
+/// Fails with P3 if `MAX_NODES` records were read already, with R1 and the end of the body if no
+/// frame ends there or the body is not a record of the item, with D1 if a call of the device fails,
+/// and if memory is refused.
 fn fetch<D: Device>(
     mode: &Mode<'_>,
     item: Item,
@@ -205,8 +221,11 @@ pub(crate) struct Reading {
 }
 
 impl Reading {
-    /// Reads the next record, compares its values with the copies in its parent's row, and opens its node if it is
-    /// not a token.
+    /// Reads the next record, compares its values with the copies in its parent's row, and adds its
+    /// node to the index. Opens the node if it is one of a production.
+    ///
+    /// Fails with P2 if `MAX_DEPTH` nodes are open, with R1 if the values differ from the copies,
+    /// and otherwise as `fetch` does.
     fn read<D: Device>(
         &mut self,
         mode: &Mode<'_>,
@@ -238,7 +257,9 @@ impl Reading {
         self.open(mode.format.grammar, fetched)
     }
 
-    /// Returns whether the values from index `start` on begin with those of the copies.
+    /// Returns whether the values from position `start` on begin with the values of the copies. A
+    /// row begins with the node's synthesized values, or with the text of a token: these are
+    /// copied.
     fn has_copies(&self, copies: Copies, start: usize) -> bool {
         if copies.width == 0 {
             return true;
@@ -254,8 +275,8 @@ impl Reading {
             && are_same(&own[..copies.width], &copied[..copies.width])
     }
 
-    /// Adds a record that was read to the index, and opens its node if it is not a token. The text of a token is
-    /// not kept.
+    /// Adds the node of a record to the index, and opens the node if it is one of a production. Of
+    /// a token, removes the text from the list of values. Fails if memory is refused.
     fn open(&mut self, grammar: &Grammar, fetched: Fetched) -> Result<(), TreeFault>
         ensures opened { OnOk result (HasOpened grammar.now fetched.item fetched.end fetched.number
             self.old.index self.new.index self.old.nodes.items self.new.nodes.items) }
@@ -282,7 +303,8 @@ impl Reading {
         Ok(())
     }
 
-    /// Closes a node that was taken from the open ones.
+    /// Closes a node that was removed from the list of open nodes: sets its size in the index, and
+    /// drops its row.
     fn close(&mut self, node: OpenRecord)
         ensures closed { HasClosed node.number self.old.index self.new.index }
         ensures nodes { self.new.nodes ≡ self.old.nodes }
@@ -292,7 +314,7 @@ impl Reading {
         self.truncate_values(node.row);
     }
 
-    /// Drops the values from an index on, if there are any.
+    /// Drops the values from position `row` on, if there are any.
     fn truncate_values(&mut self, row: usize)
         ensures index { self.new.index ≡ self.old.index }
         ensures nodes { self.new.nodes ≡ self.old.nodes }
@@ -303,7 +325,10 @@ impl Reading {
         }
     }
 
-    /// Turns to the innermost open node, which was taken from the list: visits its next child, or closes it.
+    /// Reads the next child of the innermost open node, or closes the node if all its children were
+    /// visited. The node was removed from `nodes`, and is put back before a child is read.
+    ///
+    /// Fails as `read` does, and with R1 if the grammar does not have the node's production.
     fn turn<D: Device>(
         &mut self,
         mode: &Mode<'_>,
@@ -342,7 +367,9 @@ impl Reading {
         self.read(mode, expected, device)
     }
 
-    /// Ends the reading when no node is open. Fails with R1 if something is left to read.
+    /// Ends the reading when no node is open, and returns the index. Fails with R1 if bytes are
+    /// left between the header and the records that were read, with D1 if a call of the device
+    /// fails, and if memory is refused.
     fn end<D: Device>(mut self, device: &mut D) -> Result<TreeIndex, TreeFault>
         requires ready { IsReady (D.is_honest device.old) (D.content device.old) self.back }
         ensures index { IfOk result (λ index. index ≡ self.index) }
@@ -369,8 +396,9 @@ fn are_same(own: &[Carried], copied: &[Carried]) -> bool {
     true
 }
 
-/// Returns the number of the pass of the tree file that a device contains. Fails with R1 at 0 if the content
-/// does not begin as a tree file, with D1 if a call of the device fails, and if memory is refused.
+/// Returns the number of the pass of the tree file that a device contains, as its header says.
+/// Fails with R1 at 0 if the content does not begin as a tree file of version 2, with D1 if a call
+/// of the device fails, and if memory is refused.
 pub fn pass_of_file<D: Device>(alloc: Global, device: &mut D) -> Result<u16, TreeFault>
     ensures content { LeavesContent (D.is_honest device.new)
         (D.content device.old) (D.content device.new) }
@@ -381,8 +409,8 @@ pub fn pass_of_file<D: Device>(alloc: Global, device: &mut D) -> Result<u16, Tre
     Ok(back.pass())
 }
 
-/// Reads the tree file that a device contains, with or without the values in its records, and makes its
-/// index.
+/// Reads the tree file that a device contains, with or without the values in its records, and makes
+/// its index. Fails as `TreeIndex::read` or `read_shape` does.
 fn read_file<D: Device>(
     alloc: Global,
     grammar: &Grammar,
@@ -429,16 +457,17 @@ fn read_file<D: Device>(
         };
         reading.turn(&mode, node, device)?;
     }
+    // not reached: `fetch` reads at most `MAX_NODES` records, so the loop has fewer turns
     Err(TreeFault::TooManyNodes)
 }
 
 impl TreeIndex {
     /// Reads the tree file that a device contains, as a pass reads it, and makes its index.
     ///
-    /// Fails with R1, P2 or P3 if the file is not that of a tree within the limits, or with R1 at 4 if the file
-    /// is of a pass that the plan does not have; with D1 if a call of the device fails; and if memory is refused.
-    /// Takes memory for a buffer, for 16 bytes a node, and for the rows of the nodes from the root to the current
-    /// one.
+    /// Fails with R1, P2 or P3 if the file is not that of a tree within the limits, or with R1 at 4
+    /// if the file is of a pass that the plan does not have; with D1 if a call of the device fails;
+    /// and if memory is refused. Takes memory for a buffer, for the index (16 bytes a node), and
+    /// for the rows of the nodes from the root to the current one.
     pub fn read<D: Device>(
         alloc: Global,
         grammar: &Grammar,
@@ -455,8 +484,9 @@ impl TreeIndex {
         read_file(alloc, grammar, plan, true, device)
     }
 
-    /// Makes the index of a file as `read` does, and fails as it does, without reading the values in its
-    /// records. So it accepts some damaged files. It is for a file that a pass has just written.
+    /// Makes the index of a file as `read` does, but without reading the values in the records. So
+    /// it does not find a malformed, missing or additional value, or one that differs from its
+    /// copy. Otherwise it fails as `read` does. It is for a file that a pass has just written.
     pub fn read_shape<D: Device>(
         alloc: Global,
         grammar: &Grammar,

@@ -11,8 +11,9 @@ use ag_value::{NoMemory, Value};
 use std::alloc::Global;
 use treefile::{Kind, split_body};
 
-/// Returns the number of the production in the body of a node of a symbol, or that of the class in the body
-/// of a token of a class, with the bytes after it. Returns `None` if the body is not one of the item.
+/// Returns the number with which a record of an item begins, and the bytes after it: the number of
+/// the production for a symbol, and that of the class for a token. Returns `None` if the body does
+/// not begin as a record of the item, whatever the bytes after the number are.
 pub(crate) fn split_record<'b>(
     grammar: &Grammar,
     item: Item,
@@ -40,8 +41,9 @@ pub(crate) fn split_record<'b>(
     }
 }
 
-/// Reads `count` values with which bytes begin, appends them to a row, and returns the bytes after them.
-/// Fails with Damaged if the bytes do not begin with that number of values.
+/// Reads `count` values from the beginning of `bytes`, appends them to a row, and returns the bytes
+/// after them. Fails with `Damaged` if the bytes do not begin with that number of values, and with
+/// `NoMemory`.
 pub(crate) fn read_values<'b>(
     alloc: Global,
     count: usize,
@@ -59,8 +61,8 @@ pub(crate) fn read_values<'b>(
     Ok(rest)
 }
 
-/// Reads the text of a token, and appends it to a row. Fails with Damaged if the bytes are not a text that a
-/// token may have.
+/// Reads the text of a token, and appends it to a row. Fails with `Damaged` if the bytes are not
+/// the spelling of a text of at most `MAX_TOKEN_BYTES`, and with `NoMemory`.
 pub(crate) fn read_text(
     alloc: Global,
     spelling: &[u8],
@@ -76,12 +78,12 @@ pub(crate) fn read_text(
     Ok(())
 }
 
-/// Returns whether a value is a text that a token may have. Fails if memory is refused.
+/// Returns whether a value is a text of at most `MAX_TOKEN_BYTES`. Fails if memory is refused.
 fn is_token_text(alloc: Global, value: &Carried) -> Result<bool, NoMemory> {
     match (value.as_number(), value.as_value()) {
         (Some(_), _) => Ok(false),
         (None, Some(value)) => Ok(is_short_text(value)),
-        // an error, or a value that is not stored in one piece
+        // an error, or a text, table or list that is not stored as a `Value`
         (None, None) => Ok(is_short_text(&value.to_value(alloc)?)),
     }
 }

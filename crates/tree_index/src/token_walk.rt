@@ -6,8 +6,8 @@ use ag_grammar::{Grammar, Item, Terminal};
 use ag_value::NoMemory;
 use std::alloc::Global;
 
-/// A bound of the number of turns between two tokens: one to enter each node, one to leave it, and one at which
-/// no node is open.
+/// A bound of the number of turns of the loop in `next` for one token: one to enter each node, one
+/// to leave it, and one at which no node is open.
 const MAX_TURNS: u32 = 2 * MAX_NODES + 1;
 
 /// A token of a tree.
@@ -19,11 +19,13 @@ pub enum TreeToken {
     Word(u32),
 }
 
-/// A node whose tokens are visited: the next item of its production, and the number of children before it.
+/// A node whose tokens are visited.
 #[derive(Clone, Copy)]
 struct OpenRecord {
     node: u32,
+    /// The index, from 0, of the next item of the node's production.
     item: usize,
+    /// The number of children before that item.
     children: u16,
 }
 
@@ -32,9 +34,9 @@ struct OpenRecord {
 enum Next {
     /// A token.
     Token(TreeToken),
-    /// What is below this node.
+    /// The tokens of the subtree of this child.
     Below(u32),
-    /// Nothing more of the node.
+    /// No more tokens of the open node.
     Nothing,
 }
 
@@ -66,6 +68,7 @@ impl<'a> TokenWalk<'a> {
     /// Returns the next token; `None` after the last one. Fails if memory is refused.
     pub fn next(&mut self) -> Result<Option<TreeToken>, NoMemory> {
         for _turn in 0..MAX_TURNS {
+            // the innermost open node; it is put back below, unless it has no more items
             let Some(open) = self.nodes.pop() else {
                 return Ok(None);
             };
@@ -84,7 +87,7 @@ impl<'a> TokenWalk<'a> {
         Ok(None)
     }
 
-    /// Opens a node of which nothing was visited.
+    /// Adds a node, of which nothing was visited, to the open nodes.
     fn open(&mut self, node: u32) -> Result<(), NoMemory> {
         Ok(
             self.nodes.push(OpenRecord {
@@ -95,7 +98,7 @@ impl<'a> TokenWalk<'a> {
         )
     }
 
-    /// Opens a node again after a token of it was visited.
+    /// Puts an open node back after its next item, which is `token`.
     fn pass(&mut self, open: OpenRecord, token: TreeToken) -> Result<(), NoMemory> {
         match token {
             TreeToken::Literal(_) => self.go_on(open, 0),
@@ -103,7 +106,8 @@ impl<'a> TokenWalk<'a> {
         }
     }
 
-    /// Opens a node again after its next item. `children` is 1 if that item is a child, and 0 if it is a literal.
+    /// Puts an open node back after its next item. `children` is 1 if that item is a child, and 0
+    /// if it is a literal.
     fn go_on(&mut self, open: OpenRecord, children: u16) -> Result<(), NoMemory> {
         Ok(
             self.nodes.push(OpenRecord {
@@ -114,7 +118,7 @@ impl<'a> TokenWalk<'a> {
         )
     }
 
-    /// Returns what follows at the next item of a node.
+    /// Returns what the next item of an open node is.
     fn next_of(&self, open: OpenRecord) -> Next {
         let Some(NodeKind::Node(number)) = self.index.kind(open.node) else {
             return Next::Nothing;

@@ -9,17 +9,17 @@ use ag_grammar::{Grammar, Item, Production, Terminal};
 use ag_value::NoMemory;
 use std::alloc::Global;
 
-/// The numbers of tokens in the subtrees of a tree, literals among them.
+/// The numbers of tokens in the subtrees of a tree, with literals.
 #[derive(Drop)]
 pub struct TokenCounts {
-    /// For each node, the number of tokens that the nodes before it in the index have themselves, as `own_tokens`
-    /// counts them; and at last that of all nodes.
+    /// The sums of the nodes' own tokens, which `own_tokens` counts: element i is the sum for the
+    /// nodes before node i of the index, and the last element that for all nodes.
     before: Vec<u32>,
 }
 
 impl TokenCounts {
-    /// Counts the tokens of a tree. Takes memory for 4 bytes a node. Fails if memory is refused, or if there
-    /// are more than 4,294,967,295 tokens.
+    /// Counts the tokens of a tree. Takes memory for 4 bytes a node. Fails with `NoMemory` if
+    /// memory is refused, and also if there are more than 4,294,967,295 tokens.
     pub fn new(alloc: Global, grammar: &Grammar, index: &TreeIndex) -> Result<TokenCounts, NoMemory>
         ensures { IfOk result (AreCounts grammar.now index.now) }
     {
@@ -36,14 +36,17 @@ impl TokenCounts {
         Ok(TokenCounts { before })
     }
 
-    /// Returns the number of tokens of the nodes from `first` on and before `after`, in the order of the index.
-    /// Returns `None` if one of the two is above the number of nodes, or if `after` has fewer tokens before it.
+    /// Returns the number of own tokens of the nodes with the numbers from `first` to `after` - 1.
+    /// (A node's own tokens are the token that it is, or the literals of its production.) Returns
+    /// `None` if `first` or `after` is greater than the number of nodes, or if the nodes before
+    /// `after` have fewer tokens than those before `first`.
     pub fn between(&self, first: u32, after: u32) -> Option<u32> {
         let before_first = *self.before.get(first as usize)?;
         self.before.get(after as usize)?.checked_sub(before_first)
     }
 
-    /// Returns the number of tokens of the subtree of a node.
+    /// Returns the number of tokens of the subtree of a node; `None` if the index does not have the
+    /// node.
     pub fn of_subtree(&self, index: &TreeIndex, node: u32) -> Option<u32>
         ensures count { IfSome result (HasTokens index.now self.now node) }
         ensures complete { IfNone result (HasNoTokens index.now self.now node) }
@@ -54,7 +57,9 @@ impl TokenCounts {
     }
 }
 
-/// Returns 1 for a token, and the number of literals of a node's production.
+/// Returns the number of a node's own tokens: 1 for a token of a class, and the number of literals
+/// of its production for another node. Returns 0 if the index does not have the node, or the
+/// grammar its production.
 fn own_tokens(grammar: &Grammar, index: &TreeIndex, node: u32) -> u32
     ensures { result ≡ own_count grammar.now (kind_in index.now node) }
 {

@@ -13,7 +13,7 @@ use std::alloc::Global;
 pub struct NodeVisit {
     /// The number of the node in the index.
     pub node: u32,
-    /// The level of the node; that at which the walk began has level 0.
+    /// The level of the node. The node at which the walk began has level 0.
     pub level: u32,
 }
 
@@ -21,21 +21,25 @@ pub struct NodeVisit {
 #[derive(Clone, Copy)]
 struct OpenRecord {
     node: u32,
+    /// The number of children that the walk visits: all, or none at the greatest level.
     children: u16,
     /// The number of children that were visited.
     visited: u16,
 }
 
-/// A walk over the nodes of a tree in the order of the sentence: each node before its children, and these
-/// from left to right.
+/// A walk over the nodes of a tree in the order of the sentence: each node before its children, and
+/// children from left to right.
 #[derive(Drop)]
 pub struct SentenceWalk<'a> {
     grammar: &'a Grammar,
     index: &'a TreeIndex,
     /// The greatest level that is visited.
     depth: u32,
+    /// The node at which the walk begins; `None` after it was visited, or if there is no such node.
     first: Option<u32>,
+    /// The nodes that are not left yet, the outermost one first.
     nodes: Vec<OpenRecord>,
+    /// The path of the node that was visited last.
     path: NodePath,
 }
 
@@ -62,8 +66,10 @@ impl<'a> SentenceWalk<'a> {
         self.depth = depth;
     }
 
-    /// Lets the walk begin at the node at the end of a path, and visit only its subtree. Returns the node,
-    /// if there is one; else nothing is visited. Fails if memory is refused.
+    /// Lets the walk begin at the node at the end of a path, and visit only the subtree of this
+    /// node. Returns the number of the node. Returns `None` if there is no such node; `next` then
+    /// visits nothing. Has to be called before the first call of `next`. Fails if memory is
+    /// refused.
     pub fn begin_at(&mut self, alloc: Global, places: &[u16]) -> Result<Option<u32>, NoMemory> {
         self.path = NodePath::of_places(alloc, places)?;
         self.first = self.index.find(self.grammar, places);
@@ -100,7 +106,8 @@ impl<'a> SentenceWalk<'a> {
             let Some(open) = self.nodes.pop() else {
                 return Ok(None);
             };
-            // the node at `level` 0 was visited last and has this path; each further one is a level up
+            // the first node that is removed was visited last, and `path` is its path; each further
+            // one is the parent of the node before
             if level != 0 {
                 self.path.pop();
             }
@@ -111,7 +118,7 @@ impl<'a> SentenceWalk<'a> {
         Ok(None)
     }
 
-    /// Returns the next child of a node, which was taken from the list.
+    /// Puts a node back on the list of open nodes, and returns its next child.
     fn visit_child(&mut self, node: OpenRecord) -> Result<Option<u32>, NoMemory>
         requires { node.visited < node.children }
     {

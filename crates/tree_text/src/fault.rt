@@ -10,7 +10,7 @@ use tree_index::TreeFault;
 /// Why a tree file was not printed.
 #[derive(Clone, Copy, Debug, PartialEq, Eq)]
 pub enum ShowFault {
-    /// The file could not be read, is damaged, or has a tree that exceeds a limit.
+    /// The file, or a record of it, was not read.
     Tree(TreeFault),
     /// O2: the output failed.
     Write,

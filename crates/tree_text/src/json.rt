@@ -9,7 +9,8 @@ use ag_value::{ErrorCode, NoMemory, Text, Value};
 use std::alloc::Global;
 use tree_index::NodePath;
 
-/// 2^53 - 1. Readers of JSON that store numbers as 64-bit floats keep the integers from `-MAX_EXACT` to `MAX_EXACT`.
+/// 2^53 - 1. Readers of JSON that store numbers as 64-bit floats keep the integers from
+/// `-MAX_EXACT` to `MAX_EXACT`.
 const MAX_EXACT: i64 = 9_007_199_254_740_991;
 
 /// A member of an object: the name of an attribute, and its value.
@@ -47,7 +48,8 @@ impl TreeText<'_> {
         Ok(out.push_str("}}\n")?)
     }
 
-    /// Writes the members with the symbol and the production of a node, or with the class of a token.
+    /// Writes the members with the symbol and the production of a node, or with the class of a
+    /// token.
     fn write_kind_fields(
         &self,
         alloc: Global,
@@ -82,8 +84,8 @@ impl TreeText<'_> {
         }
     }
 
-    /// Returns the member with the value of an attribute. Returns `None` if the attribute is not selected, or the
-    /// file does not have its value.
+    /// Returns the member with the value of an attribute. Returns `None` if the attribute is not
+    /// selected, or the file does not have its value.
     fn member<'s>(&'s self, shown: &'s ShownNode, attr: u16) -> Option<Member<'s>> {
         if !self.is_selected(shown.item, attr) {
             return None;
@@ -114,9 +116,9 @@ fn write_carried(alloc: Global, out: &mut String, value: &Carried) -> Result<(),
     }
 }
 
-/// Writes a value as JSON: a number as one or, if a reader may not keep it exactly, as an object with its
-/// text; a text as a string; a list as an array; a table as an object with an array of its entries; an
-/// error as an object with its name.
+/// Writes a value as JSON: a text as a string, a list as an array, a table as an object with an
+/// array of its entries, and an error as an object with its name. Writes a number as `write_number`
+/// does.
 #[cycle(json)]
 fn write_json(out: &mut String, value: &Value) -> Result<(), NoMemory> {
     match value {
@@ -181,7 +183,8 @@ fn write_key(out: &mut String, key: &str) -> Result<(), NoMemory> {
     Ok(out.push_str(", ")?)
 }
 
-/// Writes a number or, if a reader may not keep it exactly, an object with its text.
+/// Writes a number as a JSON number. If a reader may round the number, writes an object with its
+/// decimal digits as a string.
 fn write_number(out: &mut String, number: i64) -> Result<(), NoMemory> {
     if -MAX_EXACT <= number && number <= MAX_EXACT {
         return Ok(write!(out, "{number}")?);
@@ -198,7 +201,7 @@ fn write_string(out: &mut String, text: &str) -> Result<(), NoMemory> {
     Ok(out.push_str("\"")?)
 }
 
-/// Writes a character of a string.
+/// Writes a character of a string. Quotes, backslashes and control characters are escaped.
 fn write_character(out: &mut String, character: char) -> Result<(), NoMemory> {
     match character {
         '"' => out.push_str("\\\"")?,

@@ -1,8 +1,9 @@
-//! A tree file as text: a line for each node, indented, in the order of the sentence; or a JSON object for
-//! each. What `aggen show` prints.
+//! A tree file as text: a line for each node, indented, in the order of the sentence; or a JSON
+//! object for each. What `aggen show` prints.
 //!
-//! Characters that control a terminal are written as escapes, such as `\u{1b}`. The functions that write
-//! to a `String` fail if memory is refused.
+//! In lines, control characters, invisible characters and unusual spaces are written as escapes,
+//! such as `\u{1b}`. In JSON, control characters are written as `\u001b`, and other characters of a
+//! value as they are. The functions that write to a `String` fail if memory is refused.
 #![tactic(auto)]
 
 mod fault;

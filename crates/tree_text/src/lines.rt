@@ -9,12 +9,12 @@ use ag_value::NoMemory;
 use std::alloc::Global;
 use tree_index::NodePath;
 
-/// The greatest number of levels that are indented.
+/// The greatest number of levels by which a line is indented. Deeper nodes are indented as much.
 const MAX_INDENTED: u32 = 24;
 
 impl TreeText<'_> {
-    /// Writes the line of a node: its path, its production or its class, and its values. If the nodes below it are
-    /// left out, also writes their number.
+    /// Writes the line of a node: its path, its production or its class, and its values. If the
+    /// nodes below it are left out, also writes their number.
     pub(crate) fn write_line(
         &self,
         alloc: Global,
@@ -72,7 +72,8 @@ impl TreeText<'_> {
         write_value(alloc, out, value, self.width)
     }
 
-    /// Writes the number of nodes below a node of the last level that is printed, if there are any: they are left out.
+    /// Writes the number of nodes below a node, if the node is on the last level that is printed:
+    /// the nodes below it are left out. Writes nothing if there are none.
     fn write_left_out(&self, out: &mut String, shown: &ShownNode) -> Result<(), NoMemory> {
         if shown.level < self.depth {
             return Ok(());

@@ -5,7 +5,8 @@ use message_texts::display::{PlainText, QuotedText};
 use message_texts::terminals::class_name;
 use std::fmt;
 
-/// An item of a right side, which prints as in the grammar: a symbol or class by its name, a literal in quotes.
+/// An item of a right side, which prints as in the grammar: a symbol or class by its name, a
+/// literal in quotes.
 #[derive(Clone, Copy)]
 pub struct ItemName<'a> {
     pub grammar: &'a Grammar,

@@ -17,9 +17,11 @@ use treefile::Device;
 /// A node with its record.
 #[derive(Drop)]
 pub(crate) struct ShownNode {
+    /// The number of the node in the index.
     pub(crate) node: u32,
     /// The number of levels below the first node of the walk.
     pub(crate) level: u32,
+    /// The symbol or the class of the node.
     pub(crate) item: Item,
     pub(crate) record: NodeRecord,
 }
@@ -32,15 +34,16 @@ const BUFFER_BYTES: usize = 65_536;
 pub struct TreeText<'a> {
     /// How the file is read.
     pub format: FileFormat<'a>,
-    /// Its index.
+    /// The index of the file.
     pub index: &'a TreeIndex,
     /// The attributes that are printed; if the list is empty, all are.
     pub only: &'a [SelectedAttribute],
     /// The greatest level that is printed; that of the walk's first node is 0.
     pub depth: u32,
-    /// The greatest number of characters of a value that is not a number; 0 for whole values.
+    /// In lines, the greatest number of characters of a value that is not a number; 0 for whole
+    /// values. JSON has whole values.
     pub width: usize,
-    /// Whether each node is a JSON object.
+    /// Whether each node is printed as a JSON object, not as a line of text.
     pub json: bool,
 }
 
@@ -54,7 +57,8 @@ impl TreeText<'_> {
                 .any(|it| it.item == item && it.attr == attr)
     }
 
-    /// Returns whether a node of this item is printed: if attributes are selected, only one that has such an attribute.
+    /// Returns whether nodes of this item are printed. If attributes are selected, the item has to
+    /// have one of them.
     fn is_printed(&self, item: Item) -> bool {
         for attr in 0..MAX_ATTRIBUTES as u16 {
             if self.is_selected(item, attr) && self.format.attribute_name(item, attr).is_some() {
@@ -64,8 +68,9 @@ impl TreeText<'_> {
         self.only.is_empty()
     }
 
-    /// Reads the record of a node that is visited; `None` if the node is not printed. Fails with R1 if the record is
-    /// damaged, with D1 if a call of the device fails, and if memory is refused.
+    /// Reads the record of a node that is visited. Returns `None` if the node is not printed, and
+    /// if the index or the grammar does not have it. Fails with R1 if the record is damaged, with
+    /// D1 if a call of the device fails, and if memory is refused.
     fn read_node<D: Device>(
         &self,
         alloc: Global,
@@ -112,8 +117,13 @@ impl TreeText<'_> {
     }
 }
 
-/// Prints the nodes of a walk over a tree file. Fails with R1 if the file has changed since its index was
-/// made, with D1 if a call of the device fails, with O2 if the output fails, and if memory is refused.
+/// Prints the nodes of a walk over a tree file. The walk has to be over the index of `text`; its
+/// greatest level is set to `text.depth`.
+///
+/// Fails with R1 if a record is damaged: if the file was changed after its index was made, or if
+/// the index was made without reading the values (`TreeIndex::read_shape`). Fails with D1 if a call
+/// of the device fails, with O2 if the output fails, and if memory is refused. A part of the text
+/// may have been printed before a failure.
 pub fn write_tree<D: Device, W: Write>(
     alloc: Global,
     text: &TreeText<'_>,
@@ -126,6 +136,7 @@ pub fn write_tree<D: Device, W: Write>(
 {
     walk.set_depth(text.depth);
     let mut buffer = String::new(alloc);
+    // the index of a file has at most `MAX_NODES` nodes
     for _node in 0..MAX_NODES {
         let Some(visit) = walk.next()? else {
             break;
@@ -141,7 +152,7 @@ pub fn write_tree<D: Device, W: Write>(
     flush(&mut buffer, out)
 }
 
-/// Writes the buffer to the output, and empties the buffer. Fails with O2 alone.
+/// Writes the buffer to the output, and empties the buffer. Fails with O2 if the output fails.
 fn flush<W: Write>(buffer: &mut String, out: &mut W) -> Result<(), ShowFault> {
     let Ok(()) = write_text(out, buffer.as_str()) else {
         return Err(ShowFault::Write);

@@ -10,12 +10,13 @@ use plan_reasons::{NameFault, attribute_named};
 pub struct SelectedAttribute {
     /// The symbol or the class.
     pub item: Item,
-    /// The attribute's number at the symbol; 0 for a class.
+    /// The number of the attribute among those of the symbol, from 0; 0 for a class.
     pub attr: u16,
 }
 
-/// Returns the attribute of a name, such as `L.sum` or `NUMBER.lex`. Fails if the grammar has no such attribute.
-/// Each class has `lex`, even if the grammar does not use the class.
+/// Returns the attribute of a name, such as `L.sum` or `NUMBER.lex`. Each class has `lex`, even if
+/// the grammar does not use the class. For other names, fails as `attribute_named` does, if the
+/// grammar has no such attribute.
 pub fn selected_attribute<'a>(
     grammar: &Grammar,
     name: &'a str,

@@ -5,8 +5,10 @@ use ag_value::{NoMemory, Text, Value, show};
 use message_texts::display::PlainText;
 use std::alloc::Global;
 
-/// Writes the first `width` characters of a value as text, and `..` after them if there are more; the whole
-/// text if `width` is 0 or the value is a number. Fails if memory is refused.
+/// Writes the first `width` characters of a value as text, and `..` after them if there are more.
+/// Writes the whole text if `width` is 0 or the value is a number. The characters are those of
+/// `show`, with quotes and with two for `\n`. One that is then written as an escape such as
+/// `\u{1b}` counts as one. Fails if memory is refused.
 pub fn write_value(
     alloc: Global,
     out: &mut String,
@@ -37,10 +39,11 @@ fn write_flat(
     write_first(out, shown.as_str(), width)
 }
 
-/// Writes the first characters of a value that is a text. Unless `width` is 0, converts only the first `width + 1`
-/// characters of the text: no more are needed.
+/// Writes a text value as `write_value` does. Unless `width` is 0, converts only the first
+/// `width + 1` characters of the text: with the quotes these are more than `width`.
 fn write_text(alloc: Global, out: &mut String, text: &str, width: usize) -> Result<(), NoMemory> {
     let needed = if width == 0 {
+        // the length in bytes, which is at least the number of characters
         text.len()
     } else {
         width.saturating_add(1)
@@ -58,8 +61,8 @@ fn first_characters(text: &str, count: usize) -> &str {
     }
 }
 
-/// Writes the first `width` characters of a text, and `..` after them if there are more; the whole text if
-/// `width` is 0.
+/// Writes the first `width` characters of a text, and `..` after them if there are more; the whole
+/// text if `width` is 0.
 fn write_first(out: &mut String, text: &str, width: usize) -> Result<(), NoMemory> {
     if width == 0 {
         return Ok(write!(out, "{}", PlainText(text))?);

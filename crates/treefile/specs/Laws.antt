@@ -141,7 +141,7 @@ abbrev pub AllPending : Type 0
 AllPending = (d : Direction) (level : ℕ) (xs : List Child) (todo : Pending)
     → (remaining_of d xs 0 ≡ xs) × (before_others d level (remaining_of d xs (length xs)) todo ≡ todo)
 
--- Bodies are expected exactly if they are the records of such trees.
+-- Bodies are expected exactly if they are the records of trees of the expected items.
 abbrev pub ExpectedAreThere : Type 0
 ExpectedAreThere =
     (version : Version) (g : Grammar) (m : Passes) (k deepest : ℕ) (d : Direction) (todo : Pending) (bodies : List (List ℕ))
@@ -153,7 +153,7 @@ ReadingEnds = (version : Version) (g : Grammar) (m : Passes) (k : ℕ) (content 
     → ReadSoFar version g m k content at count [] → IsTreeOf g t → IsFileOfTree version g m k t v content
     → next_before version content at ≡ Ok None
 
--- If the body found before an offset is not the expected one, the content is the file of no tree.
+-- If what is read before an offset contradicts the expected items (`Breaks`), the content is the file of no tree.
 abbrev pub ReadingBreaks : Type 0
 ReadingBreaks = (version : Version) (g : Grammar) (m : Passes) (k : ℕ) (content : List ℕ) (at count : ℕ) (todo : Pending)
     → ReadSoFar version g m k content at count todo → Breaks version g m k todo (next_before version content at)

@@ -1,5 +1,5 @@
--- A grammar and sentences whose files are worked out by hand. The grammar computes the value of a binary
--- fraction in units of 1/65536:
+-- A grammar and sentences, with files that are worked out by hand, except those of `x x`. Where no version is named, a file is
+-- of version 1. The grammar computes the value of a binary fraction in units of 1/65536:
 --   start N; symbol N syn out; symbol Q syn v; symbol L syn p, v inh w; symbol T syn p, v inh w; symbol B syn bit;
 --   N = L Q   Q =   Q = "." L   L = B T   T =   T = B T   B = "0"   B = "1"
 -- Symbols and productions are numbered from 0 in this order. The rules are left out, since no file depends on them.

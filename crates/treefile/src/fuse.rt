@@ -52,8 +52,8 @@ impl<D: Device> FuseDevice<D> {
         &self.inner
     }
 
-    /// Counts a call, so that `left` falls by one unless it is 0, and returns whether it is the one that
-    /// fails; if so, counts the failure.
+    /// Counts a call: `left` falls by one, unless it is 0. Returns whether this call is the one
+    /// that fails. If so, counts the failure too.
     fn count_call(&mut self) -> bool
         ensures inner { self.new.inner ≡ self.old.inner }
         ensures left { self.new.left ≡ self.old.left - 1 }

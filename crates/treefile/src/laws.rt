@@ -22,9 +22,10 @@ pub fn headers_are_distinguished()
         × (take (length version.magic) content ≡ version.magic)) }
 {}
 
-/// States when a body is read, in a usable version and in a content that has only bytes, at an offset
-/// within it: exactly if its frame ends at the offset. The offset is reported as damaged exactly if no
-/// frame ends there. Only `read` requires that the version is usable, and it holds of all contents.
+/// States when a body is read at an offset. `read`: in a usable version, the body whose frame ends
+/// at the offset is read. `occurs` and `damaged` are about an offset within a content that has only
+/// bytes, in any version: a body that is read there has its frame there, and the offset is reported
+/// as damaged if no frame ends there.
 pub fn frames_are_read()
     ensures read { (version : Version) (content body : List ℕ) (at : ℕ) → IsUsable version →
         IsBodyBefore version content at body → body_before version content at ≡ Ok body }

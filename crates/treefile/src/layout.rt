@@ -20,12 +20,12 @@ pub const LEAST_BODY: u64 = 3;
 /// copies for each child.
 pub const MAX_VALUES: usize = MAX_ATTRIBUTES + MAX_CHILDREN * MAX_ATTRIBUTES;
 
-/// The greatest number of bytes of a body of version 1: the least body, and the greatest values of
-/// all attributes of a symbol.
+/// The greatest number of bytes of a body of version 1: the least body, and a value of the greatest
+/// weight for each attribute that a symbol may have.
 const GREATEST_OLD_BODY: u64 = LEAST_BODY + MAX_ATTRIBUTES as u64 * MAX_WEIGHT;
 
-/// The greatest number of bytes of a body of version 2: the least body, and the greatest values of
-/// a full record.
+/// The greatest number of bytes of a body of version 2: the least body, and `MAX_VALUES` values of
+/// the greatest weight.
 const GREATEST_BODY: u64 = LEAST_BODY + MAX_VALUES as u64 * MAX_WEIGHT;
 
 /// A version of tree files.

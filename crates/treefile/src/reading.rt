@@ -192,7 +192,7 @@ pub fn read_body<D: Device>(device: &mut D, at: u64, body: &mut Vec<u8>) -> Resu
 /// Fails with B2 Damaged, and the number of bytes as its offset, if fewer than 4 bytes follow the
 /// header, or if the number in the last four is below 3, above 285,212,675 or greater than the
 /// number of bytes between the header and those four. Fails with D1 Device if a call of the device
-/// failed. Takes memory for the body.
+/// failed, and with NoMemory if memory for the body is refused.
 #[tactic(auto, unfolding(crate::specs::framing::Ending::last_body_of))]
 pub fn last_body<D: Device>(alloc: Global, device: &mut D) -> Result<Vec<u8>, FrameFault>
     // The body, B1 and B2 agree with the content.

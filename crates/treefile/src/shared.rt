@@ -12,9 +12,9 @@ use shared_bytes::{Body, SharedBytes};
 use std::alloc::Global;
 use std::marker::Model;
 
-/// A device in memory that becomes one more owner of each shared value that `append_parts` appends, and
-/// lends it without copying it. `append` and `read_at` copy bytes. Contracts see the bytes. It is honest,
-/// and never fails with `Failed`.
+/// A device in memory that becomes one more owner of each shared value that `append_parts` appends,
+/// and lends the value without copying it. `append` and `read_at` copy bytes. Contracts see the
+/// bytes. The device is honest, and never fails with `Failed`.
 #[derive(Drop)]
 pub struct SharedDevice {
     bytes: SharedBytes,
@@ -103,8 +103,10 @@ impl Device for SharedDevice {
 }
 
 /// Lends the body of the frame that ends at offset `at` of a content. Returns `None` if no frame
-/// ends there. The type `Body` is any borrowed part of shared bytes, not only the body of a frame: the
-/// parts that are cut off on the way have it too.
+/// ends there. The type `Body` is any borrowed part of shared bytes: `whole`, `frame`, `rest` and
+/// `last` are of this type too, and are not bodies of frames. A *splice* is the encoding of a
+/// shared value. `cut` splits a part at an offset; its second argument is the number of splices
+/// before the offset.
 #[inline(never)]
 fn body_before(bytes: &SharedBytes, at: u64) -> Option<Body<'_>>
     ensures body { IfSome result (λ body. body_before version_two bytes.now at ≡ Ok body) }

@@ -107,9 +107,10 @@ pub fn records_determine_trees()
     ensures end { OneTreeAtEnd }
 {}
 
-/// States that a content is the file of a pass of at most one tree of the grammar, and of one valuation
-/// of it (the values of its nodes) up to the pass. Values that are the same up to the pass have the
-/// same file. Accepted grammars meet the conditions on grammar and version in versions 1 and 2.
+/// States that a content is the file of a pass of at most one tree of the grammar, and of one
+/// valuation of it (the values of its nodes) up to the pass. Values that are the same up to the
+/// pass have the same file. Accepted grammars with a legal assignment meet the conditions on
+/// grammar and version (`IsNumbered`, `FitsVersion`) in versions 1 and 2.
 pub fn files_have_one_tree()
     ensures reading { OneReading }
     ensures same { SameFile }
@@ -117,10 +118,10 @@ pub fn files_have_one_tree()
     ensures two { FitsAccepted version_two }
 {}
 
-/// States that passes over files run one after the other. Before the first pass the file is unchanged,
-/// and each further pass reads the file that the previous one left. If that file encodes no tree of the
-/// grammar, neither does the first one, also within limits: so a fault that a later pass finds is a
-/// fault of the first file.
+/// States that passes over files run one after the other. Before the first pass the file is
+/// unchanged, and each further pass reads the file that the previous one left. If that file encodes
+/// no tree of the grammar, neither does the first one. The same holds of trees within limits of
+/// depth and number of nodes. So a fault that a later pass finds is a fault of the first file.
 pub fn passes_follow_files()
     ensures begins { RunBegins }
     ensures goes { RunContinues }
@@ -128,10 +129,11 @@ pub fn passes_follow_files()
     ensures within { RefusalWithinGoesBack }
 {}
 
-/// States that when a content is read from its end to its header, the root is expected first. After a
-/// record its children are expected, which the record determines, one by one in the direction of the
-/// next pass. The expected bodies are the records of the trees of these children. If nothing more is
-/// expected and the content is the file of a tree, all of it was read.
+/// States what is expected when a content is read from its end to its header. The root is expected
+/// first. A record determines the children of its node. After the record these are expected, one by
+/// one in the direction of the next pass. Bodies are as expected exactly if they are the records of
+/// trees of the expected items. If nothing more is expected and the content is the file of a tree,
+/// all of the content was read.
 pub fn reading_is_followed()
     ensures one { OneRecord }
     ensures begins { ReadingBegins }
@@ -142,9 +144,10 @@ pub fn reading_is_followed()
     ensures ends { ReadingEnds }
 {}
 
-/// States that if a content does not begin as a tree file of the pass, or a body found in reading is
-/// not the expected one, it is the file of no tree. If too much is expected, it is the file of no tree
-/// within the limits of levels and nodes.
+/// States that a content is the file of no tree if it does not begin as a tree file of the pass, or
+/// if what is read at an offset contradicts the expected items (`Breaks`). If a node is expected at
+/// too deep a level, or one record too many, the content is the file of no tree within the limits
+/// of levels and nodes.
 pub fn refusals_are_true()
     ensures breaks { ReadingBreaks }
     ensures long { ReadingIsTooLong }
@@ -167,11 +170,12 @@ pub fn root_is_last()
     ensures values { ValuesAreWhole }
 {}
 
-/// Worked examples: the tree of `1` with its values can be recorded, and so can that of `iffy if`, but
-/// not with an empty text for the name. The file of pass 2 of `1` is that of no other tree, and its
-/// last record is that of N. Pass 1 ran from the file of pass 0 of `x x` in `sample` to that of pass 1,
-/// and so did the passes from 1 to 1. T's record in pass 1 has the number 65536, which is spelled in
-/// nine bytes. A following byte 9 begins no value, so there are not two.
+/// Worked examples: the tree of `1` with its values can be recorded, and so can that of `iffy if`,
+/// but not with an empty text for the name. The file of pass 2 of `1` is that of no other tree, and
+/// its last record is that of N. Pass 1 ran from the file of pass 0 of `x x` in `sample` to that of
+/// pass 1, and so did the passes from 1 to 1. T's record in pass 1 has the number 65536, which is
+/// spelled in nine bytes. A following byte 9 begins no value, so these ten bytes do not spell two
+/// values.
 pub fn worked_records()
     ensures numbered { IsNumbered binary }
     ensures recorded { IsRecorded binary binary_passes 2 (item.Symbol 0) tree_of_one values_of_one }
@@ -195,12 +199,13 @@ pub fn worked_records()
     ensures missing { AreSpelled 2 (spelled_number ++ 9 ∷ []) → ⊥ }
 {}
 
-/// Worked examples: T's record in pass 1 and the record of the token `iffy` have no children, and Q's
-/// record is none of N. The others read the file of pass 0 of `1`, in version 1, from its end and from
-/// right to left. N is expected first, and after its record Q and then L, one level deeper. The bodies
-/// are those of a tree of three levels, and of none of two; nor is the file that of a tree of at most
-/// three nodes. A header alone is the file of no tree, nor is a file with only Q's record, nor is this
-/// one a file of pass 1.
+/// Worked examples: the nodes of T's record in pass 1 and of the record of the token `iffy` have no
+/// children, and Q's record is not a record of N. Then the file of pass 0 of `1` in version 1 is
+/// read from its end, with children from right to left. N is expected first, and after its record Q
+/// and then L, one level deeper. The bodies are those of a tree of at most three levels, and of no
+/// tree of at most two. The file is that of no tree of at most two levels, and of no tree of at
+/// most three nodes. No tree has a header alone as its file of pass 0, or a file with only Q's
+/// record. No tree has the file of pass 0 of `1` as its file of pass 1.
 pub fn worked_reading()
     ensures one { IsRecordOf version_one binary binary_passes 1 (item.Symbol 3, None)
         record_of_t [] }

@@ -1,6 +1,8 @@
-//! Writing a tree file: its header, and then the frames of its records. The private functions that fill a
-//! buffer or `parts`, or append to it, fail only if memory is refused; it has arbitrary bytes then. Records
-//! without values, and those whose values are one, two or three numbers, have functions that need no buffer.
+//! Writing a tree file: its header, and then the frames of its records. The private functions that
+//! fill a buffer or `parts`, or append to one of them, fail only if memory is refused. The buffer
+//! or `parts` has arbitrary bytes then. Records without values, and those whose values are one, two
+//! or three numbers, have functions that need no buffer. The last four bytes of their frames are
+//! the length of the body: 3 bytes, and 9 more for each number.
 
 ghost use Rattle.std.specs.Prelude.{◌≡◌, ◌++◌, ◌∷◌, ◌+◌, ◌-◌, ◌<◌, ◌≤◌, ◌^◌, ◌⊎◌, [], length};
 ghost use Rattle.std.specs.Prelude.{true, false, All, IfOk, IfSome, IsErrOf, Ok, OnOk};
@@ -203,8 +205,9 @@ impl Writer {
     }
 
     /// Appends the frame of a record of carried values by one call of the device: `append_parts` if
-    /// some of the values are shared, else `append`. Does not count it. Fails with NoMemory, before any
-    /// call of the device, if memory to fill the buffer or `parts` is refused; else as the device does.
+    /// some of the values are shared, else `append`. Does not count the frame. Fails with NoMemory,
+    /// before any call of the device, if memory to fill the buffer or `parts` is refused. Otherwise
+    /// fails as the device does.
     #[inline(always)]
     fn append_record<D: Device>(
         &mut self,

@@ -1,4 +1,5 @@
-//! The rule that the leftmost error among arguments is the value.
+//! Finds the leftmost error among arguments. It is the value of every operator, and of every call
+//! except `iserr` and `orelse`.
 
 ghost use Rattle.std.specs.Prelude.{◌≡◌, ◌∷◌, []};
 ghost use Rattle.ag_grammar.specs.values.Arguments.{fault_of, leftmost};

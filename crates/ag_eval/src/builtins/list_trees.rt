@@ -22,7 +22,7 @@ pub fn length(list: &ListTree) -> Value
     ensures value { result ≡ length_of (value.List list.now) }
     ensures well { IsWell result }
 {
-    // for the prover: the list is within the limits
+    // the contract of `weight` shows the prover that the list is within the limits
     let _weight = list.weight();
     count(list.len())
 }
@@ -51,8 +51,8 @@ fn item_at(list: &ListTree, index: i64) -> Option<&Value>
     list.get(index as usize)
 }
 
-/// Computes `a ++ b`: a tree that shares nodes with both. Takes memory for the nodes on the way to the
-/// place where they meet.
+/// Computes `a ++ b`: a tree that shares nodes with both. Takes memory for new nodes, whose number
+/// grows with the difference of the heights of the trees.
 #[tactic(auto, using(crate::proofs::Lists::limits))]
 pub fn concatenate<'a>(
     alloc: Global,
@@ -61,7 +61,7 @@ pub fn concatenate<'a>(
 ) -> Result<Held<'a>, NoMemory>
     ensures { IfOk result (λ h. held_value h ≡ fit (value.List (left.now ++ right.now))) }
 {
-    // for the prover: both lists are within the limits
+    // the contract of `weight` shows the prover that both lists are within the limits
     let _weights = (left.weight(), right.weight());
     match ListTree::join(alloc, left, right)? {
         Some(list) => Ok(Held::List(list)),

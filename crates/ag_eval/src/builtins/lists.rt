@@ -40,8 +40,9 @@ pub fn count(length: usize) -> Value
     Value::Num(length as i64)
 }
 
-/// Computes `a ++ b` unless both are texts: the left argument is extended by the contents of the right
-/// one. Takes memory for the growth.
+/// Computes `a ++ b` for two values that are not both texts: the left list is extended by the items
+/// of the right one. The value is the error `kind` unless both are lists. Takes memory for the
+/// growth.
 pub fn extend_list(left: Measured, right: Measured) -> Result<Measured, NoMemory>
     requires { is_text left ≡ true → is_text right ≡ false }
     ensures { IfOk result (λ m. m ≡ concatenation left right) }
@@ -54,7 +55,8 @@ pub fn extend_list(left: Measured, right: Measured) -> Result<Measured, NoMemory
     }
 }
 
-/// Concatenates two lists, given the sum of their weights and the greater of their depths.
+/// Concatenates two lists, given the sum of their weights and the greater of their depths. The sum
+/// counts the weight of an empty list, 5, twice.
 fn extended(
     items: Items<Value>,
     more: Items<Value>,

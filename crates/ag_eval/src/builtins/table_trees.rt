@@ -22,12 +22,12 @@ pub fn length(table: &TableTree) -> Value
     ensures value { result ≡ length_of (value.Table table.now) }
     ensures well { IsWell result }
 {
-    // for the prover: the table is within the limits
+    // the contract of `weight` shows the prover that the table is within the limits
     let _weight = table.weight();
     count(table.len())
 }
 
-/// Computes `get(t, k)`: the key's value, lent.
+/// Computes `get(t, k)`: the key's value, lent; the error `key` if the table doesn't have the key.
 #[tactic(auto, using(crate::proofs::Trees::got))]
 pub fn get<'a>(table: &'a TableTree, key: &Value) -> Held<'a>
     ensures { held_value result ≡ get_result (value.Table table.now) key.now }
@@ -57,7 +57,7 @@ pub fn keys(alloc: Global, table: &TableTree) -> Result<Value, NoMemory>
     ensures value { IfOk result (λ v. v ≡ keys_of (value.Table table.now)) }
     ensures well { IfOk result (λ v. IsWell v) }
 {
-    // for the prover: the table is within the limits
+    // the contract of `weight` shows the prover that the table is within the limits
     let _weight = table.weight();
     Ok(Value::List(table.keys(alloc)?))
 }

@@ -21,7 +21,8 @@ use ag_value::{ErrorCode, Items, NoMemory, Text, Value};
 use std::alloc::Global;
 use table_tree::TableTree;
 
-/// Returns the number of keys before a key, which is its index in a table.
+/// Returns the number of keys that come before this key: the index of the key in the table, or the
+/// index at which it has to be inserted.
 fn index_of(pairs: &[(Text, Value)], key: &str) -> usize
     requires { is_ascending (map key_of pairs.now) ≡ true }
     ensures within { result ≤ length pairs.now }
@@ -42,7 +43,7 @@ fn pair_with<'a>(pairs: &'a [(Text, Value)], key: &str) -> Option<&'a (Text, Val
     }
 }
 
-/// Computes `get(t, k)`: the key's value, lent.
+/// Computes `get(t, k)`: the key's value, lent; the error `key` if the table doesn't have the key.
 pub fn get<'a>(table: &'a Value, key: &Value) -> Held<'a>
     requires { IsWell table.now }
     ensures { held_value result ≡ get_result table.now key.now }
@@ -152,7 +153,8 @@ struct MeasuredPairs {
     depth: u32,
 }
 
-/// Adds a pair to a table, or replaces the value of its key.
+/// Adds a pair to a table, or replaces the value of its key. A pair weighs 4 bytes for the length
+/// of its key, and the key's bytes and the value's weight.
 fn put_pair(
     alloc: Global,
     table: MeasuredPairs,

@@ -24,8 +24,9 @@ pub fn join(alloc: Global, list: &Value, separator: &Value) -> Result<Measured, 
     }
 }
 
-/// Concatenates items that are texts, with the separator between neighbours; the error `kind` if an
-/// item is not a text, and `big` if the result is beyond the limits.
+/// Concatenates items that are texts, with the separator between neighbours. The value is the error
+/// `kind` if an item is not a text, and `big` if the result is beyond the limits. The weight of a
+/// text is 5 more than the number of its bytes.
 #[tactic(auto, using(ag_value::proofs::Layers::items, ag_value::proofs::Utf8::utf8))]
 fn join_items(alloc: Global, items: &[Value], separator: &str) -> Result<Measured, NoMemory>
     ensures { IfOk result (λ m. m ≡ joined_texts items.now separator.now) }
@@ -109,7 +110,7 @@ pub fn extend_text(alloc: Global, left: Measured, right: &str) -> Result<Measure
     }
 }
 
-/// Concatenates two texts.
+/// Concatenates two texts. The weight of a text is 5 more than the number of its bytes.
 #[tactic(auto, using(ag_value::proofs::Layers::items, ag_value::proofs::Utf8::utf8))]
 fn extended(alloc: Global, left: Text, right: &str) -> Result<Measured, NoMemory>
     ensures { IfOk result (λ m. m ≡ fit (value.Text (left ++ right.now))) }

@@ -20,7 +20,7 @@ abbrev pub max_levels : ℕ
 max_levels = MAX_EXPR_LEVELS
 
 -- The text reads as the expression, which is a tree and a list of occurrences: the text is separators and
--- longest tokens, with each number within its limit; the list has the distinct occurrences among the tokens;
+-- longest tokens, with each number and place within its limit; the list has the distinct occurrences among the tokens;
 -- and the tokens spell the tree.
 pub record ReadsAsExpr (text : List ℕ) (expr : Node × List Occ) : Type 0 where
   pub placed : List PlacedToken
@@ -37,8 +37,8 @@ abbrev pub IsRefused : List ℕ → ExprFault → Type 0
 IsRefused text fault.NoMemory = Unit {0}
 IsRefused text e = ReadsAsNone text
 
--- whether an expression can begin with this name, if it is bound: one that is not reserved, `let`, `if`, or the name of
--- a call
+-- Whether an expression can begin with this name: `let`, `if`, the name of a call, or a name that is not reserved. Such a name is
+-- taken to be bound.
 abbrev pub begins_with : List ℕ → Bool
 begins_with name =
     not (is_reserved name) || (bytes_eq name (codes "let") || (bytes_eq name (codes "if") || is_some (call_of name)))
@@ -54,9 +54,9 @@ begins_expression (token.Punctuation punctuation.OpenList) = true
 begins_expression (token.Punctuation punctuation.OpenTable) = true
 begins_expression _ = false
 
--- What a fault states about its offset, if the characters `cs` begin at the offset `from`: X1, no token
--- begins there; X3, the token there has a number above its limit; X2, there is a token, or the text ends
--- there; X4, an expression can begin with the token there.
+-- What a fault states about its offset, if the characters `cs` begin at the offset `from`. X1: no token begins there. X3: the
+-- token there has a number or place above its limit. X2: a token is there, with its number or place within its limit, or the text
+-- ends there. X4: such a token is there, and an expression can begin with it.
 abbrev pub IsFaultFrom : ℕ → List ℕ → ExprFault → Type 0
 IsFaultFrom from cs (fault.NoToken at) = NoTokenAt from cs at
 IsFaultFrom from cs (fault.NumberTooLarge at) = TooLargeAt from cs at

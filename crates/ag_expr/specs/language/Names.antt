@@ -42,8 +42,7 @@ is_reserved name = is_keyword name || is_some (call_of name)
 abbrev pub Names : Type 0
 Names = List (List ℕ)
 
--- the index of the last member that satisfies the test; the list continues one whose length is `at` and whose
--- result is `found`
+-- the index of the last member that satisfies the test, or `found` if none does; the index of the first member is `at`
 abbrev pub last_from : {A : Type 0} → (A → Bool) → ℕ → Option ℕ → List A → Option ℕ
 last_from test at found [] = found
 last_from test at found (y ∷ ys) = last_from test (at + 1) (cond (test y) (Some at) found) ys

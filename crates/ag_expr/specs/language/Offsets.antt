@@ -18,14 +18,14 @@ use Rattle.ag_tokens.specs.Tokens.{Lexes}
 abbrev pub Begins : List Occ → List GrammarToken → Type 0
 Begins listed ts = (levels : ℕ) × (more : List GrammarToken) × (e : Node) × IsExpr listed levels (ts ++ more) e
 
--- no expression, for any number of levels, continues with the next token, or ends with the text if that ends
--- here
+-- The tokens `ts` and the remaining ones are those of a text. If there is a next token, no expression, for any number of levels,
+-- begins with `ts` and this token. If the text ends here, `ts` are not an expression. At any other ending nothing is claimed.
 abbrev pub NoneGoesOn : List Occ → List GrammarToken → Ending → List PlacedToken → Type 0
 NoneGoesOn listed ts e [] = (at : ℕ) → e ≡ ending.EndsAt at → (levels : ℕ) (tree : Node) → IsExpr listed levels ts tree → ⊥
 NoneGoesOn listed ts e (p ∷ ps) = Begins listed (ts ++ p.token ∷ []) → ⊥
 
 -- The fault is at the first token of `rest`, or at the ending if `rest` is empty. The tokens before it are a prefix of
--- an expression. No expression continues with this token; if the text ends there, the tokens before are no expression.
+-- an expression. No expression continues with this token; if the text ends there, the tokens before are not an expression.
 pub record IsFirstWrong (listed : List Occ) (i : Input) (f : ExprFault) : Type 0 where
   pub before : List PlacedToken
   pub rest : List PlacedToken
@@ -51,14 +51,16 @@ pub record IsTooDeep (listed : List Occ) (levels : ℕ) (i : Input) (f : ExprFau
 abbrev pub IsReportedFirst : List Occ → ℕ → Input → ExprFault → Type 0
 IsReportedFirst listed levels i f = IsFirstWrong listed i f ⊎ IsTooDeep listed levels i f
 
--- the result of parsing the tokens of a text: a tree and the distinct occurrences among them, or a fault
+-- the outcome of a parser as a result: a tree and the distinct occurrences, or a fault
 abbrev pub answer_of : List Occ → Outcome Node → Result (Node × List Occ) ExprFault
 answer_of listed (Ok p) = Ok (p.0, listed)
 answer_of listed (Err f) = Err f
 
+-- the distinct occurrences among the tokens
 abbrev pub occurrences_of : Input → List Occ
 occurrences_of i = distinct_occurrences (all_occurrences i.left)
 
+-- the result of parsing the tokens of a text: a tree and the distinct occurrences among them, or a fault
 abbrev pub read_from : Input → Result (Node × List Occ) ExprFault
 read_from i = answer_of (occurrences_of i) (expr_of (occurrences_of i) max_levels i)
 

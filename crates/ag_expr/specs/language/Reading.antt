@@ -52,11 +52,11 @@ Outcome = parsing.Outcome ExprFault
 abbrev pub Parser : Type 0 → Type 0
 Parser = parsing.Parser ExprFault
 
--- reads one token, and returns its meaning; fails with `refusal` if it has none
+-- reads one token, and returns its meaning; fails with `refusal` without a token, or if it has no meaning
 abbrev pub token_as : {A : Type 0} → (GrammarToken → Option A) → Parser A
 token_as meaning = one_from refusal (λ at. meaning)
 
--- reads this punctuation or this name
+-- the meaning of a token that is this punctuation or this name; `expect` reads such a token
 abbrev pub as_sign : Sign → GrammarToken → Option (Unit {0})
 as_sign s t = if is_sign s t then Some tt else None
 
@@ -90,7 +90,8 @@ ranked_from atom (k ∷ ks) = chain_from k (ranked_from atom ks)
 
 -- ---- expressions
 
--- whether the token begins an operand, a call, an atom, or an expression
+-- Whether the token is the name of a call; whether it is an operand of one token; whether an atom, and whether an expression
+-- begins with it. `listed` are the distinct occurrences, and `scope` the names in scope.
 abbrev pub is_call : GrammarToken → Bool
 is_call t = is_some (call_in t)
 
@@ -146,7 +147,7 @@ table_from = do
   expect (mark punctuation.CloseTable)
   pure node.EmptyTable
 
--- `inner` is the parser of expressions of one level less, by the names in scope
+-- `inner` maps the names in scope to the parser of expressions of one level less.
 module _ (inner : Names → Parser Node) (scope : Names) where
   unfoldable pub parenthesized_from : Parser Node
   parenthesized_from = do
@@ -245,7 +246,7 @@ abbrev pub level_fault_of : List Occ → Names → Ending → List PlacedToken �
 level_fault_of listed scope e [] = ending_fault e
 level_fault_of listed scope e (p ∷ ps) = if begins listed scope p.token then fault.TooDeep p.at else fault.Unexpected p.at
 
--- an expression of at most `levels` levels, with these names in scope
+-- an expression of at most `levels` levels, with these distinct occurrences, and these names in scope
 unfoldable pub expr_in : List Occ → ℕ → Names → Parser Node
 expr_in listed zero scope = λ i. Err (level_fault_of listed scope i.ending i.left)
 expr_in listed (suc levels) scope = whole_from (expr_in listed levels) scope listed

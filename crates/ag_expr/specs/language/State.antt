@@ -32,7 +32,7 @@ abbrev pub up_to : Bool → Input → Input
 up_to false i = i
 up_to true i = record { left = before_semicolon i.left; ending = ended_by i.ending (first_semicolon i.left) }
 
--- and the tokens from the `;` on
+-- the other tokens: those from the `;` on for a statement, else none
 abbrev pub from_end : Bool → Input → Input
 from_end false i = record i { left = [] }
 from_end true i = record i { left = from_semicolon i.left }
@@ -57,7 +57,7 @@ pub record State : Type 0 where
 abbrev pub start : Bool → Input → State
 start is_statement i = record { listed = []; scope = []; is_statement = is_statement; tokens = i }
 
--- the remaining input up to the end of the tokens
+-- the remaining input of the expression: up to the `;` of a statement, else all of it
 unfoldable pub input : State → Input
 input s = up_to s.is_statement s.tokens
 
@@ -69,8 +69,8 @@ complete_list s = listed_with_all s.listed (all_occurrences (input s).left)
 abbrev pub after_token : State → State
 after_token s = record s { tokens = next s.tokens }
 
--- everything but the position is unchanged: the complete list of occurrences, the names in scope, and the input
--- from the end of the tokens on
+-- Everything but the position within the expression is unchanged: the complete list of occurrences, the names in scope, whether
+-- it is a statement, and the input after the expression.
 pub record KeepsContext (old new : State) : Type 0 where
   pub occurrences : complete_list new ≡ complete_list old
   pub names : new.scope ≡ old.scope

@@ -67,6 +67,7 @@ abbrev pub takes_one : Precedence → Bool
 takes_one precedence.Comparison = true
 takes_one _ = false
 
+-- a test: two precedences are the same; `sameb the_type` is the toolchain's test for an enum without fields
 abbrev pub same_precedence : Precedence → Precedence → Bool
 same_precedence = sameb the_type
 
@@ -143,7 +144,7 @@ IsTable = do
   one_sign (mark punctuation.CloseTable)
   gives node.EmptyTable
 
--- ---- expressions; `inner` is the language of expressions of one level less, by the names in scope
+-- ---- expressions; `inner` maps the names in scope to the language of expressions of one level less
 
 module _ (inner : Names → List GrammarToken → Node → Type 0) (scope : Names) where
   abbrev pub IsParenthesized : List GrammarToken → Node → Type 0
@@ -226,6 +227,7 @@ module _ (inner : Names → List GrammarToken → Node → Type 0) (scope : Name
     f ← inner scope
     gives (node.If c e f)
 
+  -- `listed` are the distinct occurrences
   module _ (listed : List Occ) where
     abbrev pub IsAtom : List GrammarToken → Node → Type 0
     IsAtom = IsParenthesized or IsList or IsTable or IsCall or one (operand_of listed scope)

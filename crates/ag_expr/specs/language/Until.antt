@@ -26,24 +26,27 @@ Ended = (Node × List Occ) × ℕ
 abbrev pub semicolon : ℕ → PlacedToken
 semicolon at = record { at = at; token = token.Punctuation punctuation.Semicolon }
 
--- the offset of the first semicolon among tokens, and the tokens before it
+-- the offset of the first semicolon among tokens
 abbrev pub first_semicolon : List PlacedToken → Option ℕ
 first_semicolon [] = None
 first_semicolon (p ∷ ps) = cond (is_sign (mark punctuation.Semicolon) p.token) (Some p.at) (first_semicolon ps)
 
+-- the tokens before the first semicolon
 abbrev pub before_semicolon : List PlacedToken → List PlacedToken
 before_semicolon [] = []
 before_semicolon (p ∷ ps) = cond (is_sign (mark punctuation.Semicolon) p.token) [] (p ∷ before_semicolon ps)
 
--- the tokens from the first semicolon on, and the tokens after it
+-- the tokens from the first semicolon on
 abbrev pub from_semicolon : List PlacedToken → List PlacedToken
 from_semicolon [] = []
 from_semicolon (p ∷ ps) = cond (is_sign (mark punctuation.Semicolon) p.token) (p ∷ ps) (from_semicolon ps)
 
+-- the tokens after the first semicolon
 abbrev pub after_semicolon : List PlacedToken → List PlacedToken
 after_semicolon [] = []
 after_semicolon (p ∷ ps) = cond (is_sign (mark punctuation.Semicolon) p.token) ps (after_semicolon ps)
 
+-- the expression with this offset of the semicolon after it, or the fault
 abbrev pub with_offset : ℕ → Result (Node × List Occ) ExprFault → Result Ended ExprFault
 with_offset at (Ok x) = Ok (x, at)
 with_offset at (Err f) = Err f
@@ -59,6 +62,7 @@ abbrev pub until_by : Option ℕ → Input → Result Ended ExprFault
 until_by (Some at) i = with_offset at (read_from (record { left = before_semicolon i.left; ending = ending.EndsAt at }))
 until_by None i = or_fault (ending_fault i.ending) (read_from i)
 
+-- the result of parsing the tokens of an input up to the first semicolon
 abbrev pub read_until_from : Input → Result Ended ExprFault
 read_until_from i = until_by (first_semicolon i.left) i
 

@@ -13,13 +13,13 @@ use Rattle.ag_value.specs.declared.value.Value.TheVariants as value
 abbrev pub placed : ℕ → GrammarToken → PlacedToken
 placed at t = record { at = at; token = t }
 
--- the tokens of `$1.a + 2`
+-- the tokens of `$1.a + 2`, with their offsets
 abbrev pub occurrence_and_number : List PlacedToken
 occurrence_and_number =
     placed 0 (token.Occurrence 1 (codes "a")) ∷ placed 5 (token.Punctuation punctuation.Plus) ∷ placed 7 (token.Number (pos 2))
     ∷ []
 
--- `2 + 3 * 4`
+-- the tree of `2 + 3 * 4`
 abbrev pub sum_and_product : Node
 sum_and_product =
     node.Chain (node.Literal (value.Num (pos 2)))
@@ -28,7 +28,7 @@ sum_and_product =
       node.Chain (node.Literal (value.Num (pos 3))) ((operator.Multiply, node.Literal (value.Num (pos 4))) ∷ []),
     ) ∷ [])
 
--- the tokens of `let x = 1 in x < 2`, with their offsets, and its tree
+-- the tokens of `let x = 1 in x < 2`, with their offsets; the next definition is its tree
 abbrev pub let_and_compare : List PlacedToken
 let_and_compare =
     placed 0 (token.Name (codes "let")) ∷ placed 4 (token.Name (codes "x")) ∷ placed 6 (token.Punctuation punctuation.Equal)

@@ -33,8 +33,8 @@ abbrev pub bound_value : Option Value → Value
 bound_value (Some v) = v
 bound_value None = value.Fault Kind
 
--- One level of a tree, with the meaning of each operand in its place. In the body of a `let` the name has the
--- value of its definition, which may be an error.
+-- The value of one level of a tree, with the meaning of each operand in its place. A text literal may be too heavy, so `fit`
+-- checks it. In the body of a `let` the name has the value of its definition, which may be an error.
 abbrev pub value_step : Node-F Meaning → Meaning
 value_step (Node-F.Literal v) env bound = fit v
 value_step (Node-F.Occurrence k) env bound = env k
@@ -57,6 +57,6 @@ value_in = fold-Node Meaning value_step
 abbrev pub value_of : Node → (ℕ → Value) → Value
 value_of e env = value_in e env []
 
--- the first n values are well
+-- the values that an environment gives to the occurrences 0 to n - 1 are well
 pub record AreWell (n : ℕ) (env : ℕ → Value) : Type 0 where
   pub well : (k : ℕ) → k < n → IsWell (env k)

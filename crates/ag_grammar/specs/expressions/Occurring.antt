@@ -6,7 +6,7 @@ use Rattle.ag_grammar.specs.declared.syntax.node.Node.{Node}
 use Rattle.ag_grammar.specs.declared.syntax.node.Node.TheFolds.{fold-Node}
 use Rattle.ag_grammar.specs.declared.syntax.node.Node.TheOpen.{Node-F}
 
--- whether some operand of a chain after the first, or some item of a list, has the property
+-- whether the result is true for some operand of a chain after the first, or for some item of a list
 abbrev pub some_operand : List (Operator × Bool) → Bool
 some_operand [] = false
 some_operand (x ∷ xs) = x.1 || some_operand xs
@@ -15,7 +15,7 @@ abbrev pub some_item : List Bool → Bool
 some_item [] = false
 some_item (x ∷ xs) = x || some_item xs
 
--- one level of a tree, with the result of each operand in its place
+-- whether one level of a tree contains occurrence k, with the result for each operand in its place
 abbrev pub has_step : ℕ → Node-F Bool → Bool
 has_step k (Node-F.Literal v) = false
 has_step k (Node-F.Occurrence j) = nat_eq j k

@@ -16,7 +16,7 @@ abbrev pub each_holds : ℕ → List (ℕ → Bool) → Bool
 each_holds bound [] = true
 each_holds bound (x ∷ xs) = x bound && each_holds bound xs
 
--- one level of a tree with `bound` names bound around it
+-- the test of `is_within` for one level of a tree, with the test of each operand in its place
 abbrev pub below_step : ℕ → Node-F (ℕ → Bool) → ℕ → Bool
 below_step n (Node-F.Literal v) bound = true
 below_step n (Node-F.Occurrence k) bound = nat_lt k n

@@ -42,7 +42,7 @@ abbrev pub truth : Bool → Value
 truth true = value.Num (pos 1)
 truth false = value.Num (pos 0)
 
--- whether a value is an error
+-- whether there is an error code
 abbrev pub has_fault : Option ErrorCode → Bool
 has_fault (Some code) = true
 has_fault None = false

@@ -21,8 +21,8 @@ BigComesNext = (v : Value) → depth_of v ≤ max_value_depth → max_weight < w
 abbrev pub WhatFitsStays : Type 0
 WhatFitsStays = (v : Value) → depth_of v ≤ max_value_depth → weight_of v ≤ max_weight → fit v ≡ v
 
--- The comparison that `==` makes of operands that are not errors is 1 for two well values if and only if they are the
--- same.
+-- `comparison_result`, the result of `==` for operands that are not errors, is 1 for two well values if and only if they
+-- are the same.
 abbrev pub SameIsOne : Type 0
 SameIsOne = (v w : Value) → IsWell v → IsWell w → (comparison_result v w ≡ value.Num (pos 1)) ↔ (v ≡ w)
 

@@ -42,12 +42,12 @@ of_numbers f left right = from_numbers f (out-Value left) (out-Value right)
 abbrev pub is_digits : List ℕ → Bool
 is_digits digits = nat_lt 0 (length digits) && list_all is_ascii_digit digits
 
--- the number of these digits with this sign, if they are digits and the number is in the range of i64
+-- the number that these bytes denote, with this sign, if all are digits and the number is in the range of i64
 abbrev pub signed_number : (ℤ → ℤ) → List ℕ → Option ℤ
 signed_number sign digits =
     if is_digits digits && is_i64 (sign (pos (digits_value 10 digits))) then Some (sign (pos (digits_value 10 digits))) else None
 
--- the number that a text denotes: digits, with an optional `-` before them
+-- the number that a text denotes: digits, with an optional `-` (byte 45) before them
 abbrev pub spelled_number : List ℕ → Option ℤ
 spelled_number [] = None
 spelled_number (b ∷ bytes) = if b == 45 then signed_number neg_ℤ bytes else signed_number (λ z. z) (b ∷ bytes)

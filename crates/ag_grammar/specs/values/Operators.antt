@@ -17,7 +17,7 @@ use Rattle.ag_grammar.specs.values.Numbers.{number_value, of_numbers, quotient, 
 abbrev pub comparison_result : Value → Value → Value
 comparison_result left right = truth (bytes_eq (spelling_of left) (spelling_of right))
 
--- `a < b`: compares two numbers, or two texts by their bytes
+-- `a < b`, for two numbers or two texts: 1 if a is less, else 0; texts are compared by their bytes
 abbrev pub ordered_at : Value-F Value → Value-F Value → Value
 ordered_at (Value-F.Num m) (Value-F.Num n) = truth (int_lt m n)
 ordered_at (Value-F.Text s) (Value-F.Text t) = truth (is_before s t)

@@ -37,8 +37,10 @@ impl Model for Expr {
 }
 
 impl Expr {
-    /// Makes the expression from a tree and the distinct occurrences to which the tree refers by
-    /// index. Does not allocate.
+    /// Makes the expression from a tree and the list of occurrences to which the tree refers by
+    /// index. No two occurrences may have the same place and name. Each occurrence in the tree must
+    /// be an index of the list, and each bound name in the tree must be bound around it. Nothing is
+    /// checked at run time. Does not allocate.
     pub fn new(node: Node, occurrences: SmallVec<Occ, 4>) -> Expr
         requires below { is_below (length occurrences.items) node ≡ true }
         requires different { AreDifferent occurrences.items }

@@ -66,8 +66,8 @@ pub enum Node {
     /// A bound name, by its index among the names that are bound around it; the outermost has index
     /// 0.
     Bound(usize),
-    /// A first operand, followed by one or more pairs of an operator and an operand. All operators of
-    /// a chain have the same precedence, and are left-associative.
+    /// A first operand, followed by one or more pairs of an operator and an operand. All operators
+    /// of a chain have the same precedence, and are left-associative.
     Chain(Boxed<Node>, Items<(Operator, Node)>),
     /// `let x = e in f`: the definition of the name, and the body in which it is bound.
     Let(Boxed<Node>, Boxed<Node>),

@@ -11,12 +11,12 @@ pub struct Occ {
     pub place: u16,
     /// The attribute's name.
     pub attr: Text,
-    /// The offset in bytes of the `$`: in an expression, that of the first occurrence of this pair of
-    /// place and name.
+    /// The offset in bytes of the `$`, from the beginning of the text. In an expression, it is the
+    /// offset of the first occurrence of this pair of place and name.
     pub at: usize,
 }
 
-/// Fills the unused slots of a `SmallVec`.
+/// Makes the value with which a `SmallVec` fills its unused slots.
 impl MadeWith<Global> for Occ {
     fn made_with(alloc: Global) -> Occ {
         Occ {

@@ -1,4 +1,5 @@
-//! Reading a value from the bytes of its spelling.
+//! Reading a value from the bytes of its spelling. The first byte is the kind: 0 for a number, 1
+//! for a text, 2 for a list, 3 for a table, 4 for an error.
 ghost use Rattle.std.specs.Prelude.{◌≡◌, ◌++◌, ◌≤◌, ℕ, List, [], true, false, length, take};
 ghost use Rattle.std.specs.Prelude.{IfOk, IfSome, IfNone, MatchResult};
 ghost use Rattle.std.specs.Int.{w32, w64};
@@ -18,8 +19,8 @@ use crate::walks::wellness::has_ascending_keys;
 use std::alloc::Global;
 use std::str::from_utf8;
 
-/// The length of the shortest spelling of an item (an empty text, list or table), in bytes. A pair is
-/// longer.
+/// The length of the shortest spelling of an item (an empty text, list or table), in bytes. A pair
+/// is longer.
 const MIN_ITEM_LENGTH: usize = 5;
 
 /// The greatest number of items for which room is reserved before the first of them is read.
@@ -28,8 +29,9 @@ const MAX_RESERVED: usize = 1024;
 /// Decodes the value whose spelling is a prefix of the input. Returns it and the length of that
 /// prefix in bytes. More bytes may follow.
 ///
-/// Fails with NoMemory if memory runs out, and otherwise with Malformed (V1) exactly if no prefix of the
-/// input is the spelling of a well value. A returned value is well, and the prefix is its spelling.
+/// Fails with NoMemory if memory runs out, and otherwise with Malformed (V1) exactly if no prefix
+/// of the input is the spelling of a well value. A returned value is well, and the prefix is its
+/// spelling.
 #[inline(always)]
 pub fn decode(alloc: Global, input: &[u8]) -> Result<(Value, usize), ValueFault>
     ensures well { IfOk result (λ found. IsWell found.0) }
@@ -50,9 +52,10 @@ pub fn decode(alloc: Global, input: &[u8]) -> Result<(Value, usize), ValueFault>
     Ok((value, len))
 }
 
-/// Reads the value, of a depth of at most `levels`, at the beginning of the bytes. Returns it and the
-/// bytes after it. Fails with V1 if there is none, if a list or table contains an error, or if the keys
-/// of a table do not rise, and with NoMemory. Doesn't call `item_of` for numbers and errors.
+/// Reads the value, of a depth of at most `levels`, at the beginning of the bytes. Returns it and
+/// the bytes after it. Fails with V1 if the bytes begin with no spelling of such a value, if a list
+/// or table contains an error, or if the keys of a table do not rise, and with NoMemory. Reads
+/// errors itself, since `item_of` rejects them, and numbers, which saves a call.
 #[inline(always)]
 #[tactic(auto, unfolding(crate::specs::Reading::value_at, crate::specs::Reading::item_at))]
 fn leading_value(alloc: Global, levels: usize, bytes: &[u8]) -> Result<(Value, &[u8]), ValueFault>
@@ -68,9 +71,9 @@ fn leading_value(alloc: Global, levels: usize, bytes: &[u8]) -> Result<(Value, &
     }
 }
 
-/// Reads the value, of a depth of at most `levels`, at the beginning of the bytes. Returns it and the
-/// bytes after it. Fails with V1 if there is none, if it is an error, or if the keys of a table do not
-/// rise, and with NoMemory.
+/// Reads the value, of a depth of at most `levels`, at the beginning of the bytes. Returns it and
+/// the bytes after it. Fails with V1 if the bytes begin with no spelling of such a value, if the
+/// value is an error or contains one, or if the keys of a table do not rise, and with NoMemory.
 #[cycle(reading)]
 #[tactic(auto, unfolding(crate::specs::Reading::item_at))]
 fn item_of(alloc: Global, levels: usize, bytes: &[u8]) -> Result<(Value, &[u8]), ValueFault>
@@ -171,7 +174,8 @@ fn room_for(count: u32, bytes: &[u8]) -> usize {
         .min(MAX_RESERVED)
 }
 
-/// Reads an error by its number, one byte from 1 to 8. Fails with V1 if there is no such byte.
+/// Reads an error by its number, one byte from 1 to 8. Fails with V1 if the bytes begin
+/// with another byte, or are empty.
 #[tactic(auto, unfolding(crate::specs::Reading::fault_at))]
 fn fault_of(bytes: &[u8]) -> Result<(Value, &[u8]), ValueFault>
     ensures { Agrees (λ x. (x.0, x.1.now)) result (fault_at bytes.now) }
@@ -202,8 +206,8 @@ fn code_of(number: u8) -> Option<ErrorCode>
     }
 }
 
-/// Reads a length in four bytes, and a text of that many bytes. Fails with V1 if there are fewer bytes or
-/// the text is not UTF-8, and with NoMemory.
+/// Reads a length in four bytes, and a text of that many bytes. Fails with V1 if there are fewer
+/// bytes or the text is not UTF-8, and with NoMemory.
 #[tactic(auto, unfolding(crate::specs::Reading::text_at))]
 fn text_of(alloc: Global, bytes: &[u8]) -> Result<(Text, &[u8]), ValueFault>
     ensures { Agrees (λ x. (x.0, x.1.now)) result (text_at bytes.now) }

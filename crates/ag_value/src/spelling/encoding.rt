@@ -1,4 +1,5 @@
-//! Encoding a value in bytes.
+//! Encoding a value in bytes. The first byte is the kind: 0 for a number, 1 for a text, 2 for a
+//! list, 3 for a table, 4 for an error.
 ghost use Rattle.std.specs.Prelude.{◌≡◌, ◌++◌, ◌∷◌, ◌+◌, ◌<◌, ◌^◌, [], length, map, sum};
 ghost use Rattle.std.specs.Prelude.{OnOk, OnErr};
 ghost use Rattle.std.specs.Int.{w32, w64, to_be_bytes, cast_unsigned};
@@ -11,8 +12,8 @@ use crate::fault::NoMemory;
 use crate::text::Text;
 use crate::value::{ErrorCode, Value};
 
-/// Appends the spelling of a well value to `out`. Takes memory from its allocator. Fails with
-/// NoMemory, and then leaves the bytes of `out` unchanged.
+/// Appends the spelling of a well value to `out`. Takes memory from the allocator of `out`.
+/// Fails with NoMemory, and then leaves the bytes of `out` unchanged.
 pub fn encode(value: &Value, out: &mut Vec<u8>) -> Result<(), NoMemory>
     requires { IsWell value.now }
     ensures ok { OnOk result (out.new.items ≡ out.old.items ++ spelling_of value.now) }
@@ -28,8 +29,9 @@ pub fn encode(value: &Value, out: &mut Vec<u8>) -> Result<(), NoMemory>
     }
 }
 
-/// Appends the spelling of a value. Fails with NoMemory, and then may have appended a part of it; this
-/// is also true of the functions below that return a `Result`.
+/// Appends the spelling of a value. Fails with NoMemory, and then may have appended a part of the
+/// spelling; this is also true of the functions below that return a `Result`. The weight is below
+/// 2^32, so each count and length fits in four bytes.
 #[cycle(encoding)]
 #[tactic(auto, using(crate::proofs::Extending::appending))]
 fn append_value(out: &mut Vec<u8>, value: &Value) -> Result<(), NoMemory>

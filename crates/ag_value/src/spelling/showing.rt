@@ -14,8 +14,8 @@ use std::alloc::Global;
 
 /// Returns the text of a value: a number in decimal; a text in double quotes, with a backslash
 /// before a double quote and a backslash, and `\n`, `\t`, `\r` for line feed, tab and carriage
-/// return; a list as `[a, b]`; a table as `{"k": v, "l": w}`; an error as `error overflow` and so
-/// on. Fails with NoMemory.
+/// return; a list as `[a, b]`; a table as `{"k": v, "l": w}`; an error as `error` and its name,
+/// such as `error overflow`. Fails with NoMemory.
 pub fn show(alloc: Global, value: &Value) -> Result<String, NoMemory>
     ensures { IfOk result (λ text. string_bytes text ≡ shown_of value.now) }
 {

@@ -4,8 +4,8 @@ ghost use Rattle.std.specs.Prelude.{◌≡◌, ◌↔◌, IsTrue};
 use crate::text::Text;
 use crate::value::Value;
 
-/// Returns whether two values are equal: of one kind, and the same number, bytes, items in order,
-/// pairs in order, or error. Takes no memory.
+/// Returns whether two values are equal: of one kind, and with the same contents. The order of
+/// items and of pairs counts. Takes no memory.
 #[cycle(same)]
 pub fn same(a: &Value, b: &Value) -> bool
     ensures { IsTrue result ↔ (a.now ≡ b.now) }

@@ -7,6 +7,9 @@ use crate::value::Value;
 
 /// Returns the weight of a value, well or not: the length of its spelling in bytes, saturated at
 /// `u64::MAX`. Takes no memory.
+///
+/// Each spelling begins with one byte for the kind. A number has 8 more bytes, and an error 1. A
+/// text, list or table has 4 more for its length or count, and then its contents.
 #[cycle(weighing)]
 #[tactic(auto, using(crate::proofs::Layers::weights))]
 pub fn weight(value: &Value) -> u64
@@ -33,8 +36,8 @@ fn weight_of_items(items: &[Value]) -> u64
     total
 }
 
-/// Returns the sum of the weights of pairs, saturated at `u64::MAX`. The weight of a pair is 4, the
-/// number of the key's bytes, and the value's weight together.
+/// Returns the sum of the weights of pairs, saturated at `u64::MAX`. The weight of a pair is the
+/// sum of 4 (the bytes of the key's length), the number of the key's bytes, and the value's weight.
 #[cycle(weighing)]
 fn weight_of_pairs(pairs: &[(Text, Value)]) -> u64
     ensures { result ≡ min (sum (map weight_of_pair pairs.now)) (2 ^ 64 - 1) }

@@ -1,4 +1,4 @@
-//! The test of well values: those that the program makes, stores and accepts.
+//! The test of well values: those that `encode` requires and `decode` returns.
 ghost use Rattle.std.specs.Prelude.{◌≡◌, ◌↔◌, ◌&&◌, ◌∷◌, IsTrue, map};
 ghost use Rattle.ag_value.specs.Well.{IsWell, all_true, are_keys, is_item, is_item_pair, key_of};
 
@@ -7,15 +7,15 @@ use crate::text::Text;
 use crate::value::Value;
 use crate::walks::measuring::{depth, weight};
 
-/// Returns whether a value is well: at most [`MAX_VALUE_DEPTH`] deep and [`MAX_WEIGHT`] heavy, with keys
-/// that rise strictly by their bytes in every table, and with no error inside a list or table.
-/// Takes no memory.
+/// Returns whether a value is well: at most [`MAX_VALUE_DEPTH`] deep and [`MAX_WEIGHT`] heavy, with
+/// keys that rise strictly by their bytes in every table, and with no error inside a list or table.
+/// That numbers are of 64 bits and texts are UTF-8 follows from their types. Takes no memory.
 #[inline(always)]
 pub fn is_well(value: &Value) -> bool
     ensures { IsTrue result ↔ IsWell value.now }
 {
     match value {
-        // most values are numbers; for the prover: this one is in range
+        // Most values are numbers. The read shows the prover that the number is of i64.
         Value::Num(n) => {
             let _in_range = *n;
             true
@@ -33,12 +33,12 @@ fn is_item(value: &Value) -> bool
     ensures { result ≡ is_item value.now }
 {
     match value {
-        // for the prover: each i64 is in range
+        // The read shows the prover that the number is of i64.
         Value::Num(n) => {
             let _in_range = *n;
             true
         }
-        // and each text is UTF-8
+        // The call shows the prover that the text is UTF-8.
         Value::Text(text) => {
             let _utf8 = text.as_str();
             true

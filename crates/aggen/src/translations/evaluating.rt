@@ -16,7 +16,7 @@ use passrun::{Last, run_all, run_pass};
 use planchecker::Plan;
 use treefile::Device;
 
-/// Returns the other device.
+/// Returns the other one of two devices.
 fn other(last: Last) -> Last
     ensures { result ≡ other_last last }
 {
@@ -27,9 +27,9 @@ fn other(last: Last) -> Last
 }
 
 impl Translator {
-    /// Runs all passes of the plan over the tree whose file is on the device `tree`: pass 1 from there
-    /// to `b`, and the others alternately from `b` to `a` and back. Returns the report. Fails as
-    /// `run_pass` and `run_all` do.
+    /// Runs all passes of the plan over the tree whose file is on the device `tree`: pass 1 from
+    /// there to `b`, and the others alternately from `b` to `a` and back. Returns the report. Fails
+    /// as `run_pass` and `run_all` do.
     pub(crate) fn run_tree<T: Device, D: Device>(
         &self,
         plan: &Plan,
@@ -57,6 +57,7 @@ impl Translator {
         let grammar = self.grammar();
         let mut meter = Meter::new();
         let first = run_pass(alloc, grammar, plan, 1, tree, b, &mut meter)?;
+        // Pass 2 reads `b`, so `b` is the first device of `run_all`, and its `Last::A` means `b`.
         let (last, others) = run_all(alloc, grammar, plan, 2, b, a, &mut meter)?;
         Ok(Report {
             nodes: first.nodes,

@@ -26,8 +26,8 @@ use treefile::Device;
 /// Fails with J2 if the reader fails, with J3 above 2,097,156 bytes, and with J1 if no line is
 /// `%%`; then as `Translator::build` does for the grammar, before a device is used, and as
 /// `Translator::translate` does for the sentence; and with NoMemory if memory is refused. After
-/// every fault except O2 the writer is unchanged. Faults before the translation leave the devices
-/// unchanged, and later ones as `Translator::translate` does.
+/// every fault except O2 the writer is unchanged. A fault before the translation leaves the devices
+/// unchanged. After a later one the devices have what `Translator::translate` leaves.
 #[tactic(auto, using(crate::proofs::Begun::begun))]
 pub fn run_job<R: Read + Drop, D: Device, W: Write>(
     alloc: Global,

@@ -23,8 +23,8 @@ use roottext::{OutFault, root_text};
 use treefile::Device;
 
 impl Translator {
-    /// Writes the file of pass 0 of a sentence's tree to `a`, and runs all passes of the plan over it.
-    /// Returns the report. Fails as `Translator::parse_tree` and `run_all` do.
+    /// Writes the file of pass 0 of a sentence's tree to `a`, and runs all passes of the plan over
+    /// it. Returns the report. Fails as `Translator::parse_tree` and `run_all` do.
     pub(crate) fn leave_files<D: Device>(
         &self,
         plan: &Plan,
@@ -61,7 +61,8 @@ impl Translator {
         })
     }
 
-    /// Returns the text of the root's `out` from the file of the last pass. Fails as `root_text` does.
+    /// Returns the text of the root's `out` from the file of the last pass. Fails as `root_text`
+    /// does.
     pub(crate) fn last_text<D: Device>(
         &self,
         plan: &Plan,

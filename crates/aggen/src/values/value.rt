@@ -22,14 +22,14 @@ use std::io::Write;
 use treefile::Device;
 
 /// Evaluates an expression without attribute occurrences (`$1.a`). Writes its value to the device
-/// as the one record of a tree file of pass 0, a token with number 0. Reads the record again, and
-/// writes the text of the value that was read, and LF, to `out`.
+/// as the one record of a tree file of pass 0: that of a token with number 0, which is the class
+/// NAME. Reads the record again, and writes the text of the value that was read, and LF, to `out`.
 ///
 /// Fails before the device is used with X1 to X4 if the text is not an expression, and with X2 at
 /// its first `$` if it has occurrences. Fails with D1 Device if the device failed, with B1 or B2 if
-/// it does not return the bytes that were written, and with NoMemory if memory is refused. Writes to
-/// `out` last, and fails with O2 Write if a write fails or takes no byte. After each fault except X
-/// the device has its old content, or a prefix of the file.
+/// it does not return the bytes that were written, and with NoMemory if memory is refused. Writes
+/// to `out` last, and fails with O2 Write if a write fails or takes no byte. After each fault
+/// except X the device has its old content, or a prefix of the file, possibly all of it.
 pub fn show_value<D: Device, W: Write>(
     alloc: Global,
     text: &str,
@@ -39,16 +39,17 @@ pub fn show_value<D: Device, W: Write>(
     ensures shows { OnOk result (WhenHonest (D.is_honest device.new)
         (Shows text.now (W.contents out.old) (W.contents out.new) (D.content device.new))) }
 
-    // X exactly if the text is not an expression without occurrences; the device is unchanged then
+    // X comes only if the text is not an expression without occurrences, and the device is
+    // unchanged then. For such a text X or NoMemory comes.
     ensures refused { IfErr result (λ e. IsExprFault e → HasNoValue text.now) }
     ensures only { HasNoValue text.now → IsErrAnd result IsTextFault }
     ensures untouched { IfErr result (λ e. IsExprFault e → device.new ≡ device.old) }
 
-    // X1 to X4 are true; for occurrences it is X2 at the first `$`
+    // X1 to X4 are true. If the expression has occurrences, X2 at the first `$` or NoMemory comes.
     ensures offsets { IfErr result (IsExplained text.now) }
     ensures occurs { (at : ℕ) → OccursAt text.now at → IsErrAnd result (IsUnexpectedAt at) }
 
-    // An honest device returns the bytes that were written; D1 only if the number of failures rose.
+    // B1 and B2 never come if the device is honest, and D1 only if the number of failures rose.
     ensures undamaged { WhenHonest (D.is_honest device.new) (IfErr result (λ e. ¬ (IsDamage e))) }
     ensures persists { Persists (D.is_honest device.old) (D.is_honest device.new)
         (D.failures device.old) (D.failures device.new) (IsErrOf result Fault.Device) }
@@ -121,7 +122,8 @@ fn first_occurrence(expr: &Expr) -> Option<usize>
     }
 }
 
-/// The environment of an expression without occurrences. It lends 0 for any number; that is never used.
+/// The environment of an expression without occurrences. For any occurrence it would lend the value
+/// 0, but there are none.
 #[derive(Drop)]
 struct NoOccurrences {
     number: Value,

@@ -15,8 +15,9 @@ use ag_value::{Value, ValueFault, decode};
 use std::alloc::Global;
 use treefile::{Device, Kind, Writer, last_body, split_body};
 
-/// Writes a tree file of pass 0 to the device, whose one record is a token with number 0 and this
-/// value. Fails with D1 Device if the device failed, and with NoMemory if memory is refused.
+/// Writes a tree file of pass 0 to the device. Its one record is that of a token with number 0 (the
+/// class NAME) and this value. Fails with D1 Device if the device failed, and with NoMemory if
+/// memory is refused.
 pub fn write_file<D: Device>(alloc: Global, device: &mut D, value: Value) -> Result<(), Fault>
     requires { IsWell value }
     ensures ok { OnOk result

@@ -1,4 +1,5 @@
--- The open nodes of a parser, and the trees that complete them (this project's).
+-- The open nodes of a parser, and the trees that complete them (this project's). A list of open nodes begins with the innermost
+-- one.
 use Rattle.std.specs.Prelude.{◌≡◌, ℕ, suc, ◌+◌, List, [], ◌∷◌, ◌++◌}
 use Rattle.ag_grammar.specs.declared.grammar.Item.TheVariants as item
 use Rattle.ag_grammar.specs.declared.grammar.Item.{Item}
@@ -7,7 +8,7 @@ use Rattle.ag_grammar.specs.grammars.AttributeGrammar.{Grammar, stored_items, Is
 use Rattle.ag_grammar.specs.grammars.Tree.{Tree, node, Forest, none, more, Fits, FitsAll, node_counts}
 use Rattle.ag_grammar.specs.grammars.Yield.{Lexeme, yield_along, yield_of}
 
--- trees, and then others
+-- the trees of the first list, and then those of the second
 abbrev pub joined : Forest → Forest → Forest
 joined none us = us
 joined (more t ts) us = more t (joined ts us)
@@ -68,8 +69,8 @@ module _ (g : Grammar) where
   IsNext [] x = x ≡ item.Symbol g.start
   IsNext (o ∷ os) x = FitsStack (open_at o.production o.done (x ∷ o.rest)) os
 
--- A whole tree is cut before one of its nodes: the nodes above this one are open, each with its children that are done, and
--- the words are those from it on.
+-- A whole tree is cut before one of its nodes: the nodes above this one are open, each with its children that are done, and the
+-- words are those of the tree from this node on.
 pub record IsCutAt (g : Grammar) (above : List Open) (words : List Lexeme) (t : Tree) : Type 0 where
   pub next : Item
   pub child : Tree

@@ -184,6 +184,7 @@ abbrev pub own_steps : Grammar → List OpenProduction → ℕ
 own_steps g [] = 0
 own_steps g (f ∷ fs) = suc (length (drop f.passed (right_side g f.production))) + own_steps g fs
 
--- a bound of the number of steps that remain (`left` is not a left side here)
+-- A bound of the number of steps that remain (`left` is not a left side here). A node that is opened adds at most
+-- `total_length g.productions + 1` steps to `own_steps`; the factor is greater by one, so that opening makes the bound smaller.
 abbrev pub steps_left : Grammar → ℕ → List OpenProduction → ℕ → ℕ
 steps_left g nodes fs count = (total_length g.productions + 2) * (nodes - count) + own_steps g fs

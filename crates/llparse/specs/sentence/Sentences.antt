@@ -1,4 +1,4 @@
--- The result of parsing a sentence: the tree of its tokens, or the reason why they are rejected.
+-- The result of parsing a sentence: the tree of its tokens, or the reason why the sentence is refused.
 use Rattle.std.specs.Prelude.{ℕ, ◌≡◌, ◌<◌, ◌≤◌, ◌++◌, List, length, map, take, drop}
 use Rattle.ag_grammar.specs.grammars.AttributeGrammar.{Grammar}
 use Rattle.ag_grammar.specs.grammars.Tree.{Tree, IsTreeOf, depth_of, node_count}
@@ -17,22 +17,20 @@ pub record IsTreeWith (g : Grammar) (words : List Lexeme) (t : Tree) : Type 0 wh
   pub tree : IsTreeOf g t
   pub yields : yield_of g t ≡ words
 
--- The token at an index can't be taken, or the sentence can't end there if the index is the length: the words
--- before it are the prefix of some sentence, but no sentence continues them with a word of the token's
--- terminal, or ends there.
+-- The token at an index can't be taken, or, if the index is the number of words, the sentence can't end there. The words before
+-- the index are a prefix of some sentence. No sentence continues them with a word of the token's terminal; if the index is the
+-- number of words, no sentence consists of them.
 pub record IsStuckAt (g : Grammar) (words : List Lexeme) (index : ℕ) : Type 0 where
   pub within : index ≤ length words
   pub begins : (rest : List Lexeme) × (t : Tree) × IsTreeWith g (take index words ++ rest) t
   pub ends : (rest : List Lexeme) (t : Tree) → ahead_of rest ≡ ahead_of (drop index words)
       → IsTreeWith g (take index words ++ rest) t → ⊥
 
--- The words leave only trees whose size is beyond a limit. At some index the limit is reached: a tree whose
--- words are those before the index, and then some others, has a node there, and what `begun` counts of the open
--- nodes above it has reached the limit. And each tree whose words are those before the index, and then any that continue with
--- the look-ahead there, is beyond the limit; the given words are such words, so each tree of them is beyond
--- the limit. The words that continue with the look-ahead may be those of no tree, and then no tree has the
--- words. An index where no such tree has reached the limit can't be the index of this record, so a token that
--- merely doesn't fit there gets P1, and not P2 or P3.
+-- The words leave only trees whose size is beyond a limit. `begun` counts the open nodes (P2), or the nodes that are open or done
+-- (P3). At some index the limit is reached: some tree begins with the words before the index, is cut at that index (`IsCutAt`),
+-- and `begun` of the open nodes above the cut is at least the limit. Each tree that begins with the words before the index, and
+-- continues with any words whose look-ahead is that of the given words at the index, is beyond the limit. So each tree of the
+-- given words is beyond the limit. There may be no such tree. P2 and P3 never come from an index where the limit is not reached.
 pub record LeavesOnly (g : Grammar) (words : List Lexeme) (size : Tree → ℕ) (begun : List Open → ℕ) (limit : ℕ) : Type 0 where
   pub index : ℕ
   pub within : index ≤ length words

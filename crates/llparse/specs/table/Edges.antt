@@ -16,7 +16,7 @@ use Rattle.closure.specs.declared.edges.Edge.{Edge}
 use Rattle.llparse.specs.declared.ahead.Ahead.{Ahead}
 use Rattle.llparse.specs.declared.ahead.Ahead.TheVariants as ahead
 
--- B adds P to A: it has the elements of both, and no others
+-- B adds P to A: B has the elements of A and of P, and no others
 pub record Adds {X : Type 0} (P A B : X → Type 0) : Type 0 where
   pub kept : (x : X) → A x → B x
   pub all : (x : X) → P x → B x

@@ -1,4 +1,4 @@
-//! The look-aheads expected where a sentence is rejected: each is tried after the tokens before
+//! The look-aheads expected where a sentence is refused: each is tried after the tokens before
 //! that place.
 ghost use Rattle.std.specs.Prelude.{◌≡◌, ◌≤◌, true, length, All, IfOk, OnOk};
 ghost use Rattle.llparse.specs.sentence.Parsing.{right_side};
@@ -43,9 +43,10 @@ fn next_if_any(grammar: &Grammar, node: &mut OpenProduction) -> Option<Item>
     None
 }
 
-/// Continues with the innermost open node and those that wait for it, until `until` tokens of the
-/// sentence are taken or no node is open, and writes nothing. Returns the node that is then the
-/// innermost one, if any. After a fault the next token is the one where the parser stopped.
+/// Continues with the innermost open node and the nodes around it that wait, until `until` tokens
+/// of the sentence are taken or no node is open, and writes nothing. Returns the node that is then
+/// the innermost one, if any. Fails as `Parser::open` and `take_unwritten` do. After a fault the
+/// next token is the one where the parser stopped.
 fn continue_until(
     parser: &mut Parser<'_>,
     innermost: OpenProduction,
@@ -73,7 +74,8 @@ fn continue_until(
 }
 
 /// Opens the start symbol and continues until `until` tokens are taken. Returns the innermost open
-/// node, if any.
+/// node, if any. Fails with P1 if the look-ahead predicts no production of the start symbol, and
+/// otherwise as `continue_until` does.
 fn start_until(
     parser: &mut Parser<'_>,
     language: &Language<'_>,
@@ -96,7 +98,8 @@ fn can_take(parser: &Parser<'_>, terminal: Terminal, ahead: Ahead) -> bool {
     }
 }
 
-/// Returns whether a parser with this innermost open node can accept the look-ahead next.
+/// Returns whether a parser with this innermost open node can accept the look-ahead next. Changes
+/// the stack and the count of the parser, but takes no token.
 fn can_accept(
     parser: &mut Parser<'_>,
     innermost: OpenProduction,
@@ -128,9 +131,10 @@ fn can_accept(
     }
 }
 
-/// A parser that has taken the first tokens of a sentence, possibly none, and its innermost open node.
-/// The node is `None` only if no token is taken, since the first token chooses the root's production.
-/// Otherwise it is the node that has the last token taken on its right side; it may be at its end.
+/// A parser that has taken the first tokens of a sentence, possibly none, and its innermost open
+/// node. The node is `None` only if no token is taken, since the first token chooses the root's
+/// production. Otherwise it is the node that has the last token taken on its right side; it may be
+/// at its end.
 #[derive(Drop)]
 struct Position<'t> {
     parser: Parser<'t>,
@@ -153,6 +157,7 @@ fn can_follow(
     let node = match position.innermost {
         Some(node) => Some(node),
         None if before.tokens.taken() == 0 => node_at(language.tables, start, ahead, 0),
+        // does not happen: after some tokens a position has an open node
         None => return Ok(ahead == Ahead::End),
     };
     match node {
@@ -182,8 +187,8 @@ fn expected_after(
     Ok(expected)
 }
 
-/// The place where `parse` rejects tokens with P1. The fields have this meaning only if it does so: if
-/// it doesn't, they have the place where the parser stopped, and no look-ahead.
+/// The place where `parse` fails with P1. If `parse` doesn't fail with P1, `index` and `found` are
+/// those of the token where the parser stopped, or of the end, and `expected` is empty.
 #[derive(Debug, Drop)]
 pub struct StuckPlace<'t> {
     /// The number of tokens before the one that can't be taken; the number of all tokens, if the
@@ -191,19 +196,21 @@ pub struct StuckPlace<'t> {
     pub index: usize,
     /// The token that can't be taken; `None` if the sentence can't end there.
     pub found: Option<Token<'t>>,
-    /// The expected look-aheads, in this order: literals in the grammar's order, classes, and then the
-    /// end of the sentence.
+    /// The expected look-aheads, in this order: literals in the grammar's order, classes, and then
+    /// the end of the sentence.
     pub expected: Vec<Ahead>,
 }
 
-/// Runs a parser that takes as many tokens as it can, and writes nothing. Returns it, and whether
-/// `parse` fails with P1 there: the next token can't be taken, or the sentence can't end.
+/// Runs a parser that takes as many tokens as it can, and writes nothing. Returns the parser, and
+/// whether `parse` fails with P1 where it stopped: the next token can't be taken, or the sentence
+/// can't end. Fails with NoMemory.
 fn run_until_stuck<'t>(
     alloc: Global,
     language: &Language<'_>,
     sentence: &'t Sentence<'_>,
 ) -> Result<(Parser<'t>, bool), NoMemory> {
     let mut parser = Parser::new(alloc, sentence);
+    // no sentence has `usize::MAX` tokens
     let refused = match start_until(&mut parser, language, usize::MAX) {
         Ok(_) => parser.tokens.ahead().is_some(),
         Err(ParseFault::Unexpected(_)) => true,
@@ -213,8 +220,8 @@ fn run_until_stuck<'t>(
     Ok((parser, refused))
 }
 
-/// Returns the position after the first `count` tokens, without looking at the next one. Fails as the
-/// parser does.
+/// Returns the position after the first `count` tokens, without looking at the next one. Fails as
+/// `start_until` does.
 fn position_after<'t>(
     alloc: Global,
     language: &Language<'_>,
@@ -232,18 +239,18 @@ fn position_after<'t>(
     Ok(Position { parser, innermost })
 }
 
-/// Returns the place where `parse` rejects this sentence with P1, and the look-aheads expected
+/// Returns the place where `parse` refuses this sentence with P1, and the look-aheads expected
 /// there. Each look-ahead is tried after the tokens before that place, with all nodes that are open
 /// there, so one that the tables allow only in other contexts is not returned. If `parse` doesn't
-/// reject the sentence with P1, no look-ahead is returned, and the place is only where the parser
-/// stopped: at the end, or where it reached a limit. (This is said of a `parse` that doesn't fail with
-/// D1 or NoMemory.)
+/// fail with P1, no look-ahead is returned, and the place is only where the parser stopped: at the
+/// end, or where it reached a limit. (This holds for a call of `parse` that fails neither with D1
+/// nor with NoMemory.)
 ///
 /// If the tables are not the grammar's, the result is the place where a parse by them is stuck, and
 /// what they allow there: literals of the grammar, classes and the end. Reads the tokens before the
 /// place twice, and copies the stack of open nodes there for each look-ahead of the grammar. Takes
-/// memory for three stacks of open nodes like the one of `parse` (without texts), and for the result.
-/// Fails with NoMemory if memory is refused.
+/// memory for three stacks of open nodes like the one of `parse` (without texts), and for the
+/// result. Fails with NoMemory if memory is refused.
 pub fn expected_at<'t>(
     alloc: Global,
     grammar: &Grammar,

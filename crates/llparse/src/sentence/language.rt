@@ -3,7 +3,8 @@
 use crate::table::lookup::Tables;
 use ag_grammar::Grammar;
 
-/// A grammar, and tables that choose the productions of a parse. For `parse` they are the grammar's.
+/// A grammar, and tables that choose the productions of a parse. `parse` requires the tables of
+/// this grammar; `expected_at` takes any tables.
 #[derive(Clone, Copy)]
 pub(crate) struct Language<'g> {
     pub(crate) grammar: &'g Grammar,

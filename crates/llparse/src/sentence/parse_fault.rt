@@ -1,4 +1,4 @@
-//! The reasons why a sentence is rejected.
+//! The reasons why a sentence is refused.
 ghost use Rattle.std.specs.Prelude.{◌≡◌};
 ghost use Rattle.llparse.specs.sentence.Refusals.{parse_fault_of};
 ghost use Rattle.llparse.specs.declared.sentence.parse_fault.ParseFault.TheVariants as parse_fault;
@@ -6,14 +6,15 @@ ghost use Rattle.llparse.specs.declared.sentence.parse_fault.ParseFault.TheVaria
 use ag_value::NoMemory;
 use treefile::DeviceFault;
 
-/// The reasons why a sentence is rejected.
+/// The reasons why a sentence is refused.
 #[derive(Clone, Copy, Debug, PartialEq, Eq)]
 pub enum ParseFault {
-    /// P1: no tree has these tokens. Carries the offset, in bytes from the beginning of the sentence, of
-    /// the token that can't be taken; at the end that of the last token, and 0 if there is none. P2 or
-    /// P3 comes instead if the parser reaches a limit before it finds this.
+    /// P1: no tree has these tokens. Carries the offset, in bytes from the beginning of the
+    /// sentence, of the token that can't be taken; at the end that of the last token, and 0 if
+    /// there is none. P2 or P3 comes instead if the parser reaches a limit before it finds this.
     Unexpected(u32),
-    /// P2: each tree with these tokens is deeper than the limit. There may be no such tree (see P1).
+    /// P2: each tree with these tokens is deeper than the limit. There may be no such tree (see
+    /// P1).
     TooDeep,
     /// P3: each tree with these tokens has more nodes than the limit. A literal has no node. There
     /// may be no such tree (see P1).

@@ -56,8 +56,9 @@ pub(crate) fn next_item(grammar: &Grammar, node: &mut OpenProduction) -> Option<
     Some(item)
 }
 
-/// Opens a node of a symbol at a look-ahead, at the beginning of its right side. Its texts come
-/// after the first `base`. Returns `None` if no production is predicted.
+/// Returns an open node with the production of a symbol that a look-ahead predicts, at the
+/// beginning of the right side; `None` if no production is predicted. `base` is the number of texts
+/// that the parser has kept.
 #[inline(always)]
 pub(crate) fn node_at(
     tables: &Tables,
@@ -80,8 +81,9 @@ pub(crate) fn node_at(
     }
 }
 
-/// Opens a node of the symbol that comes next, at the beginning of its right side. Its texts come
-/// after the first `base`. Fails with P1 if no production is predicted.
+/// Returns an open node with the production of a symbol that the next token, or the end, predicts,
+/// at the beginning of the right side. `base` is the number of texts that the parser has kept.
+/// Fails with P1 if no production is predicted.
 #[inline(always)]
 pub(crate) fn new_node(
     tables: &Tables,
@@ -143,8 +145,8 @@ fn put_leaf<D: Device>(
     Ok(())
 }
 
-/// Appends the record of a symbol's node, with the texts of the tokens of a class among its children.
-/// Fails with D1 or NoMemory.
+/// Appends the record of a symbol's node, with the texts of the tokens of a class among its
+/// children. Fails with D1 or NoMemory.
 #[inline(always)]
 pub(crate) fn put_node<D: Device>(
     production: u16,
@@ -166,8 +168,8 @@ pub(crate) fn put_node<D: Device>(
     ensures device { BreaksWriter D.is_honest D.failures device.old device.new
         writer.new.is_broken (IsErrOf result ParseFault.Device) }
 {
-    // Most nodes have no texts. `put` is inlined: with a list that is known to be empty, the compiler
-    // drops its tests of the values.
+    // Most nodes have no texts. `put` is inlined: with a list that is known to be empty, the
+    // compiler drops its tests of the values.
     if texts.is_empty() {
         writer.put(device, Kind::Node, production, &[])?;
         return Ok(());
@@ -176,10 +178,11 @@ pub(crate) fn put_node<D: Device>(
     Ok(())
 }
 
-/// The state of parsing a sentence: the nodes that wait for the innermost open one, the outermost
-/// first; the texts of the tokens of a class among the children of open nodes, those of the innermost
-/// one last; the position in the tokens; and the number of nodes opened so far, with leaves, and with
-/// the root from the beginning. It takes sixteen bytes for a waiting node, and memory for the texts.
+/// The state of parsing a sentence. `waiting` has the open nodes around the innermost one, the
+/// outermost first. `texts` has the texts of the tokens of a class among the children of open
+/// nodes, those of the innermost node last. `tokens` is the position in the tokens. `count` is the
+/// number of nodes opened so far; it includes leaves, and the root from the beginning. A waiting
+/// node takes sixteen bytes.
 #[derive(Drop)]
 pub(crate) struct Parser<'t> {
     pub(crate) waiting: Vec<OpenProduction>,
@@ -189,8 +192,8 @@ pub(crate) struct Parser<'t> {
 }
 
 impl<'t> Parser<'t> {
-    /// Makes a parser with no node open, which has taken no token. `count` already includes the root,
-    /// which the caller opens.
+    /// Makes a parser with no node open, which has taken no token. `count` already includes the
+    /// root, which the caller opens.
     pub(crate) fn new(alloc: Global, sentence: &'t Sentence<'_>) -> Parser<'t>
         ensures waiting { result.waiting.items ≡ [] }
         ensures texts { result.texts.items ≡ [] }
@@ -205,8 +208,9 @@ impl<'t> Parser<'t> {
         }
     }
 
-    /// Checks that one more node is within the limits, below the waiting nodes and the innermost
-    /// one. Fails with P2 or P3.
+    /// Checks that one more node, below the waiting nodes and the innermost one, is within the
+    /// limits. Fails with P2 if it would be too deep, and otherwise with P3 if it would be one node
+    /// too many.
     #[inline(always)]
     pub(crate) fn has_room(&self) -> Result<(), ParseFault>
         ensures room { OnOk result ((length self.now.waiting.items + 1 < max_depth)
@@ -231,8 +235,8 @@ impl<'t> Parser<'t> {
         &self.texts[base..]
     }
 
-    /// Opens a node of the symbol that comes next in `outer`, which waits for it. Fails with P1 if no
-    /// production is predicted, with P2 or P3 if a limit is reached, and with NoMemory.
+    /// Opens a node of the symbol that comes next in `outer`, which waits for it. Fails with P1 if
+    /// no production is predicted, with P2 or P3 if a limit is reached, and with NoMemory.
     #[inline(always)]
     pub(crate) fn open(
         &mut self,
@@ -261,8 +265,8 @@ impl<'t> Parser<'t> {
     }
 
     /// Takes the next token, which has to be `terminal`. A token of a class has a record, which is
-    /// appended, and its text is kept. Fails with P1 if the token is another one or there is none, with
-    /// P2 or P3 if a limit is reached, and with D1 or NoMemory.
+    /// appended, and its text is kept. Fails with P1 if the token is another one or there is none,
+    /// with P2 or P3 if a limit is reached, and with D1 or NoMemory.
     #[inline(always)]
     pub(crate) fn take<D: Device>(
         &mut self,

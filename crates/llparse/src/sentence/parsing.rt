@@ -1,5 +1,6 @@
-//! Parsing a sentence: the parser writes the records of the one tree of its tokens in a single
-//! pass, with one token of look-ahead and a stack of its own.
+//! Parsing a sentence: the parser reads the tokens once, from left to right, and writes the records
+//! of their one tree. It has one token of look-ahead, and a stack of open nodes instead of
+//! recursion.
 ghost use Rattle.std.specs.Prelude.{◌≡◌, ◌+◌, ℕ, false, Err, IfErr, IfOk, IsErrOf, OnOk};
 ghost use Rattle.ag_grammar.specs.grammars.Tree.{node_count, IsWithinLimits, Tree};
 ghost use Rattle.ag_grammar.specs.grammars.Tree.{max_depth, max_nodes};
@@ -77,25 +78,29 @@ fn run<D: Device>(
     Ok(parser.count)
 }
 
-/// Appends the frames of the one tree of a sentence's tokens to the device, after the header, so that
-/// the content is the tree's file of pass 0. Returns the number of the tree's nodes. There is one
-/// frame for each node of a symbol, after those of its children from left to right, and one for each
-/// token of a class; a literal has none, and is no node. The record of a symbol's node has the texts
-/// of the tokens of a class among its children.
+/// Appends the frames of the one tree of a sentence's tokens to the device, after the header, so
+/// that the content is the tree's file of pass 0. Returns the number of the tree's nodes. There is
+/// one frame for each node of a symbol, after those of its children from left to right, and one for
+/// each token of a class; a literal has no frame, and is not a node. The record of a symbol's node
+/// has the texts of the tokens of a class among its children.
 ///
-/// Requires tables of the grammar, a sentence whose tokens fit it, and a writer that was just begun
-/// on the device with pass 0. The tokens are taken one by one, and only their texts are kept. Takes
-/// memory for a stack of sixteen bytes for each open node except the innermost one, for the texts
-/// of the tokens of a class among the children of open nodes, and for one frame.
+/// Requires tables of the grammar, a sentence whose tokens fit the grammar, and a writer that was
+/// just begun on the device with pass 0. The tokens are taken one by one. Of them, only the texts
+/// of the tokens of a class among the children of open nodes are kept. Takes memory for these
+/// texts, for a stack of sixteen bytes for each open node except the innermost one, and for one
+/// frame.
 ///
 /// Fails with P1 Unexpected if no tree has these tokens, unless a limit is reached first. Fails
-/// with P2 TooDeep or P3 TooManyNodes if, at some token or at the end, a tree that begins with the
-/// tokens before it has reached the limit, and each tree that begins with those tokens and continues
-/// with the look-ahead there is beyond the limit. Each tree with all tokens is then beyond the limit
-/// too, and there may be none. Fails with D1 Device if the device failed, and with NoMemory if memory
-/// is refused. After a fault an honest device has a prefix of a file of pass 0: of its header and
-/// frames of any bodies whose lengths are in range (after P1 there is no tree). The writer is broken
-/// after D1, and after no other fault.
+/// with P2 TooDeep or P3 TooManyNodes if the limit is reached at some token or at the end: some
+/// tree begins with the tokens before this point, and when the next node of this tree is to be
+/// opened, as many nodes are open as there may be levels (P2), or as many were opened as there may
+/// be nodes (P3). Each tree that begins with these tokens and continues with the look-ahead there
+/// is then beyond the limit, and so is each tree with all tokens, of which there may be none. Fails
+/// with D1 Device if the device failed, and with NoMemory if memory is refused.
+///
+/// After a fault an honest device has a prefix of a file of pass 0: of its header and frames of any
+/// bodies whose lengths are in range (after P1 no tree exists). The writer is broken after D1,
+/// and after no other fault.
 pub fn parse<D: Device>(
     alloc: Global,
     grammar: &Grammar,

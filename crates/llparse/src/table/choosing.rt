@@ -1,5 +1,5 @@
-//! The production that one look-ahead chooses for each symbol, and the least pair of productions that
-//! conflict there.
+//! The production that one look-ahead chooses for each symbol, and the least pair of productions
+//! that conflict there.
 ghost use Rattle.std.specs.Prelude.{◌≡◌, ◌≤◌, ◌<◌, ℕ, true, length, slice_get};
 ghost use Rattle.std.specs.Prelude.{Some, IfOk};
 ghost use Rattle.ag_grammar.specs.declared.grammar.Production.{Production as AProduction};
@@ -17,17 +17,20 @@ pub(crate) struct Pair {
     pub(crate) second: u16,
 }
 
-/// The choices of one look-ahead, for each symbol the first production that it predicts, and the least
-/// conflict.
+/// The choices and the least conflict at one look-ahead. The choice for a symbol is the
+/// least-numbered one of its productions that the look-ahead predicts.
 #[derive(Drop)]
 pub(crate) struct Column {
     pub(crate) choices: Vec<Option<u16>>,
     pub(crate) conflict: Option<Pair>,
 }
 
-/// Returns the least conflict after one more production, whose number is less than those handled so
-/// far (they are handled from the last to the first): `production` and `chosen`, the choice so far
-/// for its symbol, if there is one; otherwise `conflict`, the least so far.
+/// Returns the least conflict after one more production. Productions are handled from the last to
+/// the first, so the number of `production` is less than those handled so far. `chosen` is the
+/// choice so far for the symbol of `production`, and `conflict` is the least conflict so far. If
+/// there is a choice, it conflicts with `production`, and this pair is the least conflict: each
+/// other pair has a greater first production, or the same and a greater second one. Otherwise the
+/// least conflict is `conflict`.
 fn conflict_with(production: u16, chosen: Option<u16>, conflict: Option<Pair>) -> Option<Pair>
     ensures some { (r : ℕ) → chosen ≡ Some r → result ≡ Some
         (record { first = production; second = r }) }
@@ -56,7 +59,8 @@ impl Column {
         self.choices[symbol] = Some(production);
     }
 
-    /// Chooses a production whose number is less than those handled so far, if it is marked (`wanted`).
+    /// Chooses a production whose number is less than those handled so far, if it is marked
+    /// (`wanted`).
     fn choose_if(&mut self, symbol: usize, production: u16, wanted: bool)
         requires symbol { symbol < length self.old.choices.items }
         ensures len { length self.new.choices.items ≡ length self.old.choices.items }
@@ -71,8 +75,8 @@ impl Column {
     }
 }
 
-/// Returns the choices and the least conflict of the look-ahead that predicts the marked productions,
-/// for this number of symbols. Fails with `NoMemory` if memory is refused.
+/// Returns the choices and the least conflict of the look-ahead that predicts the marked
+/// productions, for this number of symbols. Fails with `NoMemory` if memory is refused.
 pub(crate) fn choose(
     alloc: Global,
     productions: &[Production],

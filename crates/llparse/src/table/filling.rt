@@ -22,15 +22,16 @@ pub(crate) struct Conflict {
     pub(crate) ahead: Ahead,
 }
 
-/// For each look-ahead, by its index, its choice for each symbol; and the least conflict at all of them.
+/// For each look-ahead, by its index, the choices for all symbols; and the least conflict of the
+/// grammar.
 #[derive(Drop)]
 pub(crate) struct Columns {
     pub(crate) choices: Vec<Vec<Option<u16>>>,
     pub(crate) conflict: Option<Conflict>,
 }
 
-/// Returns the choices of one look-ahead and the least conflict at it. Fails with `NoMemory` if memory
-/// is refused.
+/// Returns the choices of one look-ahead and the least conflict at it. Fails with `NoMemory` if
+/// memory is refused.
 fn column_of(
     alloc: Global,
     grammar: &Grammar,
@@ -48,8 +49,9 @@ fn column_of(
     Ok(column)
 }
 
-/// Returns the lesser of a conflict and of a pair that conflicts at a later look-ahead; if there is only
-/// one of them, that one; if there is none, `None`.
+/// Returns the lesser of a conflict and of a pair that conflicts at a later look-ahead, in the
+/// order of `tables`; the conflict if they are the same pair. Returns the one that there is if
+/// there is only one, and `None` if there is none.
 fn lesser_conflict(least: Option<Conflict>, pair: Option<Pair>, ahead: Ahead) -> Option<Conflict>
     ensures { IsLesserConflict least pair ahead result }
 {
@@ -73,7 +75,8 @@ fn lesser_conflict(least: Option<Conflict>, pair: Option<Pair>, ahead: Ahead) ->
     Some(least)
 }
 
-/// Returns the columns of a grammar and its least conflict. Fails with `NoMemory` if memory is refused.
+/// Returns the columns of a grammar and its least conflict. Fails with `NoMemory` if memory is
+/// refused.
 pub(crate) fn columns_of(alloc: Global, grammar: &Grammar) -> Result<Columns, NoMemory>
     ensures columns { IfOk result (λ columns. AreColumns grammar.now
         (length grammar.now.literals + 4) (rows columns.choices.items)) }

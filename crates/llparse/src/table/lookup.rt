@@ -8,8 +8,8 @@ use crate::table::nodes::Sizes;
 use std::marker::Model;
 
 /// The production of each symbol at each look-ahead. Contracts see the number of literals and, for
-/// each look-ahead, the choices for all symbols. Takes memory for an `Option<u16>` for each symbol and
-/// each look-ahead.
+/// each look-ahead, the choices for all symbols. Takes memory for an `Option<u16>` for each symbol
+/// and each look-ahead.
 #[derive(Drop)]
 pub struct Tables {
     pub(crate) literals: u16,
@@ -43,12 +43,14 @@ fn entry(choices: &[Option<u16>], symbol: usize) -> Option<u16>
 }
 
 impl Tables {
-    /// Returns the production of a symbol at a look-ahead, in constant time, or `None` if the tables
-    /// have none: the look-ahead predicts no production of the symbol. Takes no memory.
+    /// Returns the production of a symbol at a look-ahead, in constant time, or `None` if the
+    /// tables have none. If the tables fit a grammar, `None` means that the look-ahead predicts no
+    /// production of the symbol. Takes no memory.
     #[inline(always)]
     pub fn choice(&self, symbol: u16, ahead: Ahead) -> Option<u16>
         ensures { result ≡ choice_of self.now symbol ahead }
     {
+        // indices of look-aheads do not depend on the number of symbols
         let sizes = Sizes {
             symbols: 0,
             literals: self.literals,

@@ -52,7 +52,7 @@ impl Sizes {
         }
     }
 
-    /// Returns the number of look-aheads.
+    /// Returns the number of look-aheads: the literals, three classes and the end.
     pub(crate) fn aheads(self) -> usize
         ensures { result ≡ self.literals + 4 }
     {

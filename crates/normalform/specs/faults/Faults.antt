@@ -1,6 +1,6 @@
--- The faults of a raw grammar, kind by kind, and their order (this project's; complete and productive are
--- Knuth's 1968 and the textbook's). Most kinds are lists of checks: in the order of the text; those of N6 by
--- production, place and attribute; those of N10 in the order of the limits. N4 and N5 name the first wrong symbol.
+-- The faults of a raw grammar, kind by kind, and their order (this project's; complete is Knuth's, 1968, and productive and
+-- reached are the textbook's). Each kind but N4 and N5 is a list of checks, in the order of the text. The checks of N6 are by
+-- production, place and attribute, and those of N10 in the order of the limits. N4 and N5 name the first wrong symbol.
 use Rattle.std.specs.Prelude.{All, ℕ, zero, suc, cond, fold, ◌⊎◌, ◌+◌, ◌≡◌, ◌<◌, ◌≤◌, nat_eq, nat_le, not, Bool, true, false}
 use Rattle.std.specs.Prelude.{◌&&◌, List, [], ◌∷◌, ◌++◌, length, map, flat_map, find, Option, Some, None, bytes_eq, slice_get}
 use Rattle.std.specs.List.{list_any, list_all, range_with_len}
@@ -142,7 +142,7 @@ missing_check ts p place a = (fault.RuleMissing p place a, list_any (same_target
 abbrev pub missing_at : List Symbol → List Target → ℕ → ℕ → Item → List Check
 missing_at ss ts p place x = map (missing_check ts p place) (defined_at ss place x)
 
--- the next index; the element at this one does not matter
+-- the update of the state of `checks_along` where the state is the index of the element
 abbrev pub next_index : {X : Type 0} → ℕ → X → ℕ
 next_index n x = n + 1
 
@@ -162,7 +162,7 @@ doubled_in ss q = checks_along (new_target ss (placed ss q)) (with_rule ss (plac
 abbrev pub doubled_rules : List Symbol → List RawProduction → List Check
 doubled_rules ss qs = flat_map (doubled_in ss) qs
 
--- whether an attribute, by its kind if it exists, is of this kind
+-- whether an attribute has the kind k; the second argument is its kind, or `None` if it does not exist
 abbrev pub is_kind : Kind → Option Kind → Bool
 is_kind k None = false
 is_kind Synthesized (Some Synthesized) = true
@@ -275,14 +275,14 @@ IsReadableItem (raw_item.Class c) = c < class_count
 abbrev pub IsReadable : RawGrammar → Type 0
 IsReadable raw = Each (λ q. Each IsReadableItem q.items) raw.productions
 
--- each occurrence in a rule's expression is listed with it, and each bound name is bound around it
+-- each occurrence in a rule's expression is in the rule's list of occurrences, and each bound name is in scope
 abbrev pub IsListed : Rule → Type 0
 IsListed r = is_below (length r.expr.1) r.expr.0 ≡ true
 
 abbrev pub AreListedIn : Production → Type 0
 AreListedIn q = All IsListed q.rules
 
--- The symbols and literals are within the limits, so that their numbers and those of attributes are small.
+-- The symbols, attributes and literals are within the limits, so that their numbers have 16 bits.
 pub record IsSmall (ss : List Symbol) (literals : List (List ℕ)) : Type 0 where
   pub symbols : length ss ≤ max_symbols
   pub attributes : list_all few_attributes ss ≡ true

@@ -1,4 +1,4 @@
--- The result of the search for faults: none, a fault, or the number of a symbol whose name is moved into one.
+-- The result of the search for faults: none, a fault, or the number of a symbol of which N4 or N5 is reported.
 use Rattle.std.specs.Prelude.{ℕ, ◌<◌, Option, Some, None, length}
 use Rattle.ag_grammar.specs.declared.raw.Named.{Named}
 use Rattle.ag_grammar.specs.declared.raw.RawGrammar.{RawGrammar}

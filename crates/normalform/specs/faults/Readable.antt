@@ -6,6 +6,7 @@ use Rattle.ag_grammar.specs.declared.raw.RawItem.{RawItem}
 use Rattle.ag_grammar.specs.declared.raw.RawItem.TheVariants as raw_item
 use Rattle.ag_grammar.specs.declared.raw.RawProduction.{RawProduction}
 
+-- a space, a tab, CR or LF
 abbrev pub is_separator : ℕ → Bool
 is_separator b = nat_eq b 32 || nat_eq b 9 || nat_eq b 13 || nat_eq b 10
 

@@ -68,7 +68,7 @@ item_of names literals (raw_item.Name name) = item.Symbol (number_in names name.
 item_of names literals (raw_item.Literal text) = item.Terminal (Literal (number_in literals text))
 item_of names literals (raw_item.Class c) = item.Terminal (Class c)
 
--- the items of a right side that have a place
+-- the items of a right side that have a place; these are symbols and classes, so no list of literals is needed
 abbrev pub stored_of : List (List ℕ) → List RawItem → List Item
 stored_of names xs = map (item_of names []) (raw_stored xs)
 

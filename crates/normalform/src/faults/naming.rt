@@ -95,8 +95,8 @@ fn doubled_name<'t>(seen: &mut Names<'t>, name: &'t Named) -> Result<Option<Norm
     }
 }
 
-/// Returns N2 for the first of these names that was seen before or is among the earlier ones; marks
-/// the names up to it as seen.
+/// Returns N2 for the first name of `names` that was seen before or repeats an earlier name of the
+/// list. Marks the names before that one as seen, or all of them if there is none.
 fn doubled_names<'t>(
     seen: &mut Names<'t>,
     names: &'t [Named],

@@ -1,6 +1,6 @@
 //! The items at the places of a production: place 0 is the left side, and each symbol and class of
-//! the right side has the next place; a literal has none. Numbers are not yet known to have 16
-//! bits.
+//! the right side has the next place; a literal has none. The limits are not checked yet, so the
+//! number of a symbol may have more than 16 bits.
 ghost use Rattle.std.specs.Prelude.{◌≡◌, ◌++◌, ◌∷◌, [], map, IfOk, OnOk};
 ghost use Rattle.normalform.specs.numbers.Numbers.{stored_of, declared_names};
 ghost use Rattle.normalform.specs.numbers.Numbers.{placed};

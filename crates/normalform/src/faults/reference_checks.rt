@@ -30,7 +30,8 @@ fn fault_unless(holds: bool, fault: NormalFault) -> Option<NormalFault>
     if holds { None } else { Some(fault) }
 }
 
-/// Returns the fault of an occurrence, if there is one.
+/// Returns the fault of the check, if an occurrence fails it. `items` has the item at each place of
+/// the production.
 fn fault_of(
     rule_check: RuleCheck,
     declared: &Declared<'_>,

@@ -9,9 +9,8 @@ use indexmap::IndexSet;
 use std::alloc::Global;
 use std::marker::Model;
 
-/// Different targets: attributes at places of a production, each as its place and the attribute's
-/// number.
-/// Contracts see the list of them, in the order in which they were added.
+/// A set of targets. A target is a place of a production and the number of an attribute there.
+/// Contracts see the list of the targets, in the order in which they were added.
 #[derive(Drop)]
 pub struct Targets {
     set: IndexSet<(usize, usize)>,

@@ -8,7 +8,7 @@ use ag_value::NoMemory;
 use closure::Clauses;
 use std::alloc::Global;
 
-/// Returns the first number that is not marked, if there is one.
+/// Returns the index of the first `false`, if there is one.
 fn first_false(marks: &[bool]) -> Option<usize>
     ensures found { IfSome result (λ n. IsFirstUnmarked marks.now n) }
     ensures none { result ≡ None → (t : ℕ) → t < length marks.now

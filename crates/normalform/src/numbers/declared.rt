@@ -267,7 +267,7 @@ impl<'t> Declared<'t> {
     }
 
     /// Returns the range of the numbers (the end is exclusive) of the attributes that the rules of
-    /// a production define at the place of a symbol.
+    /// a production define at the place of a symbol; an empty one if no symbol has the number.
     pub fn defined_here(&self, place: usize, symbol: usize) -> (usize, usize)
         ensures ordered { result.0 ≤ result.1 }
         ensures numbers { range_with_len result.0 (result.1 - result.0)
@@ -284,7 +284,8 @@ impl<'t> Declared<'t> {
         }
     }
 
-    /// Returns whether the symbol with a number can be the start symbol.
+    /// Returns whether the symbol with a number exists and can be the start symbol: it has no
+    /// inherited attribute, and an attribute `out`, which is then synthesized.
     pub fn is_start(&self, symbol: usize) -> bool
         ensures { result ≡ spec.is_start (slice_get self.now symbol) }
     {

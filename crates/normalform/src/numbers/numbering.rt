@@ -26,8 +26,8 @@ fn to_u16(number: usize) -> u16
     number as u16
 }
 
-/// The numbers of a grammar's symbols, of their attributes and of its literals, looked up by name. They
-/// are within the limits, so that numbers have 16 bits.
+/// The numbers of a grammar's symbols, of their attributes and of its literals, looked up by name.
+/// The symbols, attributes and literals are within the limits, so that their numbers have 16 bits.
 #[derive(Drop)]
 pub struct Numbering<'t> {
     declared: Declared<'t>,
@@ -51,7 +51,7 @@ impl<'t> Numbering<'t> {
         Ok(Numbering { declared, literals })
     }
 
-    /// Numbers an item.
+    /// Returns an item with numbers in place of names and literals.
     fn item_of(&self, item: &RawItem) -> Item
         ensures { result ≡ spec.item_of (declared_names self.now.declared) self.now.literals item.now }
     {
@@ -64,7 +64,7 @@ impl<'t> Numbering<'t> {
         }
     }
 
-    /// Numbers items.
+    /// Returns items with numbers in place of names and literals.
     fn items_of(&self, alloc: Global, items: &[RawItem]) -> Result<Items<Item>, NoMemory>
         ensures { IfOk result (λ xs. xs
             ≡ map (spec.item_of (declared_names self.now.declared) self.now.literals) items.now) }
@@ -104,7 +104,8 @@ impl<'t> Numbering<'t> {
         Ok(Items::from_vec(targets))
     }
 
-    /// Numbers the target and the arguments of a rule; the expression is moved.
+    /// Returns a rule whose target and arguments have numbers in place of names. Moves the
+    /// expression.
     fn rule_of(&self, alloc: Global, items: &[PlacedItem], rule: RawRule) -> Result<Rule, NoMemory>
         ensures numbered { IfOk result (λ r. r
             ≡ spec.rule_of self.now.declared (map item_placed items.now) rule) }
@@ -116,7 +117,8 @@ impl<'t> Numbering<'t> {
         Ok(Rule { target, expr, args })
     }
 
-    /// Numbers rules; the expressions are moved.
+    /// Returns rules whose targets and arguments have numbers in place of names. Moves the
+    /// expressions.
     fn rules_of(
         &self,
         alloc: Global,
@@ -134,7 +136,7 @@ impl<'t> Numbering<'t> {
         Ok(Items::from_vec(numbered))
     }
 
-    /// Numbers a production; the expressions are moved.
+    /// Returns a production with numbers in place of names and literals. Moves the expressions.
     fn production_of(
         &self,
         alloc: Global,
@@ -152,7 +154,7 @@ impl<'t> Numbering<'t> {
         Ok(Production { left, items, rules })
     }
 
-    /// Numbers productions; the expressions are moved.
+    /// Returns productions with numbers in place of names and literals. Moves the expressions.
     pub fn productions_of(
         &self,
         alloc: Global,
@@ -246,7 +248,7 @@ fn classes_among(
     Ok(Items::from_vec(classes))
 }
 
-/// Returns the classes in use, ascending.
+/// Returns the classes in use, ascending: 0 is NAME, 1 is NUMBER, 2 is TEXT.
 pub fn classes_of(alloc: Global, productions: &[RawProduction]) -> Result<Items<u16>, NoMemory>
     ensures { IfOk result (λ classes. classes ≡ spec.classes_of productions.now) }
 {

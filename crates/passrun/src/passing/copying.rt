@@ -16,9 +16,9 @@ use ag_eval::Scalar;
 use ag_grammar::Item;
 use std::mem::{replace, swap};
 
-/// Returns whether two rows have the same values of some attributes, as far as their passes are
-/// before k. `passes` has the passes of these attributes; each row begins with the values of those
-/// whose pass is at most k.
+/// Returns whether two rows have the same values of all attributes whose pass is before pass `k`.
+/// `passes` has the pass of each attribute. A row begins with the values of the attributes whose pass
+/// is at most `k`, in the order of `passes`.
 #[tactic(auto)]
 pub(crate) fn agree(passes: &[u16], k: u16, ours: &[Carried], theirs: &[Carried]) -> bool
     requires { 1 ≤ k }

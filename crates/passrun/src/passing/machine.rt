@@ -31,17 +31,20 @@ use backreader::Back;
 use passcode::Instr;
 use treefile::{Device, Kind, Writer};
 
-/// The state of a running pass: the reader, the writer, the stored values (the rows of all open
-/// nodes, the outermost first, and then that of a child whose record was read and that was not
-/// entered yet, if there is one), the open nodes that wait for a child (all but the innermost one,
-/// the outermost first), the number in the root's record, and the meter's count when the pass began.
+/// The state of a running pass.
 #[derive(Drop)]
 pub(crate) struct Machine {
     pub(crate) back: Back,
     pub(crate) writer: Writer,
+    /// The rows of all open nodes, the outermost first. After them the row of the child whose record
+    /// was read last, if the pass has not entered that child yet.
     pub(crate) values: Vec<Carried>,
+    /// The open nodes without the innermost one, the outermost first. Each waits until the pass has run
+    /// in its child.
     pub(crate) waiting: Vec<OpenNode>,
+    /// The number of the production in the root's record.
     pub(crate) root: u16,
+    /// The meter's count when the pass began.
     pub(crate) begun: u64,
 }
 

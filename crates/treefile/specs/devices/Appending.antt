@@ -7,10 +7,10 @@ use Rattle.treefile.specs.declared.device.DeviceFault.{DeviceFault}
 use Rattle.treefile.specs.declared.device.DeviceFault.TheVariants.{Failed, NoMemory}
 use Rattle.treefile.specs.declared.file.Access.TheVariants.{Broken, Reading, Writing}
 
--- The effects of an append besides those on the content. If the bytes of the file are known: these and then the buffered bytes
--- are what they were before, followed by the appended bytes, or after NoMemory what they were before. An append fails with D1
--- (Failed) if the file is only read. An append to a writable file that fails with D1 breaks the device. A broken device fails
--- with D1, and stays broken.
+-- The effects of an append besides those on the content. The bytes taken are those of the file, if they are known, and then the
+-- buffered ones. A successful append adds the appended bytes to the bytes taken, and keeps the access. An append that fails with
+-- NoMemory does not change the bytes taken. An append fails with D1 (Failed) if the file is only read. An append to a writable
+-- file that fails with D1 breaks the device. An append to a broken device fails with D1, and the device stays broken.
 pub record AppendsToFile {F : Type 0} (contents : F → Option (List ℕ)) (bytes : List ℕ) (old new : FileDeviceState F)
     (result : Result (Unit {0}) DeviceFault) : Type 0 where
   pub taken : OnOk result (Appends (files.taken contents old) (files.taken contents new) bytes)

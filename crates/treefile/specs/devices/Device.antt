@@ -54,7 +54,7 @@ Clears old new (Err fault) = (new ≡ []) ⊎ (new ≡ old)
 
 -- ---- worked examples
 
--- one more failure has risen
+-- with one more failure the number has risen
 pub risen_by_one : HasRisen 3 4
 risen_by_one = inl (lit< tt)
 

@@ -5,7 +5,7 @@ use Rattle.treefile.specs.declared.device.DeviceFault.TheVariants as device_faul
 use Rattle.treefile.specs.declared.reading.FrameFault.{FrameFault}
 use Rattle.treefile.specs.declared.reading.FrameFault.TheVariants as frame_fault
 
--- the device failed, or memory was refused
+-- `Device` (D1) for `Failed`, and `NoMemory` for `NoMemory`
 abbrev pub frame_fault_of : DeviceFault → FrameFault
 frame_fault_of device_fault.Failed = frame_fault.Device
 frame_fault_of device_fault.NoMemory = frame_fault.NoMemory

@@ -1,4 +1,4 @@
--- The content of an output file after a step failed. All of this is this project's.
+-- The content of a tree file that is being written, or whose writing failed. All of this is this project's.
 use Rattle.std.specs.Prelude.{◌≡◌, ℕ, ◌⊎◌, List, [], ◌++◌, Result, Ok, Err, All}
 use Rattle.std.specs.List.{flat_map}
 use Rattle.treefile.specs.devices.Device.{AppendsPrefix}
@@ -19,6 +19,6 @@ pub record BeginsFile (pass : ℕ) (content : List ℕ) : Type 0 where
   pub sound : All (IsBody version_two) bodies
   pub prefix : AppendsPrefix (file version_two pass bodies) [] content
 
--- the output's content after an error: the old one, or a prefix of a file of the pass
+-- the content after an error: the old one, or a prefix of a file of the pass
 abbrev pub LeavesBeginning : ℕ → (old new : List ℕ) → Type 0
 LeavesBeginning pass old new = (new ≡ old) ⊎ BeginsFile pass new

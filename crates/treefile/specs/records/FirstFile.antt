@@ -42,8 +42,8 @@ leaf_texts tree.none = []
 leaf_texts (tree.more (tree.leaf c x) ts) = Text x ∷ leaf_texts ts
 leaf_texts (tree.more (tree.node p us) ts) = leaf_texts ts
 
--- The tree of the records: a token's has its class and its text, and a node's its production and, in a
--- version with copies, the texts of its tokens.
+-- The tree of the records. A token's record has its class and its text. A node's record has its production and, in a
+-- version with copies, the texts of those children that are tokens.
 abbrev mutual
   pub first_bodies : Version → Tree → BodyTree
   first_bodies version (tree.leaf c x) = branch (token_body c x) none

@@ -23,7 +23,7 @@ use Rattle.ag_value.specs.contracts.items.Items.TheInside as inside
 abbrev pub the_former : Former {0} → Former {0}
 the_former held = list held
 
--- the weight of the heaviest value in it
+-- the largest measure among its values, for a measure of the prover (not the weight of a value in bytes)
 abbrev pub the_weighed : {held : Former {0}} → Weighed held → Weighed (the_former held)
 the_weighed w = w_list w
 
