@@ -5,7 +5,7 @@ use Rattle.ag_value.specs.declared.value.Value.{Value}
 use Rattle.ag_value.specs.declared.value.Value.TheVariants as value
 use Rattle.ag_value.specs.declared.value.Value.TheVariants.{outs-Fault, outs-Num}
 use Rattle.ag_grammar.specs.declared.syntax.node.Operator.{Operator}
-use Rattle.ag_grammar.specs.values.Arguments.{fault_at, fault_of, fault_or, first_fault, leftmost}
+use Rattle.ag_value.specs.operations.Arguments.{fault_at, fault_of, fault_or, first_fault, leftmost}
 use Rattle.ag_grammar.specs.values.Operators.{operation_result, operator_result}
 
 parts : (f g : Option ErrorCode) → first_fault f g ≡ None → (f ≡ None) × (g ≡ None)

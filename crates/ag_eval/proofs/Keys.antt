@@ -12,7 +12,7 @@ use Rattle.std.specs.declared.cmp.Ordering.{Ordering}
 use Rattle.std.specs.declared.cmp.Ordering.TheVariants.{Less, Equal, Greater}
 use Rattle.ag_value.specs.declared.value.Value.{Value}
 use Rattle.ag_value.specs.Well.{is_before, is_ascending, key_of}
-use Rattle.ag_grammar.specs.values.Tables.{IsIndex, with_pair}
+use Rattle.ag_value.specs.operations.Tables.{IsIndex, with_pair}
 
 abbrev Pair : Type 0
 Pair = List ℕ × Value

@@ -7,9 +7,9 @@ use Rattle.ag_value.specs.declared.value.Value.{Value}
 use Rattle.ag_value.specs.declared.value.Value.TheOpen.{Value-F}
 use Rattle.ag_value.specs.declared.value.Value.TheVariants as value
 use Rattle.ag_value.specs.declared.value.Value.TheVariants.{outs-List}
-use Rattle.ag_grammar.specs.values.Fitting.{fit}
-use Rattle.ag_grammar.specs.values.Lists.{append_result, appended_at}
-use Rattle.ag_grammar.proofs.values.Growing.{depth-one, depth-together, weight-one, weight-together}
+use Rattle.ag_value.specs.operations.Fitting.{fit}
+use Rattle.ag_value.specs.operations.Lists.{append_result, appended_at}
+use Rattle.ag_value.proofs.operations.Growing.{depth-one, depth-together, weight-one, weight-together}
 use Rattle.ag_grammar.proofs.values.Worked.{big_next, deep_first, fits}
 
 -- two lists together are not too deep if neither of them is

@@ -14,10 +14,10 @@ use Rattle.ag_value.specs.declared.value.Value.TheVariants as v
 use Rattle.ag_value.specs.Measure.{depth_of, greatest, weight_of, weight_of_pair}
 use Rattle.ag_value.specs.Well.{IsWell, all_true, are_keys, is_before, is_item, is_item_pair, is_ascending, key_of}
 use Rattle.ag_value.proofs.Layers.{depth-Table, item-Table, weight-Table}
-use Rattle.ag_grammar.specs.values.Tables.{IsIndex, has_key, with_pair}
-use Rattle.ag_grammar.proofs.values.Growing.{all_true-append}
+use Rattle.ag_value.specs.operations.Tables.{IsIndex, has_key, with_pair}
+use Rattle.ag_value.proofs.operations.Growing.{all_true-append}
 use Rattle.ag_eval.proofs.Keys.{rising_with}
-use Rattle.ag_grammar.proofs.values.Tables.{Pair, item_table, table_parts}
+use Rattle.ag_value.proofs.operations.Tables.{Pair, item_table, table_parts}
 
 -- a property of all elements holds of those that pass a test
 all_filter : {A : Type 0} (f test : A → Bool) (xs : List A) → all_true (map f xs) ≡ true

@@ -11,7 +11,7 @@ use Rattle.std.specs.Result.{OkIff, result_ok}
 use Rattle.std.specs.Str.Parse.{digits_value, ParsesSigned}
 use mir.Syntax.{w64}
 use Rattle.ag_value.specs.Well.{is_i64}
-use Rattle.ag_grammar.specs.values.Numbers.{is_digits, signed_number, spelled_number}
+use Rattle.ag_value.specs.operations.Numbers.{is_digits, signed_number, spelled_number}
 
 own : IsNumeralModel (λ ds. list_all is_ascii_digit ds ≡ true) (digits_value 10)
 own = numerals_by_value _ (search rules)

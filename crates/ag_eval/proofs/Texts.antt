@@ -8,11 +8,11 @@ use Rattle.ag_value.specs.declared.value.Value.TheVariants as value
 use Rattle.ag_value.specs.declared.value.Value.TheVariants.{rolls-Text}
 use Rattle.ag_value.proofs.Layers.{depth-Text, weight-Text}
 use Rattle.ag_grammar.specs.declared.syntax.node.Operator.TheVariants as operator
-use Rattle.ag_grammar.specs.values.Arguments.{fault_or, leftmost}
-use Rattle.ag_grammar.specs.values.Fitting.{fit}
-use Rattle.ag_grammar.specs.values.Lists.{concatenated_at, concatenation}
+use Rattle.ag_value.specs.operations.Arguments.{fault_or, leftmost}
+use Rattle.ag_value.specs.operations.Fitting.{fit}
+use Rattle.ag_value.specs.operations.Lists.{concatenated_at, concatenation}
 use Rattle.ag_grammar.specs.values.Operators.{operation_result}
-use Rattle.ag_grammar.specs.values.Texts.{bytes_at, bytes_of, is_text, is_text_at}
+use Rattle.ag_value.specs.operations.Texts.{bytes_at, bytes_of, is_text, is_text_at}
 use Rattle.ag_grammar.proofs.values.Worked.{big_next, fits}
 
 layer : (x : Value-F Value) → is_text_at x ≡ true → x ≡ Value-F.Text (bytes_at x)

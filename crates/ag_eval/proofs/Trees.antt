@@ -5,7 +5,7 @@ use Rattle.std.specs.Option.{option_map}
 use Rattle.ag_value.specs.declared.value.ErrorCode.TheVariants.{Key}
 use Rattle.ag_value.specs.declared.value.Value.{Value}
 use Rattle.ag_value.specs.declared.value.Value.TheVariants as value
-use Rattle.ag_grammar.specs.values.Tables.{value_or_fault}
+use Rattle.ag_value.specs.operations.Tables.{value_or_fault}
 
 pub value_is : (found : Option (List ℕ × Value)) (v : Value) → Some v ≡ option_map (λ p. p.1) found → v ≡ value_or_fault found
 value_is None v e = let bad : ⊥ = cc in absurd bad

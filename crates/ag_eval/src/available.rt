@@ -9,7 +9,7 @@ ghost use Rattle.ag_value.specs.declared.value.Value.TheVariants as value;
 ghost use Rattle.ag_grammar.specs.expressions.Evaluation.{chain_value, value_in, value_of};
 ghost use Rattle.ag_grammar.specs.declared.syntax.node.Node.TheVariants as node;
 ghost use Rattle.ag_grammar.specs.expressions.Trees.{all_below, is_within};
-ghost use Rattle.ag_grammar.specs.values.Fitting.{fit};
+ghost use Rattle.ag_value.specs.operations.Fitting.{fit};
 ghost use Rattle.ag_grammar.specs.values.Operators.{operation_result};
 ghost use Rattle.ag_eval.specs.Operands.{IsIn, held_value, operand_value, scalar_value};
 

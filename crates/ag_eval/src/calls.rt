@@ -6,7 +6,7 @@ ghost use Rattle.ag_value.specs.Well.{IsWell};
 ghost use Rattle.ag_value.specs.declared.value.Value.TheVariants as value;
 ghost use Rattle.ag_eval.specs.declared.operand.Held.{Held as HeldValue};
 ghost use Rattle.ag_eval.specs.Operands.{Gives, IsIn, held_value, operand_value, ref_value, scalar_value};
-ghost use Rattle.ag_grammar.specs.values.Arguments.{fault_of, leftmost};
+ghost use Rattle.ag_value.specs.operations.Arguments.{fault_of, leftmost};
 ghost use Rattle.ag_grammar.specs.values.Calls.{unary_call_result, binary_call_result, put};
 ghost use Rattle.ag_grammar.specs.values.Operators.{operation_result};
 
@@ -145,7 +145,7 @@ fn apply_to_number(operator: Operator, m: i64, right: Scalar) -> Option<Scalar>
 }
 
 /// Computes `m == n`. Not inlined, so that the other operators need no values in memory.
-#[tactic(auto, unfolding(ag_grammar::specs::values::Arguments::leftmost))]
+#[tactic(auto, unfolding(ag_value::specs::operations::Arguments::leftmost))]
 #[inline(never)]
 fn equal_numbers(m: i64, n: i64) -> Option<Scalar>
     ensures { IfSome result
@@ -155,7 +155,7 @@ fn equal_numbers(m: i64, n: i64) -> Option<Scalar>
 }
 
 /// Computes the value of an operator for two numbers. Returns `None` for `++`.
-#[tactic(auto, unfolding(ag_grammar::specs::values::Arguments::leftmost))]
+#[tactic(auto, unfolding(ag_value::specs::operations::Arguments::leftmost))]
 #[inline(always)]
 fn apply_to_numbers(operator: Operator, m: i64, n: i64) -> Option<Scalar>
     ensures { IfSome result (λ s. scalar_value s ≡ operation_result operator (value.Num m) (value.Num n)) }
@@ -188,7 +188,7 @@ pub fn call_unary<'e>(
 }
 
 /// Computes the value of a call of one argument from the argument's value.
-#[tactic(auto, unfolding(ag_grammar::specs::values::Arguments::leftmost))]
+#[tactic(auto, unfolding(ag_value::specs::operations::Arguments::leftmost))]
 fn unary_value(alloc: Global, call: UnaryCall, argument: ValueRef<'_>) -> Result<Measured, NoMemory>
     requires { IsWell (ref_value argument) }
     ensures { IfOk result (λ m. m ≡ unary_call_result call (ref_value argument.entry)) }
@@ -209,7 +209,7 @@ fn unary_value(alloc: Global, call: UnaryCall, argument: ValueRef<'_>) -> Result
 
 /// Computes the value of a call of one argument other than `iserr` for a plain value that is not an
 /// error.
-#[tactic(auto, unfolding(ag_grammar::specs::values::Arguments::leftmost))]
+#[tactic(auto, unfolding(ag_value::specs::operations::Arguments::leftmost))]
 fn call_with_plain(alloc: Global, call: UnaryCall, argument: &Value) -> Result<Measured, NoMemory>
     requires no_iserr { call ≢ UnaryCall.IsError }
     requires no_fault { fault_of argument.now ≡ None }
@@ -229,7 +229,7 @@ fn call_with_plain(alloc: Global, call: UnaryCall, argument: &Value) -> Result<M
 
 /// Computes the value of a call of one argument for a shared text. Only `number` takes memory, for a
 /// copy.
-#[tactic(auto, unfolding(ag_grammar::specs::values::Arguments::leftmost))]
+#[tactic(auto, unfolding(ag_value::specs::operations::Arguments::leftmost))]
 fn call_with_shared(
     alloc: Global,
     call: UnaryCall,
@@ -247,7 +247,7 @@ fn call_with_shared(
 }
 
 /// Computes the value of a call of one argument for a table that is a tree. Only `keys` takes memory.
-#[tactic(auto, unfolding(ag_grammar::specs::values::Arguments::leftmost))]
+#[tactic(auto, unfolding(ag_value::specs::operations::Arguments::leftmost))]
 fn call_with_table(
     alloc: Global,
     call: UnaryCall,
@@ -265,7 +265,7 @@ fn call_with_table(
 }
 
 /// Computes the value of a call of one argument for a list that is a tree.
-#[tactic(auto, unfolding(ag_grammar::specs::values::Arguments::leftmost))]
+#[tactic(auto, unfolding(ag_value::specs::operations::Arguments::leftmost))]
 fn call_with_list(call: UnaryCall, argument: &ListTree) -> Value
     ensures value { result ≡ unary_call_result call (value.List argument.now) }
     ensures well { IsWell result }

@@ -14,7 +14,7 @@ ghost use Rattle.ag_eval.specs.declared.operand.Held.{Held as HeldValue};
 ghost use Rattle.ag_eval.specs.Operands.{IsIn, each_within, held_value, operand_value, ref_value, scalar_value};
 ghost use Rattle.ag_grammar.specs.expressions.Trees.{all_below, is_within};
 ghost use Rattle.ag_grammar.specs.values.Calls.{binary_call_result, choice_of, put};
-ghost use Rattle.ag_grammar.specs.values.Lists.{listed};
+ghost use Rattle.ag_value.specs.operations.Lists.{listed};
 
 use crate::available::{copied, literal_value};
 use crate::bindings::Bindings;
@@ -257,7 +257,7 @@ impl<'e, V: Lender> Evaluation<'e, V> {
 
     /// Evaluates `[a, ..]`: the list of the items, or the leftmost error among them.
     #[cycle(evaluating)]
-    #[tactic(auto, unfolding(ag_grammar::specs::values::Arguments::leftmost))]
+    #[tactic(auto, unfolding(ag_value::specs::operations::Arguments::leftmost))]
     fn list_of(
         &self,
         items: &'e [Node],

@@ -2,8 +2,8 @@
 
 ghost use Rattle.std.specs.Prelude.{◌≡◌, ◌++◌, ◌∷◌, [], None, OnOk};
 ghost use Rattle.ag_value.specs.declared.value.Value.TheVariants as value;
-ghost use Rattle.ag_grammar.specs.values.Arguments.{fault_of};
-ghost use Rattle.ag_grammar.specs.values.Fitting.{fit};
+ghost use Rattle.ag_value.specs.operations.Arguments.{fault_of};
+ghost use Rattle.ag_value.specs.operations.Fitting.{fit};
 
 use crate::measured::Measured;
 use ag_value::{Items, NoMemory, Value};
@@ -23,7 +23,7 @@ impl Model for ListBuilder {
     ghost use Rattle.std.specs.Coded.{codes};
     ghost use Rattle.ag_value.specs.declared.value.Value.{Value as AttributeValue};
     ghost use Rattle.ag_value.specs.contracts.value.Value as value_row;
-    ghost use Rattle.ag_grammar.specs.values.Fitting.{IsGathered};
+    ghost use Rattle.ag_value.specs.operations.Fitting.{IsGathered};
 
     ghost Value = { List AttributeValue };
 

@@ -3,7 +3,7 @@
 ghost use Rattle.std.specs.Prelude.{◌≡◌, ◌-◌, ◌^◌, ◌≤◌, min, true};
 ghost use Rattle.ag_value.specs.Measure.{depth_of, max_value_depth, max_weight, weight_of};
 ghost use Rattle.ag_value.specs.Well.{IsWell, is_item};
-ghost use Rattle.ag_grammar.specs.values.Fitting.{fit};
+ghost use Rattle.ag_value.specs.operations.Fitting.{fit};
 
 use ag_value::{ErrorCode, MAX_VALUE_DEPTH, MAX_WEIGHT, Value, depth, weight};
 use std::marker::Model;
@@ -23,7 +23,7 @@ impl Model for Measured {
     ghost use Rattle.std.specs.Coded.{codes};
     ghost use Rattle.ag_value.specs.declared.value.Value.{Value as AttributeValue};
     ghost use Rattle.ag_value.specs.contracts.value.Value as value_row;
-    ghost use Rattle.ag_grammar.specs.values.Fitting.{IsMeasured};
+    ghost use Rattle.ag_value.specs.operations.Fitting.{IsMeasured};
 
     ghost Value = { AttributeValue };
 

@@ -5,8 +5,8 @@
 ghost use Rattle.std.specs.Prelude.{◌≡◌, IfOk, IfSome, is_some, true};
 ghost use Rattle.ag_value.specs.Well.{IsWell};
 ghost use Rattle.ag_value.specs.declared.value.Value.TheVariants as value;
-ghost use Rattle.ag_grammar.specs.values.Arguments.{fault_of};
-ghost use Rattle.ag_grammar.specs.values.Texts.{is_text};
+ghost use Rattle.ag_value.specs.operations.Arguments.{fault_of};
+ghost use Rattle.ag_value.specs.operations.Texts.{is_text};
 ghost use Rattle.ag_eval.specs.declared.operand.Held.{Held as HeldValue};
 ghost use Rattle.ag_eval.specs.Lists.{is_list};
 ghost use Rattle.ag_eval.specs.Operands.{IsIn, held_value, is_lent, operand_value, ref_value};

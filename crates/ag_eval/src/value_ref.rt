@@ -5,7 +5,7 @@ ghost use Rattle.std.specs.Prelude.{◌≡◌, ◌≤◌, IfOk, IfSome, MatchOpt
 ghost use Rattle.ag_value.specs.Measure.{max_weight};
 ghost use Rattle.ag_value.specs.Well.{IsWell};
 ghost use Rattle.ag_value.specs.declared.value.Value.TheVariants as value;
-ghost use Rattle.ag_grammar.specs.values.Texts.{bytes_of, is_text};
+ghost use Rattle.ag_value.specs.operations.Texts.{bytes_of, is_text};
 ghost use Rattle.ag_eval.specs.Lists.{is_list};
 ghost use Rattle.ag_eval.specs.Operands.{plain_value, ref_value};
 
@@ -69,7 +69,7 @@ impl<'a> ValueRef<'a> {
     }
 
     /// Returns the number of bytes of a text, or `None` for a value of another kind.
-    #[tactic(auto, using(ag_grammar::proofs::values::Wells::short))]
+    #[tactic(auto, using(ag_value::proofs::operations::Wells::short))]
     pub fn text_len(self) -> Option<usize>
         requires { IsWell (ref_value self) }
         ensures text { MatchOption result (is_text (ref_value self.entry) ≡ false)
@@ -86,7 +86,7 @@ impl<'a> ValueRef<'a> {
     }
 
     /// Returns the number of items of a list, or `None` for a value of another kind.
-    #[tactic(auto, using(ag_grammar::proofs::values::Wells::short))]
+    #[tactic(auto, using(ag_value::proofs::operations::Wells::short))]
     pub fn list_len(self) -> Option<usize>
         requires { IsWell (ref_value self) }
         ensures list { IfSome result (λ _. is_list (ref_value self.entry) ≡ true) }

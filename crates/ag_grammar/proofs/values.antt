@@ -1,6 +1,3 @@
 -- Lemmas about the results of operations.
-pub mod Growing
 pub mod Same
-pub mod Tables
-pub mod Wells
 pub mod Worked

@@ -14,9 +14,9 @@ ghost use Rattle.ag_grammar.specs.expressions.Laws.{RuleHoldsByOne, ValueOfOccur
 ghost use Rattle.ag_grammar.specs.values.Calls.{unary_call_result, binary_call_result, choice_of};
 ghost use Rattle.ag_grammar.specs.values.Laws.{BigComesNext, DeepComesFirst, WhatFitsStays};
 ghost use Rattle.ag_grammar.specs.values.Laws.{GetIsWell, KeysAreWell, SameIsOne};
-ghost use Rattle.ag_grammar.specs.values.Lists.{listed};
+ghost use Rattle.ag_value.specs.operations.Lists.{listed};
 ghost use Rattle.ag_grammar.specs.values.Operators.{operation_result};
-ghost use Rattle.ag_grammar.specs.values.Tables.{put_result, with_pair};
+ghost use Rattle.ag_value.specs.operations.Tables.{put_result, with_pair};
 ghost use Rattle.ag_grammar.specs.values.Worked.{bound_error, least, number, other_branch, two_keys};
 
 /// States that `fit` turns a value that is too deep into the error `deep`, another that is too

@@ -7,3 +7,4 @@ pub mod Lengths
 pub mod Turns
 pub mod Utf8
 pub mod Weights
+pub mod operations

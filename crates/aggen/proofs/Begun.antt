@@ -2,7 +2,7 @@
 use Rattle.std.proofs.Common.{◌≡◌, ℕ, List, [], ◌++◌, Option, Some, None, refl, sym, subst, append-nil, arith}
 use Rattle.std.specs.Io.KnownBytes.{Appends}
 use Rattle.std.proofs.lemmas.Str.{IsUtf8-nil, is_utf8-from_IsUtf8}
-use Rattle.ag_grammar.proofs.values.Wells.{well_text}
+use Rattle.ag_value.proofs.operations.Wells.{well_text}
 use Rattle.agoutput.specs.Writing.{AppendsBeginning}
 use Rattle.roottext.specs.Roots.{IsWellText}
 use Rattle.aggen.specs.Translation.{BeginsText, WritesText}

@@ -17,7 +17,7 @@ use Rattle.ag_grammar.specs.grammars.AttributeGrammar.{Synthesized, defined_kind
 use Rattle.ag_grammar.specs.grammars.Passes.{IsLegal, Passes}
 use Rattle.ag_grammar.specs.grammars.Solution.{AnyRule, RulesHold, Solves, SolvesAll, Valuation, at, below, children, rest}
 use Rattle.ag_grammar.specs.grammars.Tree.{Forest, IsTreeOf, Tree, leaf, more, node, node_count, none}
-use Rattle.ag_grammar.specs.values.Arguments.{fault_at, fault_of}
+use Rattle.ag_value.specs.operations.Arguments.{fault_at, fault_of}
 use Rattle.passassign.proofs.slots.Few.{few_rules}
 use Rattle.origins.specs.Arising.{Table, environment, value_at}
 use Rattle.origins.specs.Causes.{IsSource, place_path, tree_at, values_at}

@@ -29,7 +29,7 @@ use Rattle.treefile.proofs.records.Copies.{copies_well, stored_well}
 use Rattle.treefile.proofs.records.Fitting.{numbered}
 use Rattle.treefile.proofs.records.Values.{values_well}
 use Rattle.ag_grammar.specs.expressions.Evaluation.{value_of}
-use Rattle.ag_grammar.specs.values.Arguments.{fault_of}
+use Rattle.ag_value.specs.operations.Arguments.{fault_of}
 use Rattle.origins.specs.Arising.{Table, arises, environment, is_same_error, value_at}
 use Rattle.origins.specs.Causes.{exchanged_below, is_still, tree_at, values_at}
 use Rattle.origins.specs.Origins.{child, child_of}

@@ -12,7 +12,7 @@ use Rattle.ag_grammar.specs.declared.grammar.Rule.{Rule}
 use Rattle.ag_grammar.specs.declared.grammar.Target.{Target}
 use Rattle.ag_grammar.specs.expressions.Evaluation.{value_of}
 use Rattle.ag_grammar.specs.grammars.AttributeGrammar.{Grammar}
-use Rattle.ag_grammar.specs.values.Arguments.{fault_of}
+use Rattle.ag_value.specs.operations.Arguments.{fault_of}
 use Rattle.origins.specs.Arising.{Table, environment, is_arising}
 use Rattle.origins.specs.Causes.{AnswersSource}
 use Rattle.origins.specs.Rows.{table_of}

@@ -8,7 +8,7 @@ use Rattle.ag_grammar.specs.grammars.AttributeGrammar.{Grammar, IsProduction}
 use Rattle.treefile.specs.records.TreeFile.{version_two}
 use Rattle.treefile.specs.framing.Ending.{body_before}
 use Rattle.ag_grammar.specs.expressions.Evaluation.{value_of}
-use Rattle.ag_grammar.specs.values.Arguments.{fault_of}
+use Rattle.ag_value.specs.operations.Arguments.{fault_of}
 use Rattle.origins.specs.Arising.{Table, environment, is_arising}
 use Rattle.origins.specs.Causes.{IsSource}
 use Rattle.origins.specs.Records.{IsNode}

@@ -7,7 +7,7 @@ use Rattle.ag_grammar.specs.grammars.Accepted.{IsAccepted}
 use Rattle.ag_grammar.specs.grammars.AttributeGrammar.{Grammar, IsProduction, IsRule}
 use Rattle.ag_grammar.specs.grammars.Solution.{AnyRule, Solves, Valuation}
 use Rattle.ag_grammar.specs.grammars.Tree.{Forest, Tree, max_nodes, node, node_count}
-use Rattle.ag_grammar.specs.values.Arguments.{fault_of}
+use Rattle.ag_value.specs.operations.Arguments.{fault_of}
 use Rattle.tree_index.specs.Nodes.{IsIndexIn}
 use Rattle.tree_index.specs.declared.index.TreeIndex.{TreeIndex}
 use Rattle.origins.specs.Causes.{place_path, tree_at, values_at}

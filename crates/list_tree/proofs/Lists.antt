@@ -12,8 +12,8 @@ use Rattle.ag_value.specs.Spelling.{joined, spelling_of}
 use Rattle.ag_value.proofs.Codec.{prefix_free}
 use Rattle.ag_value.proofs.Layers.{spelling-List}
 use Rattle.ag_value.proofs.Lengths.{length-spelling}
-use Rattle.ag_grammar.proofs.values.Growing.{depth-together, item-together, items_of}
-use Rattle.ag_grammar.proofs.values.Wells.{formed, short_list}
+use Rattle.ag_value.proofs.operations.Growing.{depth-together, item-together, items_of}
+use Rattle.ag_value.proofs.operations.Wells.{formed, short_list}
 use Rattle.list_tree.specs.Lists.{IsList}
 
 joined-append : (xs ys : List (List ℕ)) → joined (xs ++ ys) ≡ joined xs ++ joined ys

@@ -13,7 +13,7 @@ use Rattle.ag_value.specs.declared.value.Value.TheVariants.{outs-Num, outs-Text}
 use Rattle.ag_grammar.specs.declared.grammar.Rule.{Rule}
 use Rattle.ag_grammar.specs.declared.grammar.Target.{Target}
 use Rattle.ag_grammar.specs.expressions.Evaluation.{value_of}
-use Rattle.ag_grammar.specs.values.Arguments.{fault_at, fault_of}
+use Rattle.ag_value.specs.operations.Arguments.{fault_at, fault_of}
 use Rattle.ag_grammar.specs.grammars.AttributeGrammar.{Grammar, IsArgument}
 use Rattle.ag_grammar.specs.grammars.Solution.{AnyRule, Holds, RulesHold, Solves, SolvesAll, Valuation, at, below, children, rest}
 use Rattle.ag_grammar.specs.grammars.Tree.{Forest, Tree, leaf, node, none, more}

@@ -19,12 +19,12 @@ use Rattle.ag_grammar.specs.declared.syntax.node.UnaryCall.{UnaryCall}
 use Rattle.ag_grammar.specs.declared.syntax.node.UnaryCall.TheVariants as unary
 use Rattle.ag_grammar.specs.expressions.Evaluation.{Meaning, chain_value, value_in, value_step}
 use Rattle.std.specs.Fmt.{signed_decimal}
-use Rattle.ag_grammar.specs.values.Arguments.{either, truth}
-use Rattle.ag_grammar.specs.values.Arguments.{fault_at, fault_of, fault_or, first_fault, has_fault, leftmost, strict}
+use Rattle.ag_value.specs.operations.Arguments.{either, truth}
+use Rattle.ag_value.specs.operations.Arguments.{fault_at, fault_of, fault_or, first_fault, has_fault, leftmost, strict}
 use Rattle.ag_grammar.specs.values.Calls.{binary_call_result, choice_of, chosen_at, put, unary_call_result}
-use Rattle.ag_grammar.specs.values.Fitting.{fit}
-use Rattle.ag_grammar.specs.values.Numbers.{decimal_at, decimal_of, from_numbers, number_at, number_or_fault, number_value}
-use Rattle.ag_grammar.specs.values.Tables.{put_result}
+use Rattle.ag_value.specs.operations.Fitting.{fit}
+use Rattle.ag_value.specs.operations.Numbers.{decimal_at, decimal_of, from_numbers, number_at, number_or_fault, number_value}
+use Rattle.ag_value.specs.operations.Tables.{put_result}
 use Rattle.ag_grammar.specs.values.Operators.{operation_result, operator_result}
 use Rattle.ag_grammar.proofs.expressions.Trees.{value-Chain, value-If, value-Let, value-Literal, value-Unary}
 use Rattle.origins.specs.Forms.{AreAlike, CallsBoth, CallsTo, ChoosesTo, Continues, Describes, Holds, IsKnown, IsLike, IsStated}

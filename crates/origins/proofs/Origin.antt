@@ -9,7 +9,7 @@ use Rattle.ag_grammar.specs.grammars.Solution.{Valuation, at, below, children, l
 use Rattle.ag_grammar.specs.grammars.Tree.{Forest, Tree, leaf, node, none, more}
 use Rattle.origins.specs.Arising.{Table, arising_count, is_arising}
 use Rattle.ag_grammar.specs.grammars.Passes.{Passes}
-use Rattle.ag_grammar.specs.values.Arguments.{fault_of}
+use Rattle.ag_value.specs.operations.Arguments.{fault_of}
 use Rattle.origins.specs.Causes.{HasCause, HoldsAt, HoldsIn, IsRuleAt, here, passed, place_path, tree_at, values_at}
 use Rattle.origins.specs.Laws.{CausesHaveOrigins, NoneIsClean, NoneIsCounted}
 use Rattle.origins.specs.Origins.{HasOrigin, arising_at, child, child_of, origin_count, origin_counts}

@@ -13,7 +13,7 @@ use Rattle.ag_grammar.specs.declared.syntax.node.Node.TheFolds.{fold-roll-Node}
 use Rattle.ag_grammar.specs.declared.syntax.node.Node.TheOpen.{Node-F}
 use Rattle.ag_grammar.specs.declared.syntax.node.Node.TheVariants as node_of
 use Rattle.ag_grammar.specs.expressions.Evaluation.{Meaning, value_of, value_step}
-use Rattle.ag_grammar.specs.values.Arguments.{fault_at, fault_of}
+use Rattle.ag_value.specs.operations.Arguments.{fault_at, fault_of}
 use Rattle.origins.specs.Arising.{arises, exchanged, exchanged_to, is_same_error}
 
 pub value_of_occurrence : (k : ℕ) (env : ℕ → Value) → value_of (node_of.Occurrence k) env ≡ env k

@@ -12,7 +12,7 @@ use Rattle.ag_value.specs.declared.value.Value.TheVariants.{outs-Fault, outs-Num
 use Rattle.ag_value.specs.Spelling.{number_of}
 use Rattle.ag_grammar.specs.declared.grammar.Rule.{Rule}
 use Rattle.ag_grammar.specs.expressions.Evaluation.{value_of}
-use Rattle.ag_grammar.specs.values.Arguments.{fault_at, fault_of, has_fault}
+use Rattle.ag_value.specs.operations.Arguments.{fault_at, fault_of, has_fault}
 use Rattle.origins.specs.Arising.{Table, environment, exchanged, exchanged_to, is_same_error, value_at}
 use Rattle.origins.specs.Causes.{IsSource, exchanged_below, is_still}
 use Rattle.origins.specs.Forms.{AreAlike, Holds, IsKnown, IsLike}

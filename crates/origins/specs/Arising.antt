@@ -11,7 +11,7 @@ use Rattle.ag_grammar.specs.declared.grammar.Rule.{Rule}
 use Rattle.ag_grammar.specs.declared.grammar.Target.{Target}
 use Rattle.ag_grammar.specs.declared.syntax.node.Node.{Node}
 use Rattle.ag_grammar.specs.expressions.Evaluation.{value_of}
-use Rattle.ag_grammar.specs.values.Arguments.{fault_of}
+use Rattle.ag_value.specs.operations.Arguments.{fault_of}
 
 -- The values at the places of a node: place 0 is the node itself, 1, 2, .. are its children.
 abbrev pub Table : Type 0

@@ -7,7 +7,7 @@ use Rattle.ag_grammar.specs.declared.grammar.Production.{Production}
 use Rattle.ag_grammar.specs.declared.grammar.Rule.{Rule}
 use Rattle.ag_grammar.specs.declared.grammar.Target.{Target}
 use Rattle.ag_grammar.specs.expressions.Evaluation.{value_of}
-use Rattle.ag_grammar.specs.values.Arguments.{fault_of}
+use Rattle.ag_value.specs.operations.Arguments.{fault_of}
 use Rattle.ag_grammar.specs.grammars.Accepted.{IsAccepted}
 use Rattle.ag_grammar.specs.grammars.AttributeGrammar.{Grammar, IsProduction, IsRule}
 use Rattle.ag_grammar.specs.grammars.Passes.{IsLegal, Passes}

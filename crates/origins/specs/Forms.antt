@@ -9,9 +9,9 @@ use Rattle.ag_grammar.specs.declared.syntax.node.Node.{Node}
 use Rattle.ag_grammar.specs.declared.syntax.node.Operator.{Operator}
 use Rattle.ag_grammar.specs.declared.syntax.node.UnaryCall.{UnaryCall}
 use Rattle.ag_grammar.specs.expressions.Evaluation.{chain_value, value_in}
-use Rattle.ag_grammar.specs.values.Arguments.{fault_of, has_fault}
+use Rattle.ag_value.specs.operations.Arguments.{fault_of, has_fault}
 use Rattle.ag_grammar.specs.values.Calls.{binary_call_result, choice_of, put, unary_call_result}
-use Rattle.ag_grammar.specs.values.Numbers.{spelled_number}
+use Rattle.ag_value.specs.operations.Numbers.{spelled_number}
 use Rattle.ag_grammar.specs.values.Operators.{operation_result}
 use Rattle.origins.specs.declared.forms.Known.{Known}
 use Rattle.origins.specs.declared.forms.Known.TheVariants as known

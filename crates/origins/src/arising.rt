@@ -5,7 +5,7 @@ ghost use Rattle.ag_grammar.specs.Lists.{Each};
 ghost use Rattle.ag_grammar.specs.declared.grammar.Rule.{Rule as TheRule};
 ghost use Rattle.ag_grammar.specs.declared.syntax.node.Node.TheVariants as node;
 ghost use Rattle.ag_grammar.specs.expressions.Evaluation.{value_of};
-ghost use Rattle.ag_grammar.specs.values.Arguments.{fault_of, has_fault};
+ghost use Rattle.ag_value.specs.operations.Arguments.{fault_of, has_fault};
 ghost use Rattle.origins.specs.Arising.{arising_count, environment, exchanged, is_arising};
 ghost use Rattle.origins.specs.Causes.{AnswersSource, exchanged_below, is_still};
 ghost use Rattle.origins.specs.Forms.{IsKnown};

@@ -3,8 +3,8 @@
 ghost use Rattle.std.specs.Prelude.{IfSome, ◌≡◌, ◌+ℤ◌, ◌-ℤ◌, ◌*ℤ◌, ℕ};
 ghost use Rattle.ag_value.specs.declared.value.Value.{Value as AttributeValue};
 ghost use Rattle.ag_grammar.specs.declared.syntax.node.Node.TheVariants as node;
-ghost use Rattle.ag_grammar.specs.values.Fitting.{fit};
-ghost use Rattle.ag_grammar.specs.values.Numbers.{number_value, spelled_number};
+ghost use Rattle.ag_value.specs.operations.Fitting.{fit};
+ghost use Rattle.ag_value.specs.operations.Numbers.{number_value, spelled_number};
 ghost use Rattle.origins.specs.Arising.{environment};
 ghost use Rattle.origins.specs.Forms.{CallsBoth, CallsTo, ChoosesTo, Continues, Describes, IsKnown, IsStated, PutsTo, Spells, States, StepsTo};
 ghost use Rattle.origins.specs.Rows.{table_of};

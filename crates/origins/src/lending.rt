@@ -2,7 +2,7 @@
 
 ghost use Rattle.std.specs.Prelude.{◌≡◌};
 ghost use Rattle.ag_value.specs.Spelling.{number_of};
-ghost use Rattle.ag_grammar.specs.values.Arguments.{fault_of};
+ghost use Rattle.ag_value.specs.operations.Arguments.{fault_of};
 ghost use Rattle.origins.specs.Arising.{is_same_error};
 
 use crate::row::Row;
@@ -49,7 +49,7 @@ pub(crate) struct ExchangedErrors<'a> {
 
 impl<'a> Environment for ExchangedErrors<'a> {
     ghost use Rattle.std.specs.Prelude.{length, slice_get};
-    ghost use Rattle.ag_grammar.specs.values.Arguments.{fault_of};
+    ghost use Rattle.ag_value.specs.operations.Arguments.{fault_of};
     ghost use Rattle.origins.specs.Arising.{exchanged_to};
     ghost use Rattle.origins.specs.Rows.{argument};
 
@@ -83,7 +83,7 @@ pub(crate) struct FirstExchanged<'a> {
 
 impl<'a> Environment for FirstExchanged<'a> {
     ghost use Rattle.std.specs.Prelude.{length, nat_lt, slice_get, if◌then◌else◌};
-    ghost use Rattle.ag_grammar.specs.values.Arguments.{fault_of};
+    ghost use Rattle.ag_value.specs.operations.Arguments.{fault_of};
     ghost use Rattle.origins.specs.Arising.{exchanged_to};
     ghost use Rattle.origins.specs.Rows.{argument};
 

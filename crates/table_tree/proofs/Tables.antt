@@ -9,9 +9,9 @@ use Rattle.ag_value.specs.declared.value.Value.TheVariants as v
 use Rattle.ag_value.specs.Measure.{depth_of, greatest, weight_of_pair, max_value_depth, max_weight}
 use Rattle.ag_value.specs.Well.{IsWell, all_true, are_keys, is_item, is_item_pair, key_of}
 use Rattle.ag_value.proofs.Layers.{depth-Table, item-Table, weight-Table}
-use Rattle.ag_grammar.proofs.values.Growing.{greatest-append}
-use Rattle.ag_grammar.proofs.values.Tables.{table_parts}
-use Rattle.ag_grammar.proofs.values.Wells.{formed}
+use Rattle.ag_value.proofs.operations.Growing.{greatest-append}
+use Rattle.ag_value.proofs.operations.Tables.{table_parts}
+use Rattle.ag_value.proofs.operations.Wells.{formed}
 use Rattle.table_tree.proofs.Keys.{Pair, AreSorted, ascending, sorted, sorted_prefix, sorted_suffix}
 
 abbrev pub depth_of_pair : Pair → ℕ

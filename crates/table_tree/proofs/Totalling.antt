@@ -4,7 +4,7 @@ use Rattle.std.proofs.Common.{arith, length-append}
 use Rattle.std.proofs.Common.{true, false, nat_lt, Option, Some, None, Err}
 use Rattle.std.proofs.lemmas.Bool.{le-ltb, lt-ltb}
 use Rattle.std.proofs.lemmas.List.Sums.{sum_by-cons}
-use Rattle.ag_grammar.specs.values.Fitting.{fit}
+use Rattle.ag_value.specs.operations.Fitting.{fit}
 use Rattle.ag_value.specs.declared.value.ErrorCode.TheVariants.{Big, Deep}
 use Rattle.ag_value.specs.declared.value.Value.{Value}
 use Rattle.ag_value.specs.declared.value.Value.TheVariants as v
@@ -21,7 +21,7 @@ use Rattle.table_tree.specs.declared.totals.Totals.{Totals}
 use Rattle.table_tree.proofs.Keys.{Pair}
 use Rattle.table_tree.proofs.Tables.{depth_of_pair, greatest_append, sum_append}
 use Rattle.table_tree.proofs.With.{with_lighter, with_shallower}
-use Rattle.ag_grammar.specs.values.Tables.{with_pair}
+use Rattle.ag_value.specs.operations.Tables.{with_pair}
 
 -- the totals of the pairs before a pair, of the pair, and of those after it
 pub joined_totals : (before : List Pair) (p : Pair) (after : List Pair) (x y z t : Totals) → AreTotals before x

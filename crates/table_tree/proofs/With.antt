@@ -13,7 +13,7 @@ use Rattle.ag_value.specs.declared.value.Value.{Value}
 use Rattle.ag_value.specs.declared.value.Value.TheVariants as v
 use Rattle.ag_value.specs.Measure.{greatest, weight_of_pair, max_value_depth, max_weight}
 use Rattle.ag_value.specs.Well.{IsWell, all_true, is_item, is_item_pair}
-use Rattle.ag_grammar.specs.values.Tables.{pair_with, with_pair}
+use Rattle.ag_value.specs.operations.Tables.{pair_with, with_pair}
 use Rattle.table_tree.specs.Splits.{IsSplit}
 use Rattle.table_tree.proofs.Keys.{Pair, AreAfter, AreBefore, AreSorted, after_filter_right, after_middle, after_trans}
 use Rattle.table_tree.proofs.Keys.{before_filter}

@@ -2,7 +2,7 @@
 
 ghost use Rattle.std.specs.Prelude.{◌≡◌, option_copied, slice_get, IfSome};
 ghost use Rattle.std.specs.Option.{option_map};
-ghost use Rattle.ag_grammar.specs.values.Tables.{is_there, pair_with};
+ghost use Rattle.ag_value.specs.operations.Tables.{is_there, pair_with};
 ghost use Rattle.ag_value.specs.Well.{IsWell};
 
 use crate::entry::Entry;

@@ -1,8 +1,8 @@
 //! Tables with one more pair, or with another value for a key.
 
 ghost use Rattle.std.specs.Prelude.{◌≡◌, ◌≤◌, length, true, IfOk};
-ghost use Rattle.ag_grammar.specs.values.Fitting.{fit};
-ghost use Rattle.ag_grammar.specs.values.Tables.{with_pair};
+ghost use Rattle.ag_value.specs.operations.Fitting.{fit};
+ghost use Rattle.ag_value.specs.operations.Tables.{with_pair};
 ghost use Rattle.ag_value.specs.Measure.{max_weight};
 ghost use Rattle.ag_value.specs.Well.{IsWell, is_item};
 ghost use Rattle.ag_value.specs.declared.value.Value.TheVariants as v;

@@ -18,7 +18,7 @@ use Rattle.ag_grammar.specs.grammars.Tree.{IsTreeOf, Tree}
 use Rattle.ag_grammar.proofs.grammars.samples.NumberSample.{fits as sample_fits}
 use Rattle.ag_grammar.proofs.grammars.Running.{sample_ran}
 use Rattle.ag_grammar.proofs.grammars.samples.TokenSample.{fits as token_fits, text as token_text}
-use Rattle.ag_grammar.proofs.values.Wells.{formed, well_text}
+use Rattle.ag_value.proofs.operations.Wells.{formed, well_text}
 use Rattle.treefile.specs.framing.Ending.{last_body_of, version_one_usable}
 use Rattle.treefile.specs.records.Listed.{AreSpelled, BeginsNoValue, HasReadValues, IsListedRecord}
 use Rattle.treefile.specs.records.OneTree.{IsNumbered, IsRecorded}

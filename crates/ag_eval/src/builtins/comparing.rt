@@ -3,7 +3,7 @@
 ghost use Rattle.std.specs.Prelude.{◌≡◌, ◌↔◌, IfOk, IsTrue};
 ghost use Rattle.ag_value.specs.Well.{IsWell};
 ghost use Rattle.ag_value.specs.declared.value.Value.TheVariants as value;
-ghost use Rattle.ag_grammar.specs.values.Arguments.{truth};
+ghost use Rattle.ag_value.specs.operations.Arguments.{truth};
 ghost use Rattle.ag_grammar.specs.values.Operators.{comparison_result, order_result};
 ghost use Rattle.ag_eval.specs.Operands.{ref_value};
 

@@ -2,7 +2,7 @@
 //! except `iserr` and `orelse`.
 
 ghost use Rattle.std.specs.Prelude.{◌≡◌, ◌∷◌, []};
-ghost use Rattle.ag_grammar.specs.values.Arguments.{fault_of, leftmost};
+ghost use Rattle.ag_value.specs.operations.Arguments.{fault_of, leftmost};
 ghost use Rattle.ag_eval.specs.Operands.{ref_value};
 
 use crate::value_ref::ValueRef;
@@ -20,7 +20,7 @@ pub fn fault_of(value: ValueRef<'_>) -> Option<ErrorCode>
 }
 
 /// Returns the leftmost error of two arguments, if one is an error.
-#[tactic(auto, unfolding(ag_grammar::specs::values::Arguments::leftmost))]
+#[tactic(auto, unfolding(ag_value::specs::operations::Arguments::leftmost))]
 pub fn fault_of_two(first: ValueRef<'_>, second: ValueRef<'_>) -> Option<ErrorCode>
     ensures { result ≡ leftmost (ref_value first.entry ∷ ref_value second.entry ∷ []) }
 {
@@ -31,7 +31,7 @@ pub fn fault_of_two(first: ValueRef<'_>, second: ValueRef<'_>) -> Option<ErrorCo
 }
 
 /// Returns the leftmost error of three arguments, if one is an error.
-#[tactic(auto, unfolding(ag_grammar::specs::values::Arguments::leftmost))]
+#[tactic(auto, unfolding(ag_value::specs::operations::Arguments::leftmost))]
 pub fn fault_of_three(
     first: ValueRef<'_>,
     second: ValueRef<'_>,

@@ -4,9 +4,9 @@ ghost use Rattle.std.specs.Prelude.{◌≡◌, ◌++◌, ◌∷◌, ◌+◌, ◌
 ghost use Rattle.ag_value.specs.Measure.{depth_of, max_value_depth, max_weight, weight_of};
 ghost use Rattle.ag_value.specs.Well.{IsWell};
 ghost use Rattle.ag_value.specs.declared.value.Value.TheVariants as value;
-ghost use Rattle.ag_grammar.specs.values.Arguments.{fault_of};
-ghost use Rattle.ag_grammar.specs.values.Fitting.{fit};
-ghost use Rattle.ag_grammar.specs.values.Lists.{append_result, item_at, length_of, nth_of};
+ghost use Rattle.ag_value.specs.operations.Arguments.{fault_of};
+ghost use Rattle.ag_value.specs.operations.Fitting.{fit};
+ghost use Rattle.ag_value.specs.operations.Lists.{append_result, item_at, length_of, nth_of};
 ghost use Rattle.ag_eval.specs.Operands.{held_value};
 
 use crate::builtins::lists::count;
@@ -17,7 +17,7 @@ use list_tree::ListTree;
 use std::alloc::Global;
 
 /// Computes `len(l)`.
-#[tactic(auto, using(ag_grammar::proofs::values::Wells::short))]
+#[tactic(auto, using(ag_value::proofs::operations::Wells::short))]
 pub fn length(list: &ListTree) -> Value
     ensures value { result ≡ length_of (value.List list.now) }
     ensures well { IsWell result }

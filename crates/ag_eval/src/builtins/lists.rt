@@ -6,18 +6,18 @@ ghost use Rattle.ag_value.specs.Measure.{depth_of, max_weight, weight_of};
 ghost use Rattle.ag_value.specs.Well.{IsWell};
 ghost use Rattle.ag_value.specs.declared.value.Value.TheVariants as value;
 ghost use Rattle.ag_value.specs.declared.value.Value.{Value as AttributeValue};
-ghost use Rattle.ag_grammar.specs.values.Arguments.{fault_of};
-ghost use Rattle.ag_grammar.specs.values.Fitting.{fit};
-ghost use Rattle.ag_grammar.specs.values.Texts.{is_text};
+ghost use Rattle.ag_value.specs.operations.Arguments.{fault_of};
+ghost use Rattle.ag_value.specs.operations.Fitting.{fit};
+ghost use Rattle.ag_value.specs.operations.Texts.{is_text};
 ghost use Rattle.ag_eval.specs.Operands.{held_value};
-ghost use Rattle.ag_grammar.specs.values.Lists.{append_result, concatenation, item_at, length_of, nth_of};
+ghost use Rattle.ag_value.specs.operations.Lists.{append_result, concatenation, item_at, length_of, nth_of};
 
 use crate::measured::Measured;
 use crate::operand::Held;
 use ag_value::{ErrorCode, Items, NoMemory, Value};
 
 /// Computes `len(a)`.
-#[tactic(auto, using(ag_grammar::proofs::values::Wells::short))]
+#[tactic(auto, using(ag_value::proofs::operations::Wells::short))]
 pub fn length(value: &Value) -> Value
     requires { IsWell value.now }
     ensures value { result ≡ length_of value.now }

@@ -2,8 +2,8 @@
 
 ghost use Rattle.std.specs.Prelude.{◌≡◌, ◌+ℤ◌, ◌-ℤ◌, ◌*ℤ◌, IfOk};
 ghost use Rattle.ag_value.specs.Well.{IsWell};
-ghost use Rattle.ag_grammar.specs.values.Numbers.{decimal_of, number_of, number_value, of_numbers};
-ghost use Rattle.ag_grammar.specs.values.Numbers.{quotient, remainder, spelled_number};
+ghost use Rattle.ag_value.specs.operations.Numbers.{decimal_of, number_of, number_value, of_numbers};
+ghost use Rattle.ag_value.specs.operations.Numbers.{quotient, remainder, spelled_number};
 ghost use Rattle.ag_eval.specs.Operands.{scalar_value};
 
 use crate::scalar::Scalar;

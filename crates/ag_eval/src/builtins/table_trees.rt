@@ -3,9 +3,9 @@
 ghost use Rattle.std.specs.Prelude.{◌≡◌, IfOk, None};
 ghost use Rattle.ag_value.specs.Well.{IsWell};
 ghost use Rattle.ag_value.specs.declared.value.Value.TheVariants as value;
-ghost use Rattle.ag_grammar.specs.values.Arguments.{fault_of};
-ghost use Rattle.ag_grammar.specs.values.Lists.{length_of};
-ghost use Rattle.ag_grammar.specs.values.Tables.{get_result, has_result, keys_of, put_result};
+ghost use Rattle.ag_value.specs.operations.Arguments.{fault_of};
+ghost use Rattle.ag_value.specs.operations.Lists.{length_of};
+ghost use Rattle.ag_value.specs.operations.Tables.{get_result, has_result, keys_of, put_result};
 ghost use Rattle.ag_eval.specs.Operands.{held_value};
 
 use crate::builtins::comparing::truth;
@@ -17,7 +17,7 @@ use std::alloc::Global;
 use table_tree::{PutFault, TableTree};
 
 /// Computes `len(t)`.
-#[tactic(auto, using(ag_grammar::proofs::values::Wells::short))]
+#[tactic(auto, using(ag_value::proofs::operations::Wells::short))]
 pub fn length(table: &TableTree) -> Value
     ensures value { result ≡ length_of (value.Table table.now) }
     ensures well { IsWell result }
@@ -64,7 +64,7 @@ pub fn keys(alloc: Global, table: &TableTree) -> Result<Value, NoMemory>
 
 /// Computes `put(t, k, v)`: a tree that shares nodes with this one. Takes memory for the nodes on the way
 /// to the key.
-#[tactic(auto, using(ag_grammar::proofs::values::Wells::short, ag_grammar::proofs::values::Growing::item_of))]
+#[tactic(auto, using(ag_value::proofs::operations::Wells::short, ag_value::proofs::operations::Growing::item_of))]
 pub fn put<'a>(
     alloc: Global,
     table: &TableTree,

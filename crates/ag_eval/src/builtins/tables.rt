@@ -7,10 +7,10 @@ ghost use Rattle.ag_value.specs.Measure.{depth_of, max_weight, weight_of};
 ghost use Rattle.ag_value.specs.Well.{IsWell, is_item, is_ascending, key_of};
 ghost use Rattle.ag_value.specs.declared.value.Value.TheVariants as value;
 ghost use Rattle.ag_eval.specs.Operands.{held_value};
-ghost use Rattle.ag_grammar.specs.values.Arguments.{fault_of};
-ghost use Rattle.ag_grammar.specs.values.Fitting.{fit};
-ghost use Rattle.ag_grammar.specs.values.Tables.{IsIndex, get_result, has_result, has_key, keys_of};
-ghost use Rattle.ag_grammar.specs.values.Tables.{pair_with, put_result, with_pair};
+ghost use Rattle.ag_value.specs.operations.Arguments.{fault_of};
+ghost use Rattle.ag_value.specs.operations.Fitting.{fit};
+ghost use Rattle.ag_value.specs.operations.Tables.{IsIndex, get_result, has_result, has_key, keys_of};
+ghost use Rattle.ag_value.specs.operations.Tables.{pair_with, put_result, with_pair};
 
 use crate::builtins::comparing::truth;
 use crate::builtins::table_trees;
@@ -109,7 +109,7 @@ fn pair_count(value: &Value) -> usize {
 }
 
 /// Computes `put(t, k, v)` for a table that stays flat.
-#[tactic(auto, using(ag_grammar::proofs::values::Wells::short))]
+#[tactic(auto, using(ag_value::proofs::operations::Wells::short))]
 fn put_flat(
     alloc: Global,
     table: Measured,

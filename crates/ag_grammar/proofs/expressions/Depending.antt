@@ -14,7 +14,7 @@ use Rattle.ag_grammar.specs.expressions.Laws.{RuleHasOneValue, RuleHoldsByOne, V
 use Rattle.ag_grammar.specs.expressions.Occurring.{AgreeOn, has_occurrence, has_step, some_item, some_operand}
 use Rattle.ag_grammar.specs.grammars.Sample.{rule_s}
 use Rattle.ag_grammar.specs.values.Calls.{unary_call_result, binary_call_result, choice_of, put}
-use Rattle.ag_grammar.specs.values.Lists.{listed}
+use Rattle.ag_value.specs.operations.Lists.{listed}
 use Rattle.ag_grammar.specs.values.Operators.{operation_result}
 use Rattle.ag_grammar.proofs.expressions.Occurring.{alone, has_in, has_layer, has_sum, occurrences_are_listed, occurs}
 use Rattle.ag_grammar.proofs.expressions.Worked.{value_layer}

@@ -12,7 +12,7 @@ use Rattle.ag_grammar.specs.declared.syntax.node.Node.TheOpen.{Node-F}
 use Rattle.ag_grammar.specs.declared.syntax.node.Node.TheFolds.{fold-roll-Node}
 use Rattle.ag_grammar.specs.declared.syntax.node.UnaryCall.{UnaryCall}
 use Rattle.ag_grammar.specs.values.Calls.{unary_call_result, choice_of}
-use Rattle.ag_grammar.specs.values.Fitting.{fit}
+use Rattle.ag_value.specs.operations.Fitting.{fit}
 use Rattle.ag_grammar.specs.expressions.Evaluation.{Meaning, bound_value, chain_value, value_in, value_step}
 use Rattle.ag_grammar.specs.expressions.Trees.{all_below, below_step, is_within}
 

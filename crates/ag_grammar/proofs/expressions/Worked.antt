@@ -8,9 +8,9 @@ use Rattle.ag_grammar.specs.declared.syntax.node.Node.TheOpen.{Node-F}
 use Rattle.ag_grammar.specs.declared.syntax.node.Node.TheVariants as node_of
 use Rattle.ag_grammar.specs.declared.syntax.node.Operator.TheVariants.{Add}
 use Rattle.ag_grammar.specs.expressions.Evaluation.{Meaning, value_step, value_in, value_of}
-use Rattle.ag_grammar.specs.values.Arguments.{leftmost}
-use Rattle.ag_grammar.specs.values.Fitting.{fit}
-use Rattle.ag_grammar.specs.values.Numbers.{number_value}
+use Rattle.ag_value.specs.operations.Arguments.{leftmost}
+use Rattle.ag_value.specs.operations.Fitting.{fit}
+use Rattle.ag_value.specs.operations.Numbers.{number_value}
 use Rattle.ag_grammar.specs.values.Operators.{operation_result}
 use Rattle.ag_value.proofs.Layers.{depth-Num, weight-Num}
 

@@ -14,12 +14,12 @@ use Rattle.ag_value.proofs.Layers.{depth-Num, weight-Fault, weight-Num}
 use Rattle.ag_value.specs.Measure.{depth_of, depth_step, max_value_depth, max_weight, weight_of}
 use Rattle.ag_value.specs.Spelling.{spelling_of}
 use Rattle.ag_value.specs.Well.{IsWell, fault_step, is_fault, is_item}
-use Rattle.ag_grammar.specs.values.Arguments.{truth}
-use Rattle.ag_grammar.specs.values.Fitting.{fit}
+use Rattle.ag_value.specs.operations.Arguments.{truth}
+use Rattle.ag_value.specs.operations.Fitting.{fit}
 use Rattle.ag_grammar.specs.values.Laws.{BigComesNext, DeepComesFirst, GetIsWell, KeysAreWell, SameIsOne, WhatFitsStays}
-use Rattle.ag_grammar.specs.values.Tables.{get_at, keys_at, pair_with}
+use Rattle.ag_value.specs.operations.Tables.{get_at, keys_at, pair_with}
 use Rattle.ag_grammar.proofs.values.Same.{one_value}
-use Rattle.ag_grammar.proofs.values.Tables.{well_got, well_keys}
+use Rattle.ag_value.proofs.operations.Tables.{well_got, well_keys}
 
 not_above : (m n : ℕ) → n ≤ m → nat_lt m n ≡ false
 not_above m n le = go (nat_lt m n) refl

@@ -9,8 +9,8 @@ use Rattle.ag_grammar.specs.declared.syntax.node.Node.{Node}
 use Rattle.ag_grammar.specs.declared.syntax.node.Node.TheFolds.{fold-Node}
 use Rattle.ag_grammar.specs.declared.syntax.node.Node.TheOpen.{Node-F}
 use Rattle.ag_grammar.specs.values.Calls.{unary_call_result, binary_call_result, choice_of, put}
-use Rattle.ag_grammar.specs.values.Fitting.{fit}
-use Rattle.ag_grammar.specs.values.Lists.{listed}
+use Rattle.ag_value.specs.operations.Fitting.{fit}
+use Rattle.ag_value.specs.operations.Lists.{listed}
 use Rattle.ag_grammar.specs.values.Operators.{operation_result}
 
 -- the value of a tree, as a function of the values of its occurrences and of the names bound around it, the

@@ -9,11 +9,11 @@ use Rattle.ag_grammar.specs.declared.syntax.node.BinaryCall.{BinaryCall}
 use Rattle.ag_grammar.specs.declared.syntax.node.BinaryCall.TheVariants as binary
 use Rattle.ag_grammar.specs.declared.syntax.node.UnaryCall.{UnaryCall}
 use Rattle.ag_grammar.specs.declared.syntax.node.UnaryCall.TheVariants as unary
-use Rattle.ag_grammar.specs.values.Arguments.{or_else, strict, iserr_result}
-use Rattle.ag_grammar.specs.values.Lists.{append_result, length_of, nth_of}
-use Rattle.ag_grammar.specs.values.Numbers.{decimal_of, number_of}
-use Rattle.ag_grammar.specs.values.Tables.{get_result, has_result, keys_of, put_result}
-use Rattle.ag_grammar.specs.values.Texts.{join_result}
+use Rattle.ag_value.specs.operations.Arguments.{or_else, strict, iserr_result}
+use Rattle.ag_value.specs.operations.Lists.{append_result, length_of, nth_of}
+use Rattle.ag_value.specs.operations.Numbers.{decimal_of, number_of}
+use Rattle.ag_value.specs.operations.Tables.{get_result, has_result, keys_of, put_result}
+use Rattle.ag_value.specs.operations.Texts.{join_result}
 
 -- the value of a call with one argument
 abbrev pub unary_call_result : UnaryCall → Value → Value

@@ -5,9 +5,9 @@ use Rattle.ag_value.specs.declared.value.Value.{Value}
 use Rattle.ag_value.specs.declared.value.Value.TheVariants as value
 use Rattle.ag_value.specs.Measure.{depth_of, max_value_depth, max_weight, weight_of}
 use Rattle.ag_value.specs.Well.{IsWell}
-use Rattle.ag_grammar.specs.values.Fitting.{fit}
+use Rattle.ag_value.specs.operations.Fitting.{fit}
 use Rattle.ag_grammar.specs.values.Operators.{comparison_result}
-use Rattle.ag_grammar.specs.values.Tables.{get_result, keys_of}
+use Rattle.ag_value.specs.operations.Tables.{get_result, keys_of}
 
 -- `fit` makes the error `deep` of a value that is too deep, even if it is also too heavy.
 abbrev pub DeepComesFirst : Type 0

@@ -8,9 +8,9 @@ use Rattle.ag_value.specs.Spelling.{spelling_of}
 use Rattle.ag_value.specs.Well.{is_before}
 use Rattle.ag_grammar.specs.declared.syntax.node.Operator.{Operator}
 use Rattle.ag_grammar.specs.declared.syntax.node.Operator.TheVariants as operator
-use Rattle.ag_grammar.specs.values.Arguments.{strict, truth}
-use Rattle.ag_grammar.specs.values.Lists.{concatenation}
-use Rattle.ag_grammar.specs.values.Numbers.{number_value, of_numbers, quotient, remainder}
+use Rattle.ag_value.specs.operations.Arguments.{strict, truth}
+use Rattle.ag_value.specs.operations.Lists.{concatenation}
+use Rattle.ag_value.specs.operations.Numbers.{number_value, of_numbers, quotient, remainder}
 
 -- `a == b`, for values of any kinds: 1 if they are the same value, else 0. Different well values have different
 -- spellings.

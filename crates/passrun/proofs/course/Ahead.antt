@@ -10,7 +10,7 @@ use Rattle.ag_grammar.specs.grammars.AttributeGrammar.{IsProduction, item_at, st
 use Rattle.ag_grammar.specs.grammars.Passes.{direction_of, other, nth}
 use Rattle.ag_grammar.specs.grammars.Tree.{max_depth, max_nodes}
 use Rattle.ag_grammar.specs.grammars.Solution.{left_passes}
-use Rattle.ag_grammar.proofs.values.Wells.{well_text}
+use Rattle.ag_value.proofs.operations.Wells.{well_text}
 use Rattle.treefile.specs.declared.body.Kind.TheVariants.{Node}
 use Rattle.treefile.specs.declared.reading.FrameFault.{FrameFault}
 use Rattle.treefile.specs.declared.reading.FrameFault.TheVariants as frame_fault

@@ -13,7 +13,7 @@ use Rattle.ag_grammar.specs.grammars.Passes.{Passes}
 use Rattle.ag_grammar.specs.grammars.Solution.{AtEachNodeOf, NoRule, SolvesAll, Valuation, WellAt, at, graft, left_passes}
 use Rattle.ag_grammar.specs.grammars.Tree.{Forest, deepest, leaf, node, none, more}
 use Rattle.ag_grammar.proofs.grammars.EachNode.{no_rules}
-use Rattle.ag_grammar.proofs.values.Wells.{well_text}
+use Rattle.ag_value.proofs.operations.Wells.{well_text}
 use Rattle.treefile.specs.framing.ExpectedRecords.{AreThere, Expects, Child, MatchesCopy, IsRecordOf, Pending, before_others}
 use Rattle.treefile.specs.framing.ExpectedRecords.{children_with_copies}
 use Rattle.treefile.specs.Laws.{AllPending, ExpectedAreThere, NextPending}

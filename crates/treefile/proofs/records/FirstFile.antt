@@ -17,7 +17,7 @@ use Rattle.ag_grammar.specs.grammars.Solution.{AtEachNodeOf, IsWellOn, NoRule, S
 use Rattle.ag_grammar.specs.grammars.Solution.{left_passes, rest}
 use Rattle.ag_grammar.specs.grammars.Tree as tree
 use Rattle.ag_grammar.specs.grammars.Tree.{Fits, FitsAll, Forest, IsTokenText, IsTreeOf, Tree, leaf, node, none, more}
-use Rattle.ag_grammar.proofs.values.Wells.{well_text}
+use Rattle.ag_value.proofs.operations.Wells.{well_text}
 use Rattle.treefile.specs.records.FirstFile.{AreFromOne, IsFirstFile, first_bodies, first_bodies_all, first_file, leaf_texts}
 use Rattle.treefile.specs.records.FirstFile.{no_passes}
 use Rattle.treefile.specs.records.Orders as orders

@@ -1,6 +1,6 @@
 use Rattle.std.proofs.Common.{◌≡◌, ◌++◌, ◌∷◌, [], true, None, ap, arith, sym, ◌∙◌}
-use Rattle.ag_grammar.specs.values.Arguments.{leftmost}
-use Rattle.ag_grammar.specs.values.Texts.{bytes_of, is_text}
+use Rattle.ag_value.specs.operations.Arguments.{leftmost}
+use Rattle.ag_value.specs.operations.Texts.{bytes_of, is_text}
 use Rattle.ag_eval.specs.Operands.{operand_value}
 use Rattle.ag_eval.proofs.Texts.{both_texts, join_is, too_long}
 use Rattle.ag_eval.proofs.concatenation.concatenate.Goals as goal

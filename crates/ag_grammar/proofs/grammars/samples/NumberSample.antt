@@ -1,5 +1,5 @@
 -- The grammar of numbers, its tree and its values.
-use Rattle.ag_grammar.specs.values.Numbers.{number_value}
+use Rattle.ag_value.specs.operations.Numbers.{number_value}
 use Rattle.std.proofs.Common.{slice_index_or, ℕ, zero, suc, ◌≡◌, ◌≤◌, ◌<◌, inl, inr, Some, List, [], ◌∷◌, slice_get}
 use Rattle.std.proofs.Common.{slice_index_or, length, refl, ap, sym, ◌∙◌, ◌+ℤ◌, arith, pos}
 use Rattle.ag_value.specs.declared.value.Value.{Num}

@@ -1,5 +1,5 @@
 use Rattle.ag_value.specs.declared.value.Value.TheVariants.{outs-Fault, outs-Num, outs-Text}
-use Rattle.ag_grammar.specs.values.Arguments.{leftmost}
+use Rattle.ag_value.specs.operations.Arguments.{leftmost}
 use Rattle.ag_grammar.proofs.expressions.Trees.{value-Bound, value-Chain, value-If, value-Let, value-Literal, value-Unary}
 use Rattle.ag_grammar.proofs.values.Worked.{fit_number}
 use Rattle.ag_grammar.proofs.value_laws.worked_errors.Goals as goal

@@ -1,5 +1,5 @@
 use Rattle.ag_value.specs.declared.value.Value.TheVariants.{outs-Num, outs-Text}
-use Rattle.ag_grammar.specs.values.Arguments.{leftmost}
+use Rattle.ag_value.specs.operations.Arguments.{leftmost}
 use Rattle.ag_grammar.proofs.value_laws.worked_numbers.Goals as goal
 
 pub returns : goal.returns

@@ -1,7 +1,7 @@
 use Rattle.std.proofs.Common.{refl}
 use Rattle.ag_value.specs.declared.value.Value.TheVariants.{outs-List, outs-Num, outs-Table, outs-Text}
 use Rattle.ag_value.proofs.Layers.{spelling-Num, spelling-Text}
-use Rattle.ag_grammar.specs.values.Arguments.{leftmost}
+use Rattle.ag_value.specs.operations.Arguments.{leftmost}
 use Rattle.ag_grammar.proofs.value_laws.worked_parts.Goals as goal
 
 pub returns : goal.returns

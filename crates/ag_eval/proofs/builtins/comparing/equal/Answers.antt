@@ -1,5 +1,5 @@
 use Rattle.std.proofs.Common.{ap, ◌∙◌}
-use Rattle.ag_grammar.specs.values.Arguments.{truth}
+use Rattle.ag_value.specs.operations.Arguments.{truth}
 use Rattle.ag_grammar.proofs.values.Same.{decided}
 use Rattle.ag_eval.proofs.builtins.comparing.equal.Goals as goal
 

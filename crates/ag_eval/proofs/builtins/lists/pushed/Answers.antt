@@ -1,5 +1,5 @@
 use Rattle.std.proofs.Common.{◌≡◌, ◌∙◌, ◌++◌, ◌∷◌, [], ap}
-use Rattle.ag_grammar.proofs.values.Growing.{fits-pushed}
+use Rattle.ag_value.proofs.operations.Growing.{fits-pushed}
 use Rattle.ag_eval.proofs.builtins.lists.pushed.Goals as goal
 
 pub fit-requires : goal.fit-requires

@@ -1,6 +1,6 @@
 use Rattle.std.proofs.Common.{◌∙◌, subst}
 use Rattle.std.specs.Str.{IsUtf8}
-use Rattle.ag_grammar.proofs.values.Wells.{well_decimal}
+use Rattle.ag_value.proofs.operations.Wells.{well_decimal}
 use Rattle.ag_eval.proofs.builtins.numbers.decimal.Goals as goal
 
 pub returns-clause-well : goal.returns-clause-well

@@ -1,7 +1,7 @@
 use Rattle.std.proofs.Common.{◌∙◌, ap, sym}
 use Rattle.std.specs.Prelude.{option_copied}
-use Rattle.ag_grammar.specs.values.Tables.{pair_with}
-use Rattle.ag_grammar.proofs.values.Tables.{rising_table, well_got}
+use Rattle.ag_value.specs.operations.Tables.{pair_with}
+use Rattle.ag_value.proofs.operations.Tables.{rising_table, well_got}
 use Rattle.ag_eval.proofs.builtins.tables.get.Goals as goal
 
 pub pair_with-requires : goal.pair_with-requires

@@ -4,10 +4,10 @@ use Rattle.std.specs.List.{insert}
 use Rattle.ag_value.specs.Well.{IsWell, is_item}
 use Rattle.ag_value.specs.declared.value.Value.{Value}
 use Rattle.ag_value.specs.declared.value.Value.TheVariants as value
-use Rattle.ag_grammar.specs.values.Tables.{IsIndex, has_key}
-use Rattle.ag_grammar.proofs.values.Growing.{item_of}
+use Rattle.ag_value.specs.operations.Tables.{IsIndex, has_key}
+use Rattle.ag_value.proofs.operations.Growing.{item_of}
 use Rattle.ag_eval.proofs.Putting.{fits-inserted, inserts, item_with}
-use Rattle.ag_grammar.proofs.values.Tables.{rising_table}
+use Rattle.ag_value.proofs.operations.Tables.{rising_table}
 use Rattle.ag_eval.proofs.builtins.tables.put_pair.Goals as goal
 
 pub index_of-index-requires : goal.index_of-index-requires

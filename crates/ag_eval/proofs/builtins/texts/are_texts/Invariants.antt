@@ -1,6 +1,6 @@
 use Rattle.std.proofs.Common.{◌≡◌, drop}
 use Rattle.std.specs.List.{list_all}
-use Rattle.ag_grammar.specs.values.Texts.{is_text}
+use Rattle.ag_value.specs.operations.Texts.{is_text}
 use Rattle.ag_eval.proofs.builtins.texts.are_texts.Given as goal
 
 abbrev pub invariant-loop-item : goal.invariant-loop-item

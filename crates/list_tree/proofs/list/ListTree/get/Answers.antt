@@ -1,7 +1,7 @@
 use Rattle.std.proofs.Common.{◌∙◌, refl, sym, ap}
 use Rattle.std.specs.Prelude.{option_copied}
 use Rattle.ag_value.specs.declared.value.Value.TheVariants as v
-use Rattle.ag_grammar.proofs.values.Wells.{well_item}
+use Rattle.ag_value.proofs.operations.Wells.{well_item}
 use Rattle.list_tree.proofs.list.ListTree.get.Goals as goal
 
 pub returns-clause-well : goal.returns-clause-well

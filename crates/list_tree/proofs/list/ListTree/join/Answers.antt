@@ -5,7 +5,7 @@ use Rattle.ag_value.specs.declared.value.Value.TheVariants as v
 use Rattle.list_tree.specs.Lists.{IsList}
 use Rattle.list_tree.specs.declared.list.ListParts.{ListParts}
 use Rattle.list_tree.proofs.Lists.{few, light, together}
-use Rattle.ag_grammar.proofs.values.Growing.{weight-together}
+use Rattle.ag_value.proofs.operations.Growing.{weight-together}
 use Rattle.list_tree.proofs.list.ListTree.join.Goals as goal
 
 pub join-requires : goal.join-requires

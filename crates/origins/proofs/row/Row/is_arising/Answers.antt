@@ -1,6 +1,6 @@
 use Rattle.std.proofs.Common.{rules, ◌≡◌, None, ap, sym, ◌∙◌}
 use Rattle.ag_grammar.specs.expressions.Evaluation.{value_of}
-use Rattle.ag_grammar.specs.values.Arguments.{fault_of}
+use Rattle.ag_value.specs.operations.Arguments.{fault_of}
 use Rattle.origins.specs.Arising.{arises, environment, exchanged, is_same_error}
 use Rattle.origins.specs.Rows.{table_of}
 use Rattle.origins.proofs.Quiet.{occurrence_is_quiet}

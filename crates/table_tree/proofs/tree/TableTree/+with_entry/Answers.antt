@@ -1,6 +1,6 @@
 use Rattle.std.proofs.Common.{rules, ◌≡◌, ◌∙◌, ◌∷◌, ◌++◌, List, IfOk, ap, arith, subst, sym}
 use Rattle.std.specs.declared.cmp.Ordering.TheVariants.{Less, Equal, Greater}
-use Rattle.ag_grammar.specs.values.Tables.{with_pair}
+use Rattle.ag_value.specs.operations.Tables.{with_pair}
 use Rattle.ag_value.specs.Well.{IsWell}
 use Rattle.ag_value.specs.declared.value.Value.TheVariants as v
 use Rattle.table_tree.proofs.Keys.{Pair, order}

@@ -1,6 +1,6 @@
 use Rattle.std.proofs.Common.{◌≡◌, ◌∙◌, List, Some, None, ap, arith, subst, sym}
 use Rattle.std.proofs.lemmas.Str.{is_utf8-from_IsUtf8}
-use Rattle.ag_grammar.specs.values.Tables.{with_pair}
+use Rattle.ag_value.specs.operations.Tables.{with_pair}
 use Rattle.ag_value.proofs.Layers.{depth-Table, weight-Table}
 use Rattle.ag_value.specs.Well.{IsWell}
 use Rattle.ag_value.specs.declared.value.Value.TheVariants as v

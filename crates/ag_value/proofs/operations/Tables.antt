@@ -12,10 +12,10 @@ use Rattle.ag_value.specs.Well.{IsWell, all_true, are_keys, is_item, is_item_pai
 use Rattle.ag_value.proofs.Layers.{depth-List, depth-Table, depth-Text, item-List, item-Table, item-Text, weight-List}
 use Rattle.ag_value.proofs.Layers.{weight-Table, weight-Text}
 use Rattle.ag_value.proofs.Weights.{weight_positive}
-use Rattle.ag_grammar.specs.values.Arguments.{fault_at}
-use Rattle.ag_grammar.specs.values.Tables.{pair_with}
-use Rattle.ag_grammar.proofs.values.Growing.{item_of}
-use Rattle.ag_grammar.proofs.values.Wells.{all_in, formed, greatest_in, sum_in}
+use Rattle.ag_value.specs.operations.Arguments.{fault_at}
+use Rattle.ag_value.specs.operations.Tables.{pair_with}
+use Rattle.ag_value.proofs.operations.Growing.{item_of}
+use Rattle.ag_value.proofs.operations.Wells.{all_in, formed, greatest_in, sum_in}
 
 abbrev pub Pair : Type 0
 Pair = List ℕ × Value

@@ -17,9 +17,9 @@ use Rattle.std.proofs.lemmas.List.Sums.{sum_by-cons}
 use Rattle.std.proofs.lemmas.Option.{same_Some}
 use Rattle.ag_value.specs.declared.value.ErrorCode.TheVariants.{Big}
 use Rattle.ag_value.specs.Measure.{depth_of, greatest, max_value_depth, max_weight, weight_of}
-use Rattle.ag_grammar.specs.values.Fitting.{fit}
-use Rattle.ag_grammar.specs.values.Lists.{item_at}
-use Rattle.ag_grammar.proofs.values.Growing.{items_of}
+use Rattle.ag_value.specs.operations.Fitting.{fit}
+use Rattle.ag_value.specs.operations.Lists.{item_at}
+use Rattle.ag_value.proofs.operations.Growing.{items_of}
 use Rattle.ag_value.specs.Well.{IsWell, all_true, is_fault, is_item}
 use Rattle.ag_value.proofs.Layers.{depth-List, depth-Text, item-Text, weight-List, weight-Table, weight-Text}
 use Rattle.ag_value.proofs.Weights.{few_items, few_pairs}

@@ -12,8 +12,8 @@ use Rattle.ag_value.specs.declared.value.Value.TheVariants.{rolls-Num, rolls-Tex
 use Rattle.ag_value.specs.Measure.{depth_of, greatest, weight_of}
 use Rattle.ag_value.specs.Well.{IsWell, all_true, fault_step, is_fault, is_item}
 use Rattle.ag_value.proofs.Layers.{depth-List, item-List, weight-List}
-use Rattle.ag_grammar.specs.values.Arguments.{fault_at, fault_of}
-use Rattle.ag_grammar.specs.values.Fitting.{IsGathered}
+use Rattle.ag_value.specs.operations.Arguments.{fault_at, fault_of}
+use Rattle.ag_value.specs.operations.Fitting.{IsGathered}
 
 no_fault-List : (items : List Value) → is_fault (v.List items) ≡ false
 no_fault-List items = ap is_fault (sym (rolls-List items)) ∙ fold-roll-Value Bool fault_step (Value-F.List items)

@@ -6,8 +6,8 @@ use Rattle.ag_value.specs.declared.value.Value.{Value, out-Value}
 use Rattle.ag_value.specs.declared.value.Value.TheOpen.{Value-F}
 use Rattle.ag_value.specs.declared.value.Value.TheVariants as value
 use Rattle.ag_value.specs.Well.{is_before}
-use Rattle.ag_grammar.specs.values.Arguments.{truth}
-use Rattle.ag_grammar.specs.values.Fitting.{fit}
+use Rattle.ag_value.specs.operations.Arguments.{truth}
+use Rattle.ag_value.specs.operations.Fitting.{fit}
 
 -- the first pair with this key
 abbrev pub pair_with : List ℕ → List (List ℕ × Value) → Option (List ℕ × Value)

@@ -4,8 +4,8 @@ use Rattle.ag_value.specs.declared.value.ErrorCode.TheVariants.{Kind, Index}
 use Rattle.ag_value.specs.declared.value.Value.{Value, out-Value}
 use Rattle.ag_value.specs.declared.value.Value.TheOpen.{Value-F}
 use Rattle.ag_value.specs.declared.value.Value.TheVariants as value
-use Rattle.ag_grammar.specs.values.Arguments.{strict}
-use Rattle.ag_grammar.specs.values.Fitting.{fit}
+use Rattle.ag_value.specs.operations.Arguments.{strict}
+use Rattle.ag_value.specs.operations.Fitting.{fit}
 
 -- `[a, ..]`
 abbrev pub listed : List Value → Value
