@@ -15,8 +15,8 @@ use Rattle.llparse.specs.declared.table.fault.TableFault.{TableFault}
 use Rattle.llparse.specs.declared.table.fault.TableFault.TheVariants as table
 use Rattle.normalform.specs.declared.fault.NormalFault.{NormalFault}
 use Rattle.normalform.specs.declared.fault.NormalFault.TheVariants as normal
-use Rattle.passrun.specs.declared.run_fault.RunFault.{RunFault}
-use Rattle.passrun.specs.declared.run_fault.RunFault.TheVariants as run
+use Rattle.pass_rows.specs.declared.run_fault.RunFault.{RunFault}
+use Rattle.pass_rows.specs.declared.run_fault.RunFault.TheVariants as run
 use Rattle.roottext.specs.declared.fault.OutFault.{OutFault}
 use Rattle.roottext.specs.declared.fault.OutFault.TheVariants as out
 use Rattle.treefile.specs.declared.device.DeviceFault.{DeviceFault}

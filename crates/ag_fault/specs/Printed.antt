@@ -8,7 +8,7 @@ use Rattle.ag_scan.specs.Printed.{printed as printed_scan}
 use Rattle.ag_text.specs.Printed.{printed as printed_text}
 use Rattle.llparse.specs.Printed.{printed as printed_parse, printed_table}
 use Rattle.normalform.specs.Printed.{printed as printed_normal}
-use Rattle.passrun.specs.Printed.{printed as printed_run}
+use Rattle.pass_rows.specs.Printed.{printed as printed_run}
 use Rattle.ag_fault.specs.declared.fault.Fault.{Fault}
 use Rattle.ag_fault.specs.declared.fault.Fault.TheVariants as fault
 use Rattle.ag_fault.specs.declared.stuck_grammar.StuckGrammar.{StuckGrammar}

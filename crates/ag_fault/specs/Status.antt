@@ -7,7 +7,7 @@ use Rattle.ag_text.specs.declared.fault.TextFault.TheVariants as text
 use Rattle.llparse.specs.declared.sentence.parse_fault.ParseFault.TheVariants as parse
 use Rattle.llparse.specs.declared.table.fault.TableFault.TheVariants as table
 use Rattle.normalform.specs.declared.fault.NormalFault.TheVariants as normal
-use Rattle.passrun.specs.declared.run_fault.RunFault.TheVariants as run
+use Rattle.pass_rows.specs.declared.run_fault.RunFault.TheVariants as run
 use Rattle.ag_fault.specs.declared.fault.Fault.{Fault}
 use Rattle.ag_fault.specs.declared.fault.Fault.TheVariants as fault
 

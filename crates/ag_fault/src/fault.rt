@@ -17,7 +17,7 @@ use ag_value::{NoMemory, Value};
 use agoutput::{ListingFault, TextOutFault};
 use llparse::{ParseFault, TableFault};
 use normalform::NormalFault;
-use passrun::RunFault;
+use pass_rows::RunFault;
 use roottext::OutFault;
 use std::alloc::AllocError;
 use treefile::{DeviceFault, FileFault, FrameFault};

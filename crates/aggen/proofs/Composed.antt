@@ -22,8 +22,8 @@ use Rattle.aggen.specs.Sentences.{IsTreeOfSentence}
 use Rattle.agoutput.specs.Writing.{AppendsBeginning}
 use Rattle.passrun.specs.declared.passing.ends.Passed.{Passed}
 use Rattle.aggen.specs.declared.translations.report.Report.{Report}
-use Rattle.passrun.specs.declared.run_fault.RunFault.{RunFault}
-use Rattle.passrun.specs.declared.run_fault.RunFault.TheVariants as run
+use Rattle.pass_rows.specs.declared.run_fault.RunFault.{RunFault}
+use Rattle.pass_rows.specs.declared.run_fault.RunFault.TheVariants as run
 use Rattle.roottext.specs.declared.fault.OutFault.{OutFault}
 use Rattle.roottext.specs.declared.fault.OutFault.TheVariants as out
 use Rattle.ag_fault.specs.Faults.{out_fault_of, run_fault_of}

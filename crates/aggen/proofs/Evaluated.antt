@@ -30,8 +30,8 @@ use Rattle.passcode.specs.Settings.{setting_of}
 use Rattle.passrun.specs.declared.passing.ends.Passed.{Passed}
 use Rattle.passrun.specs.declared.last.Last.{Last}
 use Rattle.passrun.specs.declared.last.Last.TheVariants.{A, B}
-use Rattle.passrun.specs.declared.run_fault.RunFault.{RunFault}
-use Rattle.passrun.specs.declared.run_fault.RunFault.TheVariants as run
+use Rattle.pass_rows.specs.declared.run_fault.RunFault.{RunFault}
+use Rattle.pass_rows.specs.declared.run_fault.RunFault.TheVariants as run
 use Rattle.passrun.specs.passing.Ahead.{IsRunFault}
 use Rattle.passrun.specs.Passed.{IsPassed}
 use Rattle.passrun.specs.Rounds.{HasRunAll, last_content, other_content, other_last}

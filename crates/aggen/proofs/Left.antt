@@ -10,8 +10,8 @@ use Rattle.ag_job.specs.declared.fault.JobFault.{JobFault}
 use Rattle.ag_job.specs.declared.fault.JobFault.TheVariants as job
 use Rattle.ag_scan.specs.declared.fault.ScanFault.{ScanFault}
 use Rattle.ag_scan.specs.declared.fault.ScanFault.TheVariants as scan
-use Rattle.passrun.specs.declared.run_fault.RunFault.{RunFault}
-use Rattle.passrun.specs.declared.run_fault.RunFault.TheVariants as run
+use Rattle.pass_rows.specs.declared.run_fault.RunFault.{RunFault}
+use Rattle.pass_rows.specs.declared.run_fault.RunFault.TheVariants as run
 use Rattle.roottext.specs.declared.fault.OutFault.{OutFault}
 use Rattle.roottext.specs.declared.fault.OutFault.TheVariants as out
 use Rattle.treefile.specs.devices.Device.{WhenHonest}
@@ -25,7 +25,7 @@ use Rattle.treefile.specs.declared.device.DeviceFault.TheVariants as device
 use Rattle.treefile.proofs.records.FirstFile.{unassigned_from_one}
 use Rattle.treefile.proofs.records.Records.{file_fits}
 use Rattle.treefile.proofs.records.Texts.{texts_are_given}
-use Rattle.passrun.proofs.upgrades.Upgraded.{room}
+use Rattle.tree_upgrade.proofs.upgrades.Upgraded.{room}
 use Rattle.aggen.specs.Checking.{IsGrammarOf}
 use Rattle.aggen.specs.Evaluating.{IsTreeFaultBeforeText, LeavesFilesOfTree}
 use Rattle.aggen.specs.Jobs.{HasJob, LeavesLastFilesOfJob}

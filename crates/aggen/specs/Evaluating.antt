@@ -10,8 +10,8 @@ use Rattle.passassign.specs.Rows.{IsGreatest, passes_of}
 use Rattle.passcode.specs.Rows.{Lists}
 use Rattle.passcode.specs.Settings.{setting_of}
 use Rattle.passrun.specs.Damage.{Shows, source}
-use Rattle.passrun.specs.declared.run_fault.RunFault.{RunFault}
-use Rattle.passrun.specs.declared.run_fault.RunFault.TheVariants as run
+use Rattle.pass_rows.specs.declared.run_fault.RunFault.{RunFault}
+use Rattle.pass_rows.specs.declared.run_fault.RunFault.TheVariants as run
 use Rattle.passrun.specs.Rounds.{LeavesSolution, last_content}
 use Rattle.treefile.specs.devices.Device.{WhenHonest}
 use Rattle.aggen.specs.Building.{IsLeastPlan}

@@ -1,7 +1,7 @@
 -- The meaning of a fault of the conversion of an old tree file. All of this is this project's.
 use Rattle.std.specs.Prelude.{ℕ, Bool, List}
 use Rattle.ag_grammar.specs.grammars.AttributeGrammar.{Grammar}
-use Rattle.passrun.specs.upgrading.Upgrading.{IsUpgradeFault}
+use Rattle.tree_upgrade.specs.upgrading.Upgrading.{IsUpgradeFault}
 use Rattle.treefile.specs.devices.Device.{WhenHonest}
 use Rattle.ag_fault.specs.declared.fault.Fault.{Fault}
 use Rattle.ag_fault.specs.declared.fault.Fault.TheVariants as fault

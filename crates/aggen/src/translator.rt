@@ -25,7 +25,7 @@ ghost use Rattle.aggen.specs.Translating.{LeavesLastFiles, TranslatesSentence};
 ghost use Rattle.aggen.specs.Translation.{BeginsText, WritesText};
 ghost use Rattle.aggen.specs.Upgrading.{IsOldFileFault};
 ghost use Rattle.passrun.specs.Rounds.{LeavesSomeFile};
-ghost use Rattle.passrun.specs.upgrading.Upgrading.{IsUpgraded};
+ghost use Rattle.tree_upgrade.specs.upgrading.Upgrading.{IsUpgraded};
 
 use crate::checking::grammar_of;
 use crate::translations::report::Report;
@@ -37,11 +37,11 @@ use agoutput::write_text;
 use llparse::{Tables, parse, tables};
 use passassign::{AssignFault, Assignment, assign};
 use passcode::generate;
-use passrun::upgrade;
 use planchecker::{Plan, check_plan};
 use std::alloc::Global;
 use std::io::Write;
 use std::marker::Model;
+use tree_upgrade::upgrade;
 use treefile::{Device, Writer};
 
 /// A grammar with its look-ahead tables and its plan. An invariant is that the tables fit the

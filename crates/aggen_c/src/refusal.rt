@@ -7,7 +7,7 @@ ghost use Rattle.aggen_c.specs.Refusals.{no_fields, numbers, numbers_of};
 use crate::buffers::copy_prefix;
 use crate::number::{NO_OFFSET, number_of, offset_of};
 use ag_fault::{Fault, status};
-use message_texts::{Location, Position};
+use message_parts::{Location, Position};
 use messages::FaultReport;
 use std::alloc::Global;
 

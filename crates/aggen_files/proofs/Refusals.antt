@@ -2,7 +2,7 @@
 use Rattle.std.proofs.Common.{◌≡◌, inl, inr, List, ℕ, Bool, true, Result, Ok, Err, refl, sym, subst}
 use Rattle.std.specs.Result.{IfOk, OnErr}
 use Rattle.ag_grammar.specs.grammars.AttributeGrammar.{Grammar}
-use Rattle.passrun.specs.upgrading.Upgrading.{IsUpgraded}
+use Rattle.tree_upgrade.specs.upgrading.Upgrading.{IsUpgraded}
 use Rattle.treefile.specs.devices.Device.{LeavesContent, WhenHonest}
 use Rattle.treefile.specs.framing.Beginning.{LeavesBeginning}
 use Rattle.ag_fault.specs.declared.fault.Fault.{Fault}

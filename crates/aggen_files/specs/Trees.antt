@@ -2,7 +2,7 @@
 use Rattle.std.specs.Prelude.{ℕ, ◌≡◌, ◌⊎◌, List, Bool, true, Option}
 use Rattle.ag_grammar.specs.grammars.AttributeGrammar.{Grammar}
 use Rattle.ag_grammar.specs.grammars.Tree.{Tree, node_count}
-use Rattle.passrun.specs.upgrading.Upgrading.{IsUpgraded}
+use Rattle.tree_upgrade.specs.upgrading.Upgrading.{IsUpgraded}
 use Rattle.treefile.specs.devices.Device.{WhenHonest}
 use Rattle.treefile.specs.records.FirstFile.{IsFirstFile}
 use Rattle.treefile.specs.records.TreeFile.{version_two}

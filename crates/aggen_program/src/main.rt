@@ -20,13 +20,14 @@ use command_line::{CommandLine, CommandLineFault, Request};
 use listings::{Part, print_part, print_value};
 use messages::FaultReport;
 use program_io::fault_or;
+use screen::Screen;
 use std::alloc::{AllocError, Global};
 use std::fs;
 use std::io::IsTerminal;
 use std::process::ExitCode;
 use std::rt::{Clock, Env, Files};
 use translation_commands::{
-    Screen, convert_file, evaluate, parse_file, run_input, run_sentence, run_sentences,
+    convert_file, evaluate, parse_file, run_input, run_sentence, run_sentences,
 };
 use tree_commands::{explain_tree, show_tree};
 use why::explain_plan;

@@ -2,10 +2,8 @@
 
 use ag_expr::ExpectedPart as Part;
 use ag_text::Expected;
+use message_parts::display::END;
 use std::alloc::AllocError;
-
-/// How a message names the end of a text or a sentence.
-pub const END: &str = "the end of the text";
 
 /// Returns the separator after an item of a list, by the number of items that remain.
 pub fn separator_before(remaining: usize) -> &'static str {

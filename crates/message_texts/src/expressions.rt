@@ -1,14 +1,14 @@
 //! Faults of expressions.
 
-use crate::display::{FoundText, begins_with};
 use crate::expected::write_expected;
+use crate::found::begins_with;
 use crate::hints::Context;
-use crate::parts::{Location, Parts};
-use crate::position::Position;
 use ag_expr::{ExpectedPart as Part, ExprFault, expected_at};
 use ag_grammar::limits::{MAX_EXPR_LEVELS, MAX_PLACE};
 use ag_text::Expected;
 use ag_value::NoMemory;
+use message_parts::display::FoundText;
+use message_parts::{Location, Parts, Position};
 use std::alloc::{AllocError, Global};
 
 /// What is wrong with a name where an operand is expected.

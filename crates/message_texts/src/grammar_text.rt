@@ -1,9 +1,8 @@
 //! A grammar's text, read again for a message: a fault has offsets and numbers, and its message names.
 
-use crate::parts::Location;
-use crate::position::Source;
 use ag_grammar::{Grammar, RawGrammar};
 use ag_text::read_grammar;
+use message_parts::{Location, Source};
 use normalform::{check, is_readable};
 use std::alloc::Global;
 

@@ -1,6 +1,6 @@
 //! Hints for writers who are used to other languages: what they may have meant where a text is refused.
 
-use crate::display::{begins_with, found_at};
+use crate::found::{begins_with, found_at};
 use ag_expr::{Cursor, ExpectedPart as Part, GrammarToken};
 use ag_text::Expected;
 

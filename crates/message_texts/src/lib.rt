@@ -7,18 +7,13 @@
 //! that control a terminal are written as escapes, such as `\u{1b}`.
 #![tactic(auto)]
 
-pub mod display;
 pub mod expected;
 pub mod expressions;
+pub mod found;
 pub mod grammar_text;
 pub mod grammars;
 pub mod hints;
-pub mod parts;
-pub mod position;
 pub mod sentences;
 pub mod terminals;
 pub mod trees;
 pub mod values;
-
-pub use parts::{Location, Parts};
-pub use position::{Position, Source};

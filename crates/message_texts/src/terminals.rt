@@ -1,10 +1,10 @@
 //! The terminals of a grammar, by their names.
 
-use crate::display::{MAX_NAMED, PlainText};
-use crate::expected::{END, separator_before};
-use ag_grammar::limits::{NAME, NUMBER};
+use crate::expected::separator_before;
 use ag_grammar::{Grammar, Terminal};
 use llparse::Ahead;
+use message_parts::classes::class_name;
+use message_parts::display::{END, MAX_NAMED, PlainText};
 use std::alloc::AllocError;
 
 /// Writes a terminal (a literal by its text, a class by its name) or the end of the sentence.
@@ -18,15 +18,6 @@ pub fn write_ahead(out: &mut String, grammar: &Grammar, ahead: Ahead) -> Result<
         }
         Ahead::Terminal(Terminal::Class(number)) => write!(out, "a {}", class_name(number)),
         Ahead::End => out.push_str(END),
-    }
-}
-
-/// Returns the name of a class of tokens.
-pub fn class_name(number: u16) -> &'static str {
-    match number {
-        NAME => "NAME",
-        NUMBER => "NUMBER",
-        _ => "TEXT",
     }
 }
 

@@ -1,8 +1,8 @@
 //! Translations that are not texts.
 
-use crate::display::{FoundText, GroupedNumber};
-use crate::parts::Parts;
 use ag_value::{ErrorCode, MAX_WEIGHT, Value, show};
+use message_parts::Parts;
+use message_parts::display::{FoundText, GroupedNumber};
 use std::alloc::{AllocError, Global};
 
 /// The greatest number of bytes of a text that is a value. The spelling of a text in a tree file has 5 bytes more,

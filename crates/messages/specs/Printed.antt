@@ -3,11 +3,11 @@ use Rattle.std.specs.Prelude.{ℕ, List, [], ◌++◌, ◌==◌, Option, Some, N
 use Rattle.std.specs.Prelude.{string_bytes}
 use Rattle.std.specs.declared.alloc.Global.{Global}
 use Rattle.ag_fault.specs.Printed.{printed}
-use Rattle.message_texts.specs.Printed.{position_text}
-use Rattle.message_texts.specs.declared.parts.Location.{Location}
-use Rattle.message_texts.specs.declared.parts.Location.TheVariants as location
-use Rattle.message_texts.specs.declared.parts.Parts.{Parts}
-use Rattle.message_texts.specs.declared.position.Position.{Position}
+use Rattle.message_parts.specs.Printed.{position_text}
+use Rattle.message_parts.specs.declared.parts.Location.{Location}
+use Rattle.message_parts.specs.declared.parts.Location.TheVariants as location
+use Rattle.message_parts.specs.declared.parts.Parts.{Parts}
+use Rattle.message_parts.specs.declared.position.Position.{Position}
 use Rattle.messages.specs.declared.report.FaultReport.{FaultReport}
 
 -- a position with its file as editors read it, as in ` (grammar.ag:4:47)`, or without one

@@ -6,7 +6,7 @@ ghost use Rattle.messages.specs.Printed.{file_text, first_separator, location_te
 ghost use Rattle.messages.specs.Printed.{part_text, parts_text, place_text};
 
 use crate::report::FaultReport;
-use message_texts::{Location, Parts, Position};
+use message_parts::{Location, Parts, Position};
 use std::fmt;
 
 /// Prints `N8 at 95 (grammar.ag:4:47): ..`: the fault, the position, and after a colon what was expected,

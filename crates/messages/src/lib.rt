@@ -11,6 +11,6 @@ mod display;
 mod refusals;
 mod report;
 
-pub use message_texts::{Position, Source};
+pub use message_parts::{Position, Source};
 pub use refusals::ConvertedPaths;
 pub use report::FaultReport;

@@ -6,6 +6,7 @@ use crate::report::FaultReport;
 use ag_fault::Fault;
 use ag_grammar::Grammar;
 use llparse::Tables;
+use message_parts::{Location, Parts, Source};
 use message_texts::expressions::{describe_expression, locate_in_expression};
 use message_texts::grammar_text::GrammarText;
 use message_texts::grammars::conflicts::{describe_conflict, locate_conflict};
@@ -16,8 +17,7 @@ use message_texts::sentences::parsing::{ParsedSentence, describe_parse, locate_i
 use message_texts::sentences::scanning::{describe_scan, locate_token};
 use message_texts::trees::damage::{TreeFormat, describe_damage};
 use message_texts::values::describe_value;
-use message_texts::{Location, Parts, Source};
-use passrun::RunFault;
+use pass_rows::RunFault;
 use std::alloc::{AllocError, Global};
 use treefile::{Device, FileVersion};
 

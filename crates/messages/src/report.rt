@@ -1,8 +1,8 @@
 //! The report of a fault, which prints as one line.
 
 use ag_fault::Fault;
-use message_texts::display::PlainText;
-use message_texts::{Location, Parts};
+use message_parts::display::PlainText;
+use message_parts::{Location, Parts};
 use std::alloc::{AllocError, Global};
 
 /// The report of a fault.

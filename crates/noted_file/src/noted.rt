@@ -1,9 +1,9 @@
-//! A file that records the calls made on it. Each method of `NotedFile` makes one call to the
-//! operating system, and then adds one entry with the result to the record. `read_at` makes two: it
-//! moves the position in the file, and reads. An `open` that fails records nothing. One clause says
-//! what the file itself received: `taken` of `append`, where a contract can name the file's bytes.
-//! No other clause can say that an operation was performed as recorded: a reviewer has to compare
-//! the two in each body.
+//! A file that records the calls made on it. Each method of `NotedFile` performs one operation on
+//! the file by calls of the standard library (`read_at` by two: it moves the position in the file,
+//! and reads), and then adds one entry with the result to the record. An `open` that fails records
+//! nothing. One clause says what the file itself received: `taken` of `append`, where a contract
+//! can name the file's bytes. No other clause can say that an operation was performed as recorded:
+//! a reviewer has to compare the two in each body.
 ghost use Rattle.std.specs.Prelude.{◌≡◌, ◌∷◌, true, false, is_ok, length, IfOk, MatchResult, OnOk};
 ghost use Rattle.std.specs.Io.KnownBytes.{Appends};
 ghost use Rattle.noted_file.specs.Calls.{append_event, length_event, open_event, read_event};

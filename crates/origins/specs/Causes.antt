@@ -32,8 +32,8 @@ is_still r e n =
     is_same_error (fault_of (value_of r.expr.0 (environment r e)))
     (fault_of (value_of r.expr.0 (exchanged_below n (environment r e))))
 
--- A rule's error is passed on from argument k, from 0. If the errors among the arguments before k are replaced by others, the
--- rule has the same error. If the error of argument k is replaced as well, the rule does not have this error.
+-- Argument k (counted from 0) passes its error on to a rule. If the errors among the arguments before k are replaced by others,
+-- the rule has the same error. If the error of argument k is replaced as well, the rule does not have this error.
 pub record IsSource (r : Rule) (e : Table) (k : ℕ) : Type 0 where
   pub before : is_still r e k ≡ true
   pub after : is_still r e (suc k) ≡ false
@@ -71,8 +71,8 @@ pub data HasCause (g : Grammar) (t : Tree) (v : Valuation) : List ℕ → ℕ �
       → slice_get r.args k ≡ Some o → HasCause g t v (place_path path o.place) o.attr
       → HasCause g t v (place_path path r.target.place) r.target.attr
 
--- R holds of the path of each node of a tree and the list of the passes of the node's attributes; for a token this list is the
--- one pass 0, that of its `lex`
+-- R holds of the path of each node of a tree and a list with the pass of each attribute of the node. (The list says which
+-- attributes the node has.) For a token it is the list of the one pass 0, that of its `lex`.
 abbrev mutual
   pub HoldsAt : (List ℕ → List ℕ → Type 0) → Grammar → Passes → Tree → List ℕ → Type 0
   HoldsAt R g m (leaf c x) path = R path (0 ∷ [])

@@ -67,8 +67,8 @@ pub record Continues (base : ℕ → Value) (a : Known) (others : List (Operator
   pub holds : (env : ℕ → Value) (bound : List Value) (v : Value) → AreAlike base env → Holds env a v
       → Holds env r (chain_value env bound v (map (λ p. (p.0, value_in p.1)) others))
 
--- In a chain, a is known of the value before the operands `others`, and b of the value before `rest`, the last of these operands.
--- If b and `rest` show that r is known of the whole chain, then so do a and `others`.
+-- In a chain, a is known of the value before the operands `others`, and b of the value before `rest`, the last few of these
+-- operands. If b and `rest` show that r is known of the whole chain, then so do a and `others`.
 pub record Reaches (base : ℕ → Value) (a : Known) (others : List (Operator × Node)) (b : Known) (rest : List (Operator × Node))
     : Type 0 where
   pub onward : (r : Known) → Continues base b rest r → Continues base a others r

@@ -102,8 +102,7 @@ AreOpen g m k (o ∷ os) (f ∷ fs) =
     × SolvesAll NoRule g f.trees f.values × AtEachNodeOf (WellAt (λ p. p ≤ k)) g m f.trees f.values f.values
     × (o.children ≡ length (stored_items q.items)) × AreOpen g m k os fs
 
--- The path, the second argument, does not come before the first origin that was found, the first argument. False if none
--- was found.
+-- An origin was found, and `path` does not come before the first one that was found, the argument of type `Option`
 abbrev pub IsNotBefore : Option (List ℕ) → List ℕ → Type 0
 IsNotBefore None path = ⊥
 IsNotBefore (Some first) path = is_before path first ≡ false

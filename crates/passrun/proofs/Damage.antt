@@ -20,8 +20,8 @@ use Rattle.treefile.proofs.framing.Way.{no_file_has_no_tree, one_record, reading
 use Rattle.treefile.proofs.framing.Way.{reading_is_too_long}
 use Rattle.passcode.specs.Settings.{Setting}
 use Rattle.passcode.specs.Sound.{IsSound}
-use Rattle.passrun.specs.declared.run_fault.RunFault.{RunFault}
-use Rattle.passrun.specs.declared.run_fault.RunFault.TheVariants as fault
+use Rattle.pass_rows.specs.declared.run_fault.RunFault.{RunFault}
+use Rattle.pass_rows.specs.declared.run_fault.RunFault.TheVariants as fault
 use Rattle.passrun.specs.Damage.{BreaksAt, ArrivesAt, ExceedsDepth, ExceedsNodes, HasTooManyNodes, IsDamaged, IsReadable}
 use Rattle.passrun.specs.Damage.{IsTooDeep, IsWithin, Leaves, Shows, Source, source}
 use Rattle.passrun.specs.Laws.{ShowsOnce}

@@ -1,8 +1,6 @@
-pub mod upgrades
 pub mod course
 pub mod Damage
 pub mod places
-pub mod Recorded
 pub mod Refusing
 pub mod steps
 pub mod RecordedPasses

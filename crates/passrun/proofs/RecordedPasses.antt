@@ -18,8 +18,8 @@ use Rattle.treefile.specs.records.TreeFile.{version_two}
 use Rattle.treefile.proofs.records.Fitting.{fits_version_two}
 use Rattle.treefile.proofs.records.OneTree.{one_file}
 use Rattle.treefile.proofs.Run.{refusal_goes_back, refusal_within_goes_back}
-use Rattle.passrun.specs.declared.run_fault.RunFault.{RunFault}
-use Rattle.passrun.specs.declared.run_fault.RunFault.TheVariants as fault
+use Rattle.pass_rows.specs.declared.run_fault.RunFault.{RunFault}
+use Rattle.pass_rows.specs.declared.run_fault.RunFault.TheVariants as fault
 use Rattle.passrun.specs.passing.Ahead.{IsRunFault}
 use Rattle.passrun.specs.Laws.{PassesAreRecorded}
 use Rattle.passrun.specs.Passed.{IsPassed}

@@ -22,17 +22,17 @@ use Rattle.backreader.specs.BackState.{BackState}
 use Rattle.passcode.specs.declared.instr.Instr.TheVariants as instr
 use Rattle.passcode.specs.Settings.{Setting, list_at}
 use Rattle.passcode.specs.Sound.{IsSound}
-use Rattle.passrun.specs.declared.layouts.building.PlaceRow.{PlaceRow}
+use Rattle.pass_rows.specs.declared.layouts.building.PlaceRow.{PlaceRow}
 use Rattle.passrun.specs.declared.passing.machine.Machine.{Machine}
-use Rattle.passrun.specs.declared.passing.open_node.OpenNode.{OpenNode}
-use Rattle.passrun.specs.declared.run_fault.RunFault.{RunFault}
+use Rattle.pass_rows.specs.declared.open_node.OpenNode.{OpenNode}
+use Rattle.pass_rows.specs.declared.run_fault.RunFault.{RunFault}
 use Rattle.passrun.specs.passing.Ahead.{IsRunFault}
 use Rattle.passrun.specs.Damage.{AreRecords, ArrivesAt, IsDamaged, IsReadable, source}
 use Rattle.passrun.specs.passing.Ends.{RunsBetween}
-use Rattle.passrun.specs.Faults.{run_fault_of_frame}
+use Rattle.pass_rows.specs.Faults.{run_fault_of_frame}
 use Rattle.passrun.specs.reading.Fetching.{HasFetched, IsUnfetched}
-use Rattle.passrun.specs.passing.Places.{copied_passes, copies}
-use Rattle.passrun.specs.reading.Reading.{Agrees, IsRead, read_values}
+use Rattle.pass_rows.specs.Places.{copied_passes, copies}
+use Rattle.pass_rows.specs.reading.Reading.{Agrees, IsRead, read_values}
 use Rattle.passrun.specs.passing.Running.{RunsFrom}
 use Rattle.passrun.proofs.course.Ahead.{disagreed, unfetched}
 use Rattle.passrun.proofs.Damage.{broken, decidable, unstarted}

@@ -12,8 +12,8 @@ use Rattle.treefile.specs.framing.Ending.{is_tree_file}
 use Rattle.treefile.specs.records.TreeFile.{Version, version_two}
 use Rattle.treefile.specs.Worked.{binary, binary_passes}
 use Rattle.passcode.specs.Settings.{Setting}
-use Rattle.passrun.specs.declared.run_fault.RunFault.{RunFault}
-use Rattle.passrun.specs.declared.run_fault.RunFault.TheVariants as fault
+use Rattle.pass_rows.specs.declared.run_fault.RunFault.{RunFault}
+use Rattle.pass_rows.specs.declared.run_fault.RunFault.TheVariants as fault
 
 -- How a file is read: its version, the grammar of the tree, the passes of the attributes, the number of the
 -- file's pass, and the limits of the tree's levels and of its nodes.

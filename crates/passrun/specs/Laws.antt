@@ -15,12 +15,12 @@ use Rattle.treefile.specs.records.Records.{IsFileOfTree}
 use Rattle.treefile.specs.Runs.{RunsPass}
 use Rattle.treefile.specs.records.TreeFile.{version_two}
 use Rattle.passrun.specs.declared.passing.ends.Passed.{Passed}
-use Rattle.passrun.specs.declared.layouts.context.PassContext.{PassContext}
+use Rattle.pass_rows.specs.declared.layouts.context.PassContext.{PassContext}
 use Rattle.passrun.specs.declared.last.Last.{Last}
-use Rattle.passrun.specs.declared.run_fault.RunFault.{RunFault}
+use Rattle.pass_rows.specs.declared.run_fault.RunFault.{RunFault}
 use Rattle.passrun.specs.Damage.{Shows, Source}
-use Rattle.passrun.specs.layouts.Contexts.{CanRun, setting}
-use Rattle.passrun.specs.layouts.Layouts.{IsLayout}
+use Rattle.pass_rows.specs.layouts.Contexts.{CanRun, setting}
+use Rattle.pass_rows.specs.layouts.Layouts.{IsLayout}
 use Rattle.passrun.specs.Passed.{IsPassed}
 use Rattle.passrun.specs.Rounds.{HasRunAll}
 

@@ -1,11 +1,6 @@
 pub mod Damage
-pub mod Faults
 pub mod Laws
-pub mod layouts
 pub mod Passed
 pub mod passing
-pub mod Printed
 pub mod reading
 pub mod Rounds
-pub mod Settings
-pub mod upgrading

@@ -16,7 +16,7 @@ use Rattle.treefile.specs.records.TreeFile.{frame, header, version_two}
 use Rattle.treefile.specs.framing.Writing as writing
 use Rattle.backreader.specs.BackState.{IsOver, BackState}
 use Rattle.passcode.specs.Settings.{Setting}
-use Rattle.passrun.specs.declared.passing.open_node.OpenNode.{OpenNode}
+use Rattle.pass_rows.specs.declared.open_node.OpenNode.{OpenNode}
 use Rattle.passrun.specs.Damage.{AreRecords, IsReadable, source}
 use Rattle.passrun.specs.passing.RunInvariant.{RunInvariant, Transcript}
 

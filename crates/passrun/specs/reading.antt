@@ -1,3 +1,2 @@
 -- Reading records from a tree file.
 pub mod Fetching
-pub mod Reading

@@ -2,8 +2,7 @@
 //! backward, computes the attributes of the pass, and writes the file of the pass (after Jazayeri
 //! and Walter 1975). All passes run in sequence, alternating between two devices. Of the tree, a
 //! pass keeps only the values of the nodes on the path from the root to the current node, and of
-//! their children; the tree files are on the devices. The crate also upgrades tree files of
-//! version 1.
+//! their children; the tree files are on the devices.
 //!
 //! Words of this crate, in pass k:
 //!
@@ -26,22 +25,14 @@
 //! - *Level*: 1 for the root; a child's level is one more than its parent's.
 #![tactic(auto)]
 
-mod display;
 mod last;
 pub mod laws;
-mod layouts;
 mod passes;
 mod passing;
 mod reading;
-mod run_fault;
-mod setting;
-mod upgrading;
 
 pub use last::Last;
+pub use pass_rows::{RecordFault, RunFault, Setting, node_in, read_node, text_in};
 pub use passes::run_all;
 pub use passing::ends::Passed;
 pub use passing::pass::run_pass;
-pub use reading::record::{RecordFault, read_node};
-pub use run_fault::RunFault;
-pub use setting::Setting;
-pub use upgrading::upgrade;

@@ -4,7 +4,6 @@ pub mod copying;
 pub mod ends;
 pub mod evaluating;
 pub mod machine;
-pub mod open_node;
 pub mod pass;
 pub mod putting;
 pub mod run;

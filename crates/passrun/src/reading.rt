@@ -1,5 +1,3 @@
 //! Reading the records of a tree file.
 
 pub mod fetching;
-pub mod lent;
-pub mod record;

@@ -1,3 +1,2 @@
 pub mod Linked
 pub mod Listed
-pub mod Named

@@ -1,3 +1,2 @@
 pub mod Hints
 pub mod Links
-pub mod Names

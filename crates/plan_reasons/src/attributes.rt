@@ -1,20 +1,15 @@
-//! Attributes of symbols, by their numbers and by their names.
+//! Attributes of symbols: how they print, and the list of all.
 
-ghost use Rattle.std.specs.Prelude.{◌≡◌, ◌≤◌, ◌↔◌, IfOk, IfSome, IsTrue, Some, length, slice_get};
+ghost use Rattle.std.specs.Prelude.{◌≤◌, length};
 ghost use Rattle.ag_grammar.specs.grammars.Accepted.{max_symbols};
-ghost use Rattle.ag_grammar.specs.grammars.AttributeGrammar.{attribute_names};
-ghost use Rattle.plan_reasons.specs.Names.{IsAttributeNamed, IsSymbolNamed};
 
 use ag_grammar::limits::MAX_ATTRIBUTES;
 use ag_grammar::{Grammar, Symbol};
-use ag_value::{NoMemory, Text};
-use message_texts::Parts;
-use message_texts::display::{MAX_NAMED, PlainText};
-use std::alloc::{AllocError, Global};
+use ag_value::NoMemory;
+use message_parts::Attribute;
+use message_parts::display::PlainText;
+use std::alloc::Global;
 use std::fmt;
-
-/// The numbers of an attribute, from 0: the number of its symbol, and its own in the symbol.
-pub type Attribute = (u16, u16);
 
 /// An attribute of a grammar. It prints as the names of its symbol and of itself: `L.p`. It prints
 /// as nothing if the grammar has no such attribute.
@@ -57,70 +52,6 @@ impl fmt::Display for OccurrenceName<'_> {
     }
 }
 
-/// Why a text is not the name of an attribute.
-#[derive(Clone, Copy)]
-pub enum NameFault<'a> {
-    /// The text has no dot.
-    NoDot,
-    /// The grammar has no symbol of this name.
-    NoSymbol(&'a str),
-    /// The symbol of this number has no attribute of this name.
-    NoAttribute(u16, &'a str),
-}
-
-/// Returns the attribute of a name such as `L.p`. Fails with the first fault that applies, in the
-/// order of `NameFault`. Does not allocate.
-pub fn attribute_named<'a>(grammar: &Grammar, name: &'a str) -> Result<Attribute, NameFault<'a>>
-    ensures { IfOk result (λ x. IsAttributeNamed grammar.now name.now x.0 x.1) }
-{
-    let Some((symbol_name, attribute_name)) = name.split_once('.') else {
-        return Err(NameFault::NoDot);
-    };
-    let symbols = grammar.symbols();
-    let Some(number) = symbol_number(symbols, symbol_name) else {
-        return Err(NameFault::NoSymbol(symbol_name));
-    };
-    match attribute_number(&symbols[number as usize], attribute_name) {
-        Some(attr) => Ok((number, attr)),
-        None => Err(NameFault::NoAttribute(number, attribute_name)),
-    }
-}
-
-/// Returns the number of the first symbol of this name, if there is one.
-fn symbol_number(symbols: &[Symbol], name: &str) -> Option<u16>
-    requires { length symbols.now ≤ max_symbols }
-    ensures { IfSome result (λ s. IsSymbolNamed symbols.now s name.now) }
-{
-    for (number, symbol) in symbols.iter().enumerate() {
-        if symbol.name.as_str() == name {
-            return Some(number as u16);
-        }
-    }
-    None
-}
-
-/// Returns whether a symbol's attribute of this number has this name.
-fn has_name(symbol: &Symbol, attr: u16, name: &str) -> bool
-    ensures { IsTrue result → slice_get (attribute_names symbol.now) attr ≡ Some name.now }
-{
-    match symbol.attribute_name(attr) {
-        Some(own) => own == name,
-        None => false,
-    }
-}
-
-/// Returns the number of a symbol's attribute of this name, if there is one.
-fn attribute_number(symbol: &Symbol, name: &str) -> Option<u16>
-    ensures { IfSome result (λ a. slice_get (attribute_names symbol.now) a ≡ Some name.now) }
-{
-    for attr in 0..MAX_ATTRIBUTES {
-        if has_name(symbol, attr as u16, name) {
-            return Some(attr as u16);
-        }
-    }
-    None
-}
-
 /// Returns the attributes of the symbols of a grammar, in declared order.
 pub(crate) fn attributes_of(alloc: Global, symbols: &[Symbol]) -> Result<Vec<Attribute>, NoMemory>
     requires { length symbols.now ≤ max_symbols }
@@ -142,79 +73,6 @@ fn append_attributes(
         if symbol.attribute_name(attr as u16).is_some() {
             attributes.push((number, attr as u16))?;
         }
-    }
-    Ok(())
-}
-
-impl NameFault<'_> {
-    /// Writes the fault of `name` into a message. If `name` has a dot, also writes the names that
-    /// exist: of the grammar's symbols (at most `MAX_NAMED`), or of the attributes of the symbol.
-    /// Fails if memory is refused.
-    pub fn describe(
-        &self,
-        parts: &mut Parts,
-        grammar: &Grammar,
-        name: &str,
-    ) -> Result<(), AllocError> {
-        match self {
-            NameFault::NoDot => write!(
-                parts.found,
-                "expected an attribute such as `S.out`, found `{}`",
-                PlainText(name)
-            ),
-            NameFault::NoSymbol(symbol) => {
-                write!(
-                    parts.found,
-                    "the grammar has no symbol `{}`, its symbols are",
-                    PlainText(symbol)
-                )?;
-                write_symbols(&mut parts.found, grammar.symbols())
-            }
-            NameFault::NoAttribute(symbol, attribute) => {
-                write_attributes(&mut parts.found, grammar, *symbol, attribute)
-            }
-        }
-    }
-}
-
-/// Writes the names of the first `MAX_NAMED` symbols, with a space before each, and the number of
-/// the others if there are any.
-fn write_symbols(out: &mut String, symbols: &[Symbol]) -> Result<(), AllocError> {
-    for symbol in symbols.iter().take(MAX_NAMED) {
-        write!(out, " {}", PlainText(symbol.name.as_str()))?;
-    }
-    match symbols.len().saturating_sub(MAX_NAMED) {
-        0 => Ok(()),
-        others => write!(out, " and {others} more"),
-    }
-}
-
-/// Writes that a symbol has no attribute of this name, and the names that it has.
-fn write_attributes(
-    out: &mut String,
-    grammar: &Grammar,
-    number: u16,
-    name: &str,
-) -> Result<(), AllocError> {
-    let Some(symbol) = grammar.symbols().get(usize::from(number)) else {
-        return Ok(());
-    };
-    let (owner, missing) = (PlainText(symbol.name.as_str()), PlainText(name));
-    write!(
-        out,
-        "the symbol {owner} has no attribute `{missing}`, it has"
-    )?;
-    if symbol.syn.as_slice().is_empty() && symbol.inh.as_slice().is_empty() {
-        return out.push_str(" none");
-    }
-    write_names(out, symbol.syn.as_slice())?;
-    write_names(out, symbol.inh.as_slice())
-}
-
-/// Writes names, with a space before each.
-fn write_names(out: &mut String, names: &[Text]) -> Result<(), AllocError> {
-    for name in names {
-        write!(out, " {}", PlainText(name.as_str()))?;
     }
     Ok(())
 }

@@ -9,10 +9,10 @@ ghost use Rattle.passassign.specs.PassStrikes.{strikes_of};
 ghost use Rattle.passassign.specs.Rows.{numbers_of, passes_of};
 ghost use Rattle.plan_reasons.specs.Links.{AreChainLinks};
 
-use crate::attributes::Attribute;
 use crate::links::{Link, links_of};
 use ag_grammar::{Direction, Grammar};
 use ag_value::NoMemory;
+use message_parts::Attribute;
 use passassign::{Assignment, Strike, Strikes, Stuck};
 use std::alloc::Global;
 

@@ -1,11 +1,11 @@
 //! The grammar and the text that an explanation is about.
 
-use crate::attributes::{Attribute, AttributeName};
+use crate::attributes::AttributeName;
 use crate::lines::Lines;
 use ag_grammar::{Grammar, RawGrammar};
 use ag_text::read_grammar;
 use ag_value::NoMemory;
-use message_texts::{Position, Source};
+use message_parts::{Attribute, Position, Source};
 use passassign::Strike;
 use std::alloc::Global;
 

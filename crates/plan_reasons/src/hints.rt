@@ -5,11 +5,12 @@ ghost use Rattle.std.specs.Prelude.{ℕ, ◌⊎◌, IfOk, OnOk};
 ghost use Rattle.ag_grammar.specs.Lists.{Has};
 ghost use Rattle.plan_reasons.specs.Hints.{IsCopied, IsUnused};
 
-use crate::attributes::{Attribute, attributes_of};
+use crate::attributes::attributes_of;
 use crate::explanation::{Explanation, MAX_LINES, write_others};
 use crate::uses::{is_copied, is_unused, rule_count};
 use ag_grammar::Grammar;
 use ag_value::NoMemory;
+use message_parts::Attribute;
 use std::alloc::Global;
 
 /// Returns whether an attribute is the start symbol's `out`, whose value is the translation.

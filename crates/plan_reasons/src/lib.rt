@@ -19,8 +19,8 @@ mod plans;
 mod stuck;
 mod uses;
 
-pub use attributes::{Attribute, NameFault, attribute_named};
 pub use chains::{LeastPlan, stuck_links};
 pub use explanation::Explanation;
 pub use links::{Geometry, Link, links_of, obstacles_of};
+pub use message_parts::{Attribute, NameFault, attribute_named};
 pub use uses::{is_copied, is_unused};

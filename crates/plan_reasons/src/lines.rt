@@ -1,7 +1,7 @@
 //! The lines of a text, so that a position is found without reading the text from its beginning.
 
 use ag_value::NoMemory;
-use message_texts::Position;
+use message_parts::Position;
 use std::alloc::Global;
 
 /// The offsets in bytes at which the lines of a text begin.

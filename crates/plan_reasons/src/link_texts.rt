@@ -6,8 +6,8 @@ use crate::explanation::{Explanation, MAX_LINES, write_others};
 use crate::links::{Geometry, Link};
 use ag_grammar::Direction;
 use ag_value::NoMemory;
-use message_texts::Position;
-use message_texts::display::PlainText;
+use message_parts::Position;
+use message_parts::display::PlainText;
 use std::alloc::AllocError;
 
 impl Explanation<'_> {

@@ -8,9 +8,9 @@ ghost use Rattle.plan_reasons.specs.Links.{IsLinkOrNone, IsObstacle, IsObstacleO
 ghost use Rattle.plan_reasons.specs.Links.{NamesAttribute};
 ghost use Rattle.plan_reasons.specs.declared.links.Link.{Link as TheLink};
 
-use crate::attributes::Attribute;
 use ag_grammar::{Direction, Grammar, Item, Production, Rule, Target};
 use ag_value::NoMemory;
+use message_parts::Attribute;
 use passassign::{Strike, is_same_or_later};
 use std::alloc::Global;
 

@@ -1,10 +1,10 @@
 //! Why the attributes of a plan have their passes.
 
-use crate::attributes::Attribute;
 use crate::chains::LeastPlan;
 use crate::explanation::{Explanation, MAX_LINES, write_others};
 use ag_grammar::Direction;
 use ag_value::NoMemory;
+use message_parts::Attribute;
 
 /// The greatest number of passes that are explained for one attribute.
 const MAX_EXPLAINED_PASSES: u16 = 20;

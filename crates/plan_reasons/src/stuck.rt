@@ -1,11 +1,11 @@
 //! Why no pass computes some attributes of a grammar.
 
-use crate::attributes::Attribute;
 use crate::chains::stuck_links;
 use crate::explanation::Explanation;
 use crate::links::{Link, obstacles_of};
 use ag_grammar::Direction;
 use ag_value::NoMemory;
+use message_parts::Attribute;
 use passassign::Stuck;
 
 /// The directions of passes: that of pass 1, then that of pass 2.

@@ -7,8 +7,8 @@ ghost use Rattle.ag_grammar.specs.grammars.AttributeGrammar.{item_at};
 ghost use Rattle.plan_reasons.specs.Hints.{IsAttributeAt, IsCopied, IsCopiedBy, IsCopiedIn, IsCopy};
 ghost use Rattle.plan_reasons.specs.Hints.{IsUnused, IsUnusedBy, IsUnusedIn};
 
-use crate::attributes::Attribute;
 use ag_grammar::{Grammar, Item, Node, Production, Rule, Target};
+use message_parts::Attribute;
 
 /// Returns whether a declared symbol is at a place of a production.
 fn is_symbol_at(production: &Production, place: u16, symbol: u16) -> bool

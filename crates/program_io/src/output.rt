@@ -18,8 +18,8 @@ const MAX_LINKS: usize = 40;
 const MAX_NAMES: u32 = 1_000;
 
 /// Writes a translation to the file at `path`. A regular file is replaced by a new one with its mode, and a missing
-/// one is created, in both cases with the whole translation or not at all. Any other file, and any below /dev/
-/// (not /dev/shm/) and /proc/, is written to directly, at its end. If standard output is this regular file, prints the translation.
+/// one is created, in both cases with the whole translation or not at all. To any other file, and to any below /dev/
+/// (not /dev/shm/) and /proc/, the translation is appended. If standard output is this file, prints the translation.
 ///
 /// Fails with F1 if the file can't be opened or created, and with O2 if a write fails or takes no byte, or if the
 /// new file can't be renamed; the report names the file. Fails with NoMemory if memory is refused.

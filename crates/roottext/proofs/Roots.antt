@@ -18,10 +18,10 @@ use Rattle.passcode.specs.Rows.{Lists}
 use Rattle.passcode.proofs.lists.Shaped.{greatest_most}
 use Rattle.planchecker.specs.Plans.{IsPlan}
 use Rattle.passcode.specs.Settings.{Setting, setting_of}
-use Rattle.passrun.specs.reading.Reading.{IsNoNode, IsNodeRead}
-use Rattle.passrun.specs.passing.Places.{copies}
+use Rattle.pass_rows.specs.reading.Reading.{IsNoNode, IsNodeRead}
+use Rattle.pass_rows.specs.Places.{copies}
 use Rattle.passrun.proofs.course.Ahead.{no_record}
-use Rattle.passrun.proofs.Recorded.{copies_counted, copies_well}
+use Rattle.pass_rows.proofs.Recorded.{copies_counted, copies_well}
 use Rattle.passrun.proofs.places.Slots.{get_left}
 use Rattle.treefile.specs.framing.ExpectedRecords.{IsNodeRecord}
 use Rattle.treefile.specs.framing.Ending.{ReadsAs, last_body_of, version_two_usable}

@@ -12,7 +12,8 @@ use treefile::{Device, DeviceFault, FileVersion, FrameFault, MemDevice};
 /// The greatest number of bytes of a body whose frame fits into the initial buffer of a reader.
 const FITS: usize = 4092;
 
-/// A device in memory that counts the calls of `read_at`.
+/// A device in memory that counts the calls of `read_at`. Its contracts claim nothing of its content:
+/// they don't call it honest.
 #[derive(Drop)]
 struct CountingDevice {
     memory: MemDevice,
@@ -52,8 +53,9 @@ fn device_of(bytes: Vec<u8>) -> CountingDevice {
     }
 }
 
-/// Returns the file of pass 0 of a name with this number of letters and `if`, in the grammar
-/// `S = NAME "if"`.
+/// Returns a header and two frames: the record of a name with this number of letters, and a node
+/// without values. (It is no tree's file, since the node has no copy of the name. A reader of frames
+/// doesn't look at that.)
 fn file_of_name(alloc: Global, letters: u32) -> Result<Vec<u8>, AllocError> {
     let mut bytes = Vec::from_slice(alloc, b"AGT2\0\0\x01\0\0\x01")?;
     bytes.extend_from_slice(&letters.to_be_bytes())?;
@@ -110,8 +112,9 @@ fn lent(
     Ok(Some(if there == Some(body) { body.len() } else { 0 }))
 }
 
-/// Returns the result of `lent`. After NoMemory the call is made a second time; NoMemory for a body
-/// of at most `FITS` bytes is returned, since a reader needs no memory for it.
+/// Returns the result of `lent`. If memory is refused (the tests don't refuse any), makes the call a
+/// second time. If that one lends a body of at most `FITS` bytes, returns NoMemory all the same: a
+/// reader needs no memory for such a body, so the first call must not fail.
 fn lent_at_last(
     back: &mut Back,
     device: &mut CountingDevice,

@@ -35,8 +35,8 @@ fn numbers(alloc: Global, count: u16) -> Result<ListTree, ValueFault> {
     Ok(list)
 }
 
-/// Returns a list that has the number 1 at least `least` times, up to 65,536: one item, joined with itself
-/// again and again.
+/// Returns a list of 2^n items, all the number 1, for the least n with 2^n >= `least`, but for at most n = 16. It
+/// is one item, joined with itself n times.
 fn doubled(alloc: Global, least: usize) -> Result<ListTree, ValueFault> {
     let mut list = single(alloc, 1)?;
     for _ in 0..16 {
@@ -50,7 +50,7 @@ fn doubled(alloc: Global, least: usize) -> Result<ListTree, ValueFault> {
 
 /// Returns the flat copy of a list as a tree.
 fn rebuilt(alloc: Global, list: &ListTree) -> Result<ListTree, NoMemory> {
-    // The contract of `weight` says that the list is well, which `from_list` requires.
+    // unused at run time: the contract of `weight` says that the list is well, which `from_list` requires
     let _weight = list.weight();
     ListTree::from_list(alloc, list.to_list(alloc)?)
 }
@@ -76,7 +76,7 @@ fn an_encoding_is_that_of_the_flat_list(rt: HostRuntime) -> Result<(), ValueFaul
     let expected = b"\x02\0\0\0\x02\0\0\0\0\0\0\0\0\0\0\0\0\0\0\0\0\0\x01";
     assert!(rt; bytes.as_slice() == expected.as_slice());
     assert!(rt; list.has_encoding(bytes.as_slice()) && !list.has_encoding(&bytes[..22]));
-    // `copy_part` requires that the encoding has the bytes from 3 to 6.
+    // `copy_part` requires that the encoding has the bytes at the offsets 3, 4 and 5
     if list.weight() < 6 {
         return Err(ValueFault::Malformed);
     }

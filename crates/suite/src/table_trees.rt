@@ -8,7 +8,7 @@ use table_tree::{PutFault, TableTree};
 /// Puts a number at a key of four hexadecimal digits.
 fn with_number(alloc: Global, table: &TableTree, key: u32) -> Result<TableTree, PutFault> {
     let key = format!(in alloc; "{key:04x}")?;
-    // `put` requires that the key is short; the contract of `format!` says nothing of the length.
+    // `put` requires a short key, and the contract of `format!` says nothing of the length
     if key.len() > 100 {
         return Err(PutFault::TooHeavy);
     }
@@ -26,7 +26,7 @@ fn table_of(alloc: Global, keys: &[u32]) -> Result<TableTree, PutFault> {
 
 /// Returns the flat copy of a table as a tree.
 fn rebuilt(alloc: Global, table: &TableTree) -> Result<TableTree, NoMemory> {
-    // The contract of `weight` says that the table is well, which `from_table` requires.
+    // unused at run time: the contract of `weight` says that the table is well, which `from_table` requires
     let _weight = table.weight();
     TableTree::from_table(alloc, table.to_table(alloc)?)
 }

@@ -1,6 +1,5 @@
 //! The command that translates several sentences: `run` with a folder for the translations.
 
-use crate::screen::Screen;
 use crate::translations::TranslationRun;
 use aggen::{Fault, status};
 use command_line::{BatchPaths, InputPath, file_name_of};
@@ -8,6 +7,7 @@ use messages::{FaultReport, Source};
 use program_io::{
     build_translator, check_inputs, check_output, check_outputs, fault_or, path_in, read_input,
 };
+use screen::Screen;
 use std::alloc::{AllocError, Global};
 use std::fs;
 use std::process::ExitCode;

@@ -1,8 +1,6 @@
 //! The command that translates the tree in a tree file: `eval`.
 
 use crate::cause::{CauseFinder, with_cause};
-use crate::progress::{Progress, ShownDevice};
-use crate::screen::Screen;
 use crate::translations::{finish, without_write_fault, write_translation};
 use ag_job::{ReadFault, read_prefix};
 use aggen::{Fault, Translator};
@@ -14,6 +12,7 @@ use program_io::{
     build_translator, check_inputs, check_output, check_tree, read_input, report_of_input,
     write_file,
 };
+use screen::{Progress, Screen, ShownDevice};
 use std::alloc::Global;
 use std::io::{self, Write};
 use std::rt::{Clock, Files};

@@ -4,8 +4,6 @@ ghost use Rattle.std.specs.Prelude.{◌≡◌, ◌≢◌, IfErr, IsErr, OnOk};
 ghost use Rattle.std.specs.Io.KnownBytes.{Appends};
 
 use crate::cause::{CauseFinder, with_cause};
-use crate::progress::{Progress, ShownDevice};
-use crate::screen::Screen;
 use ag_job::Job;
 use aggen::{Fault, Translator};
 use aggen_files::WorkFiles;
@@ -16,6 +14,7 @@ use noted_file::CallRecord;
 use program_io::{
     build_translator, check_inputs, check_output, read_input, report_of_sentence, write_file,
 };
+use screen::{Progress, Screen, ShownDevice};
 use std::alloc::Global;
 use std::fs::OpenFile;
 use std::io::{self, Write};

@@ -179,7 +179,7 @@ fn run<'p>(
     requires { IsPlan grammar.now plan.now.0 plan.now.1 }
 {
     let mut meter = Meter::new();
-    // The contract of `passes` says that there is a greatest pass, as `run_all` requires.
+    // unused at run time: the contract of `passes` says that there is a greatest pass, as `run_all` requires
     let _passes = plan.assignment().passes();
     match run_all(alloc, grammar, plan, 1, a, b, &mut meter) {
         Ok((last, passed)) => Ok(format!(in alloc;

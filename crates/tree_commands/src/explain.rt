@@ -8,7 +8,7 @@ use crate::work_folder::TreePath;
 use aggen::{Fault, Translator};
 use agoutput::write_text;
 use command_line::{ExplainWords, NodeWords, PlaceInSentence};
-use message_texts::display::PlainText;
+use message_parts::display::PlainText;
 use messages::{FaultReport, Position, Source};
 use noted_file::CallRecord;
 use program_io::{build_translator, read_input};

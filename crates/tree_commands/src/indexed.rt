@@ -4,7 +4,7 @@ use ag_grammar::limits::MAX_ATTRIBUTES;
 use ag_grammar::{Grammar, Item};
 use ag_value::NoMemory;
 use aggen::{Fault, Translator};
-use message_texts::display::PlainText;
+use message_parts::display::PlainText;
 use message_texts::trees::damage::{NEST_LESS, SPLIT};
 use messages::FaultReport;
 use passrun::RunFault;

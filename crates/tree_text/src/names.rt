@@ -1,8 +1,8 @@
 //! Items and productions as they are written in a grammar.
 
 use ag_grammar::{Grammar, Item, Production, Terminal};
-use message_texts::display::{PlainText, QuotedText};
-use message_texts::terminals::class_name;
+use message_parts::classes::class_name;
+use message_parts::display::{PlainText, QuotedText};
 use std::fmt;
 
 /// An item of a right side, which prints as in the grammar: a symbol or class by its name, a

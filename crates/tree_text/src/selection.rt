@@ -2,8 +2,8 @@
 
 use ag_grammar::limits::{NAME, NUMBER, TEXT};
 use ag_grammar::{Grammar, Item, Terminal};
-use message_texts::terminals::class_name;
-use plan_reasons::{NameFault, attribute_named};
+use message_parts::classes::class_name;
+use message_parts::{NameFault, attribute_named};
 
 /// An attribute that is printed: one of a symbol, or the text of the tokens of a class.
 #[derive(Clone, Copy, Debug, PartialEq, Eq)]

@@ -2,7 +2,7 @@
 
 use ag_carried::Carried;
 use ag_value::{NoMemory, Text, Value, show};
-use message_texts::display::PlainText;
+use message_parts::display::PlainText;
 use std::alloc::Global;
 
 /// Writes the first `width` characters of a value as text, and `..` after them if there are more.

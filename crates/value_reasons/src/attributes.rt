@@ -10,7 +10,7 @@ use ag_grammar::limits::MAX_ATTRIBUTES;
 use ag_grammar::{Item, Target};
 use ag_value::NoMemory;
 use causes::{Cause, ChainStart, find_cause, rule_for};
-use message_texts::display::PlainText;
+use message_parts::display::PlainText;
 use std::alloc::Global;
 use tree_index::{NodeKind, NodePath, NodeRecord, TreeFault};
 use tree_text::{ItemName, ProductionText, SelectedAttribute, write_value};

@@ -8,7 +8,7 @@ use crate::tokens::position_of_token;
 use ag_grammar::{Grammar, Target};
 use ag_value::{NoMemory, Text};
 use causes::{Cause, ChainStart, find_cause, tokens_before};
-use message_texts::Source;
+use message_parts::Source;
 use planchecker::Plan;
 use std::alloc::Global;
 use tree_index::{FileFormat, NodePath, TokenCounts, TreeFault, TreeIndex};

@@ -3,7 +3,7 @@
 use ag_grammar::RawGrammar;
 use ag_text::read_grammar;
 use ag_value::NoMemory;
-use message_texts::Source;
+use message_parts::Source;
 use std::alloc::Global;
 use tree_index::{FileFormat, TreeIndex};
 

@@ -7,7 +7,7 @@ use crate::explained::ExplainedTree;
 use ag_grammar::limits::MAX_NODES;
 use ag_grammar::{Item, Terminal};
 use ag_value::{NoMemory, Value};
-use message_texts::display::PlainText;
+use message_parts::display::PlainText;
 use tree_index::{NodeKind, TreeFault};
 use treefile::Device;
 

@@ -4,7 +4,7 @@ use crate::explained::ExplainedTree;
 use ag_carried::Carried;
 use ag_grammar::{Production, Target};
 use ag_value::NoMemory;
-use message_texts::display::PlainText;
+use message_parts::display::PlainText;
 use std::fmt;
 use tree_index::NodeRecord;
 

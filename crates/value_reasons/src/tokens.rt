@@ -2,8 +2,8 @@
 
 use ag_grammar::Grammar;
 use ag_scan::{Tokens, scan};
-use message_texts::Source;
-use message_texts::position::Place;
+use message_parts::Source;
+use message_parts::position::Place;
 use std::alloc::Global;
 use std::fmt;
 

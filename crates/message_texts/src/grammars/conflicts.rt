@@ -1,11 +1,12 @@
 //! Conflicts of two productions.
 
-use crate::display::QuotedText;
 use crate::grammar_text::GrammarText;
-use crate::parts::{Location, Parts};
-use crate::terminals::{class_name, write_ahead};
+use crate::terminals::write_ahead;
 use ag_grammar::{Grammar, RawGrammar, RawItem, RawProduction};
 use llparse::{Ahead, TableFault};
+use message_parts::classes::class_name;
+use message_parts::display::QuotedText;
+use message_parts::{Location, Parts};
 use std::alloc::AllocError;
 
 /// Two productions as they are written, and the look-ahead that predicts both.

@@ -1,12 +1,12 @@
 //! Grammars that exceed a limit.
 
-use crate::display::GroupedNumber;
-use crate::parts::Parts;
 use ag_grammar::limits::{
     MAX_ATTRIBUTES, MAX_CHILDREN, MAX_ITEMS, MAX_LITERAL_BYTES, MAX_LITERALS, MAX_PRODUCTIONS,
     MAX_SYMBOLS,
 };
 use ag_grammar::{RawGrammar, RawItem, RawProduction, RawSymbol};
+use message_parts::Parts;
+use message_parts::display::GroupedNumber;
 use normalform::LimitKind;
 use std::alloc::AllocError;
 

@@ -1,6 +1,5 @@
 //! Grammars that are not accepted.
 
-use crate::display::MAX_NAMED;
 use crate::grammar_text::GrammarText;
 use crate::grammars::endless::endless_symbols;
 use crate::grammars::further::{Declarations, MissingRule, count_further};
@@ -9,8 +8,9 @@ use crate::grammars::lookup::{
     AsWritten, AtPlace, PlacedOccurrence, at_place, attribute_at, has_production, name_at,
     placed_at, symbol_named, symbol_with,
 };
-use crate::parts::{Location, Parts};
 use ag_grammar::{Named, RawGrammar, RawProduction, RawSymbol};
+use message_parts::display::MAX_NAMED;
+use message_parts::{Location, Parts};
 use normalform::NormalFault;
 use std::alloc::{AllocError, Global};
 

@@ -2,9 +2,8 @@
 
 use crate::grammar_text::GrammarText;
 use crate::grammars::lookup::AsWritten;
-use crate::parts::Parts;
-use crate::position::Source;
 use ag_grammar::{Direction, Occ, RawGrammar, occurrences};
+use message_parts::{Parts, Source};
 use passassign::{Strike, Stuck};
 use std::alloc::AllocError;
 

@@ -1,14 +1,15 @@
 //! Texts that read as no grammar.
 
-use crate::display::{FoundText, begins_with, token_fault};
 use crate::expected::write_expected;
 use crate::expressions::{describe_fault, offset_in};
+use crate::found::{begins_with, token_fault};
 use crate::grammar_text::GrammarText;
 use crate::hints::Context;
-use crate::parts::{Location, Parts};
 use ag_expr::{ExpectedPart as Part, ExprFault};
 use ag_grammar::limits::MAX_TEXT_BYTES;
 use ag_text::{Expected, TextFault, expected_at};
+use message_parts::display::FoundText;
+use message_parts::{Location, Parts};
 use std::alloc::AllocError;
 
 /// What a literal needs.

@@ -1,13 +1,13 @@
 //! Sentences that have no tree.
 
-use crate::display::FoundText;
-use crate::parts::{Location, Parts};
-use crate::position::Source;
-use crate::terminals::{class_name, write_aheads};
+use crate::terminals::write_aheads;
 use ag_grammar::limits::{MAX_DEPTH, MAX_NODES};
 use ag_grammar::{Grammar, Terminal};
 use ag_scan::{Sentence, Token, scan};
 use llparse::{ParseFault, StuckPlace, Tables, expected_at};
+use message_parts::classes::class_name;
+use message_parts::display::FoundText;
+use message_parts::{Location, Parts, Source};
 use std::alloc::{AllocError, Global};
 
 /// What has no tree within the limits.

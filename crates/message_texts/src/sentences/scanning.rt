@@ -1,13 +1,14 @@
 //! Sentences that cannot be cut into tokens.
 
-use crate::display::{FoundText, begins_with};
+use crate::found::begins_with;
 use crate::hints::{BYTE_ORDER_MARK, MARK};
-use crate::parts::{Location, Parts};
-use crate::position::{Place, Source};
 use crate::terminals::{terminal_count, write_terminals};
 use ag_grammar::Grammar;
 use ag_grammar::limits::{MAX_TEXT_BYTES, MAX_TOKEN_BYTES, TEXT};
 use ag_scan::ScanFault;
+use message_parts::display::FoundText;
+use message_parts::position::Place;
+use message_parts::{Location, Parts, Source};
 use std::alloc::AllocError;
 
 /// What to do about a token or a sentence that is too large.

@@ -2,12 +2,12 @@
 
 ghost use Rattle.treefile.specs.devices.Device.{LeavesContent, Persists};
 
-use crate::display::PlainText;
-use crate::parts::Parts;
-use crate::terminals::class_name;
 use crate::trees::frames::{Frame, expected_before, frame_before};
 use ag_grammar::limits::{MAX_DEPTH, MAX_NODES, MAX_REVERSED_DEPTH, MAX_REVERSED_NODES, TEXT};
 use ag_grammar::{Grammar, Item, Terminal};
+use message_parts::Parts;
+use message_parts::classes::class_name;
+use message_parts::display::PlainText;
 use std::alloc::{AllocError, Global};
 use treefile::{Device, FileVersion, HEADER_BYTES};
 

@@ -29,17 +29,17 @@ use Rattle.backreader.specs.BackState.{BackState}
 use Rattle.passcode.specs.Course.{arity, place_of}
 use Rattle.passcode.specs.Settings.{Setting, pass_direction}
 use Rattle.passcode.specs.Sound.{IsSound}
-use Rattle.passrun.specs.declared.run_fault.RunFault.{RunFault}
-use Rattle.passrun.specs.declared.run_fault.RunFault.TheVariants as fault
+use Rattle.pass_rows.specs.declared.run_fault.RunFault.{RunFault}
+use Rattle.pass_rows.specs.declared.run_fault.RunFault.TheVariants as fault
 use Rattle.passrun.specs.passing.Ahead.{IsRunFault, following, children_of, pending_of_child}
 use Rattle.passrun.specs.Damage.{ArrivesAt, IsDamaged, IsReadable, source}
-use Rattle.passrun.specs.Faults.{run_fault_of_frame}
+use Rattle.pass_rows.specs.Faults.{run_fault_of_frame}
 use Rattle.passrun.specs.reading.Fetching.{IsMissing, IsUnfetched}
-use Rattle.passrun.specs.passing.Places.{Table, copied_passes, copies, in_children}
-use Rattle.passrun.specs.reading.Reading.{AgreeAt, IsNoRecord, IsRead, read_values}
+use Rattle.pass_rows.specs.Places.{Table, copied_passes, copies, in_children}
+use Rattle.pass_rows.specs.reading.Reading.{AgreeAt, IsNoRecord, IsRead, read_values}
 use Rattle.passrun.proofs.places.Copies.{copies_at, copies_length}
 use Rattle.passrun.proofs.Damage.{broken, decidable, too_deep, too_many}
-use Rattle.passrun.proofs.Recorded.{copies_counted, copies_well, mended, tabled}
+use Rattle.pass_rows.proofs.Recorded.{copies_counted, copies_well, mended, tabled}
 use Rattle.passrun.proofs.places.Slots.{copied_is}
 use Rattle.passrun.proofs.places.Tables.{same_values, text_row}
 

@@ -21,10 +21,10 @@ use Rattle.passcode.specs.Course.{State, place_of}
 use Rattle.passcode.specs.Settings.{Setting, pass_direction}
 use Rattle.passcode.specs.Sound.{IsSound}
 use Rattle.passassign.proofs.slots.Few.{few_rules}
-use Rattle.passrun.specs.declared.passing.open_node.OpenNode.{OpenNode}
+use Rattle.pass_rows.specs.declared.open_node.OpenNode.{OpenNode}
 use Rattle.passrun.specs.passing.RunInvariant.{Transcript, Expects, IsCurrent, RunInvariant, IsRootReady, IsOpenNode, below}
 use Rattle.passrun.specs.passing.RunInvariant.{after_reading, put_of, rules_at, state_of}
-use Rattle.passrun.specs.passing.Places.{Table, copies, in_children}
+use Rattle.pass_rows.specs.Places.{Table, copies, in_children}
 use Rattle.treefile.proofs.records.Orders.{length-postfix, length-postfix_all, length-prefix_all}
 use Rattle.treefile.proofs.records.Records.{bodies_count, bodies_counts}
 use Rattle.passrun.proofs.course.Finish.{count_of}

@@ -27,11 +27,11 @@ use Rattle.passcode.specs.declared.phase.Phase.TheVariants.{Between}
 use Rattle.passcode.specs.Settings.{Setting}
 use Rattle.passcode.specs.Sound.{IsSound}
 use Rattle.passrun.specs.declared.passing.machine.Machine.{Machine}
-use Rattle.passrun.specs.declared.passing.open_node.OpenNode.{OpenNode}
+use Rattle.pass_rows.specs.declared.open_node.OpenNode.{OpenNode}
 use Rattle.passrun.specs.Damage.{IsReadable, source}
 use Rattle.passrun.specs.passing.Ends.{RunsBetween}
-use Rattle.passrun.specs.passing.Nodes.{first_at}
-use Rattle.passrun.specs.passing.Places.{copies, stored}
+use Rattle.pass_rows.specs.Nodes.{first_at}
+use Rattle.pass_rows.specs.Places.{copies, stored}
 use Rattle.passrun.specs.reading.Fetching.{HasFetched}
 use Rattle.passrun.specs.Passed.{IsPassed, IsRunning}
 use Rattle.passrun.specs.passing.RunInvariant.{RunInvariant, Transcript, after_reading}
@@ -40,7 +40,7 @@ use Rattle.passrun.specs.passing.Running.{Runs}
 use Rattle.passrun.proofs.course.Ahead.{is_record, of_node_is}
 use Rattle.passrun.proofs.course.Counted.{ready_counted}
 use Rattle.passrun.proofs.course.Finish.{finished}
-use Rattle.passrun.proofs.Recorded.{copies_well, first_row}
+use Rattle.pass_rows.proofs.Recorded.{copies_well, first_row}
 use Rattle.passrun.proofs.steps.Running.{put_more}
 use Rattle.passrun.proofs.steps.Steps.{opened}
 

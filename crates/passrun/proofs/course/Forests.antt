@@ -19,7 +19,7 @@ use Rattle.treefile.specs.records.Orders.{prefix, prefix_all, postfix, postfix_a
 use Rattle.treefile.specs.records.Records.{bodies_of, bodies_of_all}
 use Rattle.treefile.specs.records.TreeFile.{version_two}
 use Rattle.passcode.specs.Settings.{Setting}
-use Rattle.passrun.specs.passing.Places.{Table, visited, Roots}
+use Rattle.pass_rows.specs.Places.{Table, visited, Roots}
 
 -- A forest with one more tree at the end.
 abbrev pub snoc : Forest → Tree → Forest

@@ -5,7 +5,7 @@ use Rattle.passcode.specs.Settings.{Setting, pass_direction}
 use Rattle.passcode.specs.Sound.{IsSound}
 use Rattle.passrun.specs.declared.passing.ends.Passed.{Passed}
 use Rattle.passrun.specs.declared.passing.machine.Machine.{Machine}
-use Rattle.passrun.specs.declared.run_fault.RunFault.{RunFault}
+use Rattle.pass_rows.specs.declared.run_fault.RunFault.{RunFault}
 use Rattle.passrun.specs.passing.Running.{Runs}
 use Rattle.passrun.proofs.course.Counted.{rules_bound}
 use Rattle.passrun.proofs.course.Finish.{count_of}

@@ -19,7 +19,7 @@ use Rattle.treefile.proofs.Run.{goes_on_run, starts_run}
 use Rattle.passrun.specs.declared.passing.ends.Passed.{Passed}
 use Rattle.passrun.specs.declared.last.Last.{Last}
 use Rattle.passrun.specs.declared.last.Last.TheVariants.{A, B}
-use Rattle.passrun.specs.declared.run_fault.RunFault.{RunFault}
+use Rattle.pass_rows.specs.declared.run_fault.RunFault.{RunFault}
 use Rattle.passrun.specs.passing.Ahead.{IsRunFault}
 use Rattle.passrun.specs.Passed.{IsPassed}
 use Rattle.passrun.specs.Laws.{CountsPass}

@@ -16,17 +16,17 @@ use Rattle.passcode.specs.Rows.{Lists}
 use Rattle.passcode.specs.Settings.{Setting, list_at}
 use Rattle.passcode.specs.Sound.{IsSound}
 use Rattle.passrun.specs.declared.passing.machine.Machine.{Machine}
-use Rattle.passrun.specs.declared.passing.open_node.OpenNode.{OpenNode}
+use Rattle.pass_rows.specs.declared.open_node.OpenNode.{OpenNode}
 use Rattle.passrun.specs.passing.Ahead.{goes_next}
 use Rattle.passrun.specs.reading.Fetching.{HasFetched}
-use Rattle.passrun.specs.passing.Places.{rest_of}
+use Rattle.pass_rows.specs.Places.{rest_of}
 use Rattle.passrun.specs.passing.Running.{RunsRuleNext, RunsSomehow, stack_of}
 use Rattle.passrun.specs.passing.Working.{all_of, node_cost, reserved_work, remaining_work, measure}
 use Rattle.passrun.proofs.steps.Facts.{put_stays, waits_stay}
 use Rattle.passrun.proofs.steps.Going.{child_of}
 use Rattle.passcode.specs.Course.{start}
 use Rattle.passrun.proofs.steps.EntersNone.{goes_nowhere}
-use Rattle.passrun.specs.passing.Nodes.{left_at, after_step}
+use Rattle.pass_rows.specs.Nodes.{left_at, after_step}
 use Rattle.passrun.proofs.steps.Steps.{next_is}
 use Rattle.passrun.proofs.steps.MachineSteps.{popped}
 

@@ -18,9 +18,9 @@ use Rattle.treefile.specs.records.Records.{copies_of, copy_of, left_synthesized,
 use Rattle.treefile.proofs.records.Values.{count_of_values}
 use Rattle.passcode.specs.Settings.{Setting}
 use Rattle.passrun.specs.passing.Change.{set, with_row}
-use Rattle.passrun.specs.passing.Places.{IsReached, AgreesSoFar, Table, copied_passes, copies, in_children}
-use Rattle.passrun.specs.reading.Reading.{AgreeAt}
-use Rattle.passrun.proofs.Recorded.{count_copied}
+use Rattle.pass_rows.specs.Places.{IsReached, AgreesSoFar, Table, copied_passes, copies, in_children}
+use Rattle.pass_rows.specs.reading.Reading.{AgreeAt}
+use Rattle.pass_rows.proofs.Recorded.{count_copied}
 use Rattle.passrun.proofs.places.Slots.{copied_is, copies_same, same_at}
 use Rattle.passrun.proofs.places.Tables.{same_values, set_other, with_here, with_other}
 

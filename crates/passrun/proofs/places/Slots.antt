@@ -16,8 +16,8 @@ use Rattle.ag_grammar.specs.grammars.Passes.{item_passes}
 use Rattle.treefile.specs.records.Records.{synthesized_count, values_up_to}
 use Rattle.treefile.specs.records.Listed.{count_up_to}
 use Rattle.passcode.specs.Settings.{Setting}
-use Rattle.passrun.specs.passing.Places.{Table, copied_passes, copies, in_children, place_passes, stored}
-use Rattle.passrun.specs.layouts.Slots.{argument_slot, copied_all, copied_before, copy_start, rank, stored_width}
+use Rattle.pass_rows.specs.Places.{Table, copied_passes, copies, in_children, place_passes, stored}
+use Rattle.pass_rows.specs.layouts.Slots.{argument_slot, copied_all, copied_before, copy_start, rank, stored_width}
 use Rattle.passrun.proofs.places.Tables.{same_values}
 
 pub get_left : {X : Type 0} (xs ys : List X) (i : ℕ) (x : X) → slice_get xs i ≡ Some x → slice_get (xs ++ ys) i ≡ Some x

@@ -11,7 +11,7 @@ use Rattle.ag_grammar.specs.grammars.Solution.{left_passes}
 use Rattle.treefile.specs.declared.body.Kind.TheVariants.{Node}
 use Rattle.treefile.specs.records.Records.{values_up_to, node_body}
 use Rattle.treefile.specs.records.TreeFile.{body_of, version_two}
-use Rattle.passrun.specs.passing.Places.{Table}
+use Rattle.pass_rows.specs.Places.{Table}
 use Rattle.passrun.specs.passing.Change.{set, with_row}
 
 pub set_here : (e : Table) (j a : ℕ) (v : Value) → set e j a v j a ≡ v

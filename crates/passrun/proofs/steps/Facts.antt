@@ -22,12 +22,12 @@ use Rattle.passcode.specs.Course.{MayCompute, Runs, arity, place_of}
 use Rattle.passcode.proofs.Turns.{is_stored_child}
 use Rattle.passcode.specs.Settings.{Setting, list_at, pass_direction}
 use Rattle.passcode.specs.Sound.{IsSound}
-use Rattle.passrun.specs.declared.passing.open_node.OpenNode.{OpenNode}
+use Rattle.pass_rows.specs.declared.open_node.OpenNode.{OpenNode}
 use Rattle.passrun.specs.passing.Ahead.{goes_next}
 use Rattle.passrun.specs.passing.RunInvariant.{IsCurrent, Transcript, RunInvariant, state_of}
-use Rattle.passrun.specs.passing.Places.{Table, copied_passes, rest_of, stored}
-use Rattle.passrun.specs.layouts.Slots.{argument_slot, copied_all, copied_before, copied_width, copy_start, rank, stored_width}
-use Rattle.passrun.specs.layouts.Slots.{target_slot}
+use Rattle.pass_rows.specs.Places.{Table, copied_passes, rest_of, stored}
+use Rattle.pass_rows.specs.layouts.Slots.{argument_slot, copied_all, copied_before, copied_width, copy_start, rank, stored_width}
+use Rattle.pass_rows.specs.layouts.Slots.{target_slot}
 use Rattle.passrun.proofs.places.Slots.{begins_with_copy, length_row, length_stored, row_at}
 use Rattle.passrun.proofs.steps.RuleRuns.{IsPlaced}
 use Rattle.passrun.proofs.steps.Ruled.{argument_there}

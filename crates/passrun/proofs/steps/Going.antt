@@ -9,11 +9,11 @@ use Rattle.passcode.specs.declared.instr.Instr.TheVariants as instr
 use Rattle.passcode.specs.Course.{place_of}
 use Rattle.passcode.specs.Settings.{Setting, list_at}
 use Rattle.passcode.specs.Sound.{IsSound}
-use Rattle.passrun.specs.declared.passing.open_node.OpenNode.{OpenNode}
-use Rattle.passrun.specs.passing.Nodes.{first_at, left_at}
+use Rattle.pass_rows.specs.declared.open_node.OpenNode.{OpenNode}
+use Rattle.pass_rows.specs.Nodes.{first_at, left_at}
 use Rattle.passrun.specs.passing.RunInvariant.{RunInvariant, IsConsistent, ContinuesAs}
-use Rattle.passrun.specs.passing.Places.{stored}
-use Rattle.passrun.specs.layouts.Slots.{stored_width}
+use Rattle.pass_rows.specs.Places.{stored}
+use Rattle.pass_rows.specs.layouts.Slots.{stored_width}
 use Rattle.passrun.proofs.places.Slots.{length_stored}
 use Rattle.passrun.proofs.steps.Steps.{at_go, step_go}
 

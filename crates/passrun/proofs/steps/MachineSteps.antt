@@ -30,29 +30,29 @@ use Rattle.passcode.specs.declared.instr.Instr.TheVariants as instr
 use Rattle.passcode.specs.Rows.{Lists}
 use Rattle.passcode.specs.Settings.{Setting, list_at, setting_of}
 use Rattle.passcode.specs.Sound.{IsSound}
-use Rattle.passrun.specs.declared.layouts.building.PlaceRow.{PlaceRow}
-use Rattle.passrun.specs.declared.layouts.building.ProductionRow.{ProductionRow}
-use Rattle.passrun.specs.declared.layouts.building.RuleSlots.{RuleSlots}
+use Rattle.pass_rows.specs.declared.layouts.building.PlaceRow.{PlaceRow}
+use Rattle.pass_rows.specs.declared.layouts.building.ProductionRow.{ProductionRow}
+use Rattle.pass_rows.specs.declared.layouts.building.RuleSlots.{RuleSlots}
 use Rattle.passrun.specs.declared.passing.machine.Machine.{Machine}
-use Rattle.passrun.specs.declared.passing.open_node.OpenNode.{OpenNode}
+use Rattle.pass_rows.specs.declared.open_node.OpenNode.{OpenNode}
 use Rattle.passrun.specs.reading.Fetching.{HasFetched}
-use Rattle.passrun.specs.layouts.BuiltLayouts.{place_rows}
-use Rattle.passrun.specs.layouts.Layouts.{AreSlotsOf, IsRowAt}
-use Rattle.passrun.specs.passing.Nodes.{after_step}
+use Rattle.pass_rows.specs.layouts.BuiltLayouts.{place_rows}
+use Rattle.pass_rows.specs.layouts.Layouts.{AreSlotsOf, IsRowAt}
+use Rattle.pass_rows.specs.Nodes.{after_step}
 use Rattle.passrun.specs.Passed.{IsRunning}
 use Rattle.passrun.specs.passing.RunInvariant.{ContinuesAs, IsConsistent, RunInvariant}
-use Rattle.passrun.specs.passing.Places.{copied_passes, copies, kept_values}
+use Rattle.pass_rows.specs.Places.{copied_passes, copies, kept_values}
 use Rattle.passrun.specs.passing.Putting.{HasPut}
-use Rattle.passrun.specs.reading.Reading.{Agrees, IsRead, read_values}
+use Rattle.pass_rows.specs.reading.Reading.{Agrees, IsRead, read_values}
 use Rattle.passrun.specs.passing.Running.{RunsRuleNext, RunsAt, RunsFrom, RunsSomehow, Leads, LeadsAt, LeadsFrom, LeadsTo}
 use Rattle.passrun.specs.passing.Running.{stack_of}
-use Rattle.passrun.specs.layouts.Slots.{argument_slot, copied_width, copy_start, known_width, target_slot}
+use Rattle.pass_rows.specs.layouts.Slots.{argument_slot, copied_width, copy_start, known_width, target_slot}
 use Rattle.treefile.proofs.records.Values.{count_of_values}
 use Rattle.passrun.proofs.places.Agreeing.{Agree}
 use Rattle.passrun.proofs.course.Counted.{passing_counted}
-use Rattle.passrun.proofs.places.Entries.{place_is, place_within, some_at}
+use Rattle.pass_rows.proofs.places.Entries.{place_is, place_within, some_at}
 use Rattle.passrun.proofs.steps.Facts.{HasOwn, HasPlace, HasRule, HasWaited, given_rule, get_place, own_row, put_place, waited}
-use Rattle.passrun.proofs.Recorded.{empty_is}
+use Rattle.pass_rows.proofs.Recorded.{empty_is}
 use Rattle.passrun.proofs.steps.Ruled.{given_runs, rule_named}
 use Rattle.passrun.proofs.steps.Running.{ended_runs, gone_runs, got_runs, left_node, put_runs, root_ended}
 use Rattle.passrun.proofs.places.Slots.{begins_with_copy}

@@ -30,9 +30,9 @@ use Rattle.passcode.specs.Sound.{IsSound}
 use Rattle.passrun.specs.passing.Change.{with_row}
 use Rattle.passrun.specs.passing.RunInvariant.{Transcript, Keeps, Visited, IsHeld, IsOpenNode, IsReady, IsGone, after_reading}
 use Rattle.passrun.specs.passing.RunInvariant.{root_body, state_of}
-use Rattle.passrun.specs.passing.Places.{IsReached, AgreesSoFar, Table, copied_passes, copies, in_children, leftmost, Roots}
-use Rattle.passrun.specs.passing.Places.{stored, visited}
-use Rattle.passrun.specs.reading.Reading.{AgreeAt}
+use Rattle.pass_rows.specs.Places.{IsReached, AgreesSoFar, Table, copied_passes, copies, in_children, leftmost, Roots}
+use Rattle.pass_rows.specs.Places.{stored, visited}
+use Rattle.pass_rows.specs.reading.Reading.{AgreeAt}
 use Rattle.passrun.proofs.course.Forests.{add_tree, add_values, fits_add, solves_add, each_add, prefix_add, postfix_add}
 use Rattle.passrun.proofs.course.Forests.{deepest_add, roots_add, all_visited}
 use Rattle.passrun.proofs.steps.RuleRuns.{holds_same, seen_differs}

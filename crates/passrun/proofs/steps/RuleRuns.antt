@@ -18,7 +18,7 @@ use Rattle.passcode.specs.Settings.{Setting, pass_direction}
 use Rattle.passcode.specs.Sound.{IsSound}
 use Rattle.passrun.specs.passing.Change.{set}
 use Rattle.passrun.specs.passing.RunInvariant.{Transcript, Keeps, Visited, IsHeld, AreHeld, IsOpenNode, after_reading}
-use Rattle.passrun.specs.passing.Places.{IsReached, Table, leftmost}
+use Rattle.pass_rows.specs.Places.{IsReached, Table, leftmost}
 use Rattle.passrun.proofs.places.Copies.{copies_set}
 use Rattle.passrun.proofs.places.Tables.{set_here, set_other, set_target}
 use Rattle.passrun.proofs.steps.RuleTargets.{target_kind, one_rule, no_argument}

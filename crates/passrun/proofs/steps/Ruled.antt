@@ -28,19 +28,19 @@ use Rattle.passcode.specs.declared.phase.Phase.TheVariants.{Between, Got, Gone, 
 use Rattle.passcode.specs.Course.{IsAvailable, IsFinal, MayCompute, Runs, State, place_of, run_count}
 use Rattle.passcode.specs.Settings.{Setting, list_at}
 use Rattle.passcode.specs.Sound.{IsSound}
-use Rattle.passrun.specs.declared.layouts.building.RuleSlots.{RuleSlots}
-use Rattle.passrun.specs.declared.passing.open_node.OpenNode.{OpenNode}
+use Rattle.pass_rows.specs.declared.layouts.building.RuleSlots.{RuleSlots}
+use Rattle.pass_rows.specs.declared.open_node.OpenNode.{OpenNode}
 use Rattle.passrun.specs.passing.Ahead.{pending, pending_of_child}
 use Rattle.passrun.specs.passing.Change as change
-use Rattle.passrun.specs.layouts.Layouts.{AreSlotsOf}
-use Rattle.passrun.specs.passing.Nodes.{after_step}
+use Rattle.pass_rows.specs.layouts.Layouts.{AreSlotsOf}
+use Rattle.pass_rows.specs.Nodes.{after_step}
 use Rattle.passrun.specs.Passed.{IsRunning}
 use Rattle.passrun.specs.passing.RunInvariant.{IsCurrent, IsActive, RunInvariant, Transcript, state_of}
-use Rattle.passrun.specs.passing.Places.{IsReached, AgreesSoFar, Table, copies, in_children, place_passes, stored}
-use Rattle.passrun.specs.layouts.Slots.{argument_slot, rank, stored_width, target_slot}
+use Rattle.pass_rows.specs.Places.{IsReached, AgreesSoFar, Table, copies, in_children, place_passes, stored}
+use Rattle.pass_rows.specs.layouts.Slots.{argument_slot, rank, stored_width, target_slot}
 use Rattle.passrun.proofs.course.Ahead.{after_same}
 use Rattle.passrun.proofs.places.Copies.{copies_set, shown_set}
-use Rattle.passrun.proofs.places.Entries.{some_at}
+use Rattle.pass_rows.proofs.places.Entries.{some_at}
 use Rattle.passrun.proofs.steps.RuleTargets.{argument_kind}
 use Rattle.passrun.proofs.steps.RuleRuns.{IsPlaced, open_after_rule}
 use Rattle.passrun.proofs.steps.Moves.{known_differs}

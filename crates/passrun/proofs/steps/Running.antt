@@ -25,17 +25,17 @@ use Rattle.backreader.specs.BackState.{BackState, IsOver}
 use Rattle.passcode.specs.declared.instr.Instr.TheVariants as instr
 use Rattle.passcode.specs.Settings.{Setting, list_at}
 use Rattle.passcode.specs.Sound.{IsSound}
-use Rattle.passrun.specs.declared.passing.open_node.OpenNode.{OpenNode}
+use Rattle.pass_rows.specs.declared.open_node.OpenNode.{OpenNode}
 use Rattle.passrun.specs.Damage.{AreRecords, IsReadable, source}
 use Rattle.passrun.specs.reading.Fetching.{HasFetched}
-use Rattle.passrun.specs.passing.Nodes.{after_step}
+use Rattle.pass_rows.specs.Nodes.{after_step}
 use Rattle.passrun.specs.Passed.{IsRunning}
 use Rattle.passrun.specs.passing.RunInvariant.{ContinuesAs, RunInvariant}
-use Rattle.passrun.specs.passing.Places.{copies, kept_values}
+use Rattle.pass_rows.specs.Places.{copies, kept_values}
 use Rattle.passrun.specs.passing.Putting.{HasPut}
-use Rattle.passrun.specs.reading.Reading.{read_values}
-use Rattle.passrun.specs.layouts.Slots.{copied_width, copy_start}
-use Rattle.passrun.proofs.Recorded.{copies_well}
+use Rattle.pass_rows.specs.reading.Reading.{read_values}
+use Rattle.pass_rows.specs.layouts.Slots.{copied_width, copy_start}
+use Rattle.pass_rows.proofs.Recorded.{copies_well}
 use Rattle.passrun.proofs.steps.Steps.{HasAgreed, step_end, step_end_root, step_got, step_leaf, step_put_leaf, step_put_node}
 
 module _ (c : Setting) (sound : IsSound c) where

@@ -34,26 +34,26 @@ use Rattle.passcode.proofs.Agreeing.{agrees}
 use Rattle.passcode.proofs.lists.Counting.{lists_evaluate_rules}
 use Rattle.passcode.specs.Settings.{Setting, pass_direction, list_at}
 use Rattle.passcode.specs.Sound.{IsSound}
-use Rattle.passrun.specs.declared.passing.open_node.OpenNode.{OpenNode}
+use Rattle.pass_rows.specs.declared.open_node.OpenNode.{OpenNode}
 use Rattle.passrun.specs.passing.Ahead.{following, children_of, pending_of_child}
 use Rattle.passrun.specs.passing.Change.{node_table, with_row}
 use Rattle.passrun.specs.Damage.{AreRecords, source}
-use Rattle.passrun.specs.passing.Nodes.{first_at, left_at, after_step}
+use Rattle.pass_rows.specs.Nodes.{first_at, left_at, after_step}
 use Rattle.passrun.specs.passing.RunInvariant.{Transcript, Keeps, IsEvaluatedTree, IsOpenNode, IsReady, IsActive, Expects}
 use Rattle.passrun.specs.passing.RunInvariant.{RunInvariant, below, after_reading, put_of, root_body, root_number, rules_left}
 use Rattle.passrun.specs.passing.RunInvariant.{state_of}
-use Rattle.passrun.specs.passing.Places.{Table, copied_passes, copies, in_children, rest_of, stored}
-use Rattle.passrun.specs.reading.Reading.{AgreeAt, IsNodeRead, IsTokenRead}
-use Rattle.passrun.specs.layouts.Slots.{copied_width, copy_start, stored_width}
+use Rattle.pass_rows.specs.Places.{Table, copied_passes, copies, in_children, rest_of, stored}
+use Rattle.pass_rows.specs.reading.Reading.{AgreeAt, IsNodeRead, IsTokenRead}
+use Rattle.pass_rows.specs.layouts.Slots.{copied_width, copy_start, stored_width}
 use Rattle.passrun.proofs.course.Ahead.{after_last, after_next, after_same, is_record, of_node_is}
 use Rattle.passrun.proofs.places.Copies.{agree_table, copies_row, shown_both, shown_row}
 use Rattle.passrun.proofs.Damage.{leaves_on}
 use Rattle.passrun.proofs.course.Forests.{add_tree, add_values, fits_none, rules_add}
 use Rattle.passrun.proofs.steps.Moves.{met_child, returned, put_child, ended, kept_copy, known_last, known_more, known_differs}
-use Rattle.passrun.proofs.Recorded.{first_row}
+use Rattle.pass_rows.proofs.Recorded.{first_row}
 use Rattle.passrun.proofs.steps.RuleRuns.{IsPlaced, known_here}
 use Rattle.passrun.proofs.places.Slots.{begins_with_copy, length_row, length_stored, share_at, shares}
-use Rattle.passrun.proofs.places.Widths.{few_values}
+use Rattle.pass_rows.proofs.places.Widths.{few_values}
 use Rattle.passrun.proofs.places.Tables.{with_is, with_here, with_other, same_values, All-before, All-after}
 
 -- The instruction at an index, and those after it.

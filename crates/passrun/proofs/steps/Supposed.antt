@@ -2,7 +2,7 @@
 use Rattle.std.proofs.Common.{◌≡◌, ℕ, Bool, true, List}
 use Rattle.passcode.specs.Settings.{Setting}
 use Rattle.passrun.specs.declared.passing.machine.Machine.{Machine}
-use Rattle.passrun.specs.declared.passing.open_node.OpenNode.{OpenNode}
+use Rattle.pass_rows.specs.declared.open_node.OpenNode.{OpenNode}
 use Rattle.passrun.specs.passing.Running.{Runs, RunsFrom, LeadsFrom, LeadsTo}
 use Rattle.std.specs.Prelude.{Option}
 

@@ -9,10 +9,10 @@ use Rattle.passcode.specs.declared.instr.Instr.TheVariants as instr
 use Rattle.passcode.specs.declared.phase.Phase.{Phase}
 use Rattle.passcode.specs.declared.phase.Phase.TheVariants.{Between, Got, Gone, Ended}
 use Rattle.passcode.specs.Settings.{Setting, pass_direction}
-use Rattle.passrun.specs.declared.run_fault.RunFault.{RunFault}
-use Rattle.passrun.specs.declared.run_fault.RunFault.TheVariants as fault
+use Rattle.pass_rows.specs.declared.run_fault.RunFault.{RunFault}
+use Rattle.pass_rows.specs.declared.run_fault.RunFault.TheVariants as fault
 use Rattle.passrun.specs.Damage.{HasTooManyNodes, IsDamaged, IsTooDeep, source}
-use Rattle.passrun.specs.passing.Places.{Table, copies, in_children}
+use Rattle.pass_rows.specs.Places.{Table, copies, in_children}
 
 -- The first of these instructions that does not run a rule is `Go`. Then a child's record was read, and the child
 -- was not entered yet.

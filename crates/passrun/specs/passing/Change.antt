@@ -1,7 +1,7 @@
 -- A table of values with some of them changed. All definitions are this project's.
 use Rattle.std.specs.Prelude.{ℕ, zero, suc, ◌&&◌, nat_eq, cond}
 use Rattle.ag_value.specs.declared.value.Value.{Value}
-use Rattle.passrun.specs.passing.Places.{Table}
+use Rattle.pass_rows.specs.Places.{Table}
 
 -- The table with one value replaced, at a place and attribute.
 abbrev pub set : Table → ℕ → ℕ → Value → Table

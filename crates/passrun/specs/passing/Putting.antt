@@ -6,7 +6,7 @@ use Rattle.treefile.specs.framing.Beginning as beginning
 use Rattle.treefile.specs.devices.Device.{WhenHonest}
 use Rattle.treefile.specs.records.TreeFile.{body_of, frame}
 use Rattle.treefile.specs.framing.Writing as writing
-use Rattle.passrun.specs.declared.run_fault.RunFault.{RunFault}
+use Rattle.pass_rows.specs.declared.run_fault.RunFault.{RunFault}
 
 -- A record with these values was written to an honest device, and the writer counted it.
 pub record HasPut (kind : Kind) (number : ℕ) (values : List Value) (honest : Bool) (old new : List ℕ)

@@ -26,9 +26,9 @@ use Rattle.passcode.specs.declared.phase.Phase.{Phase}
 use Rattle.passcode.specs.declared.phase.Phase.TheVariants.{Between, Got, Gone, Ended}
 use Rattle.passcode.specs.Course.{State, IsAvailable, arity, place_of, read_count, run_count}
 use Rattle.passcode.specs.Settings.{Setting, pass_direction}
-use Rattle.passrun.specs.declared.passing.open_node.OpenNode.{OpenNode}
+use Rattle.pass_rows.specs.declared.open_node.OpenNode.{OpenNode}
 use Rattle.passrun.specs.passing.Ahead.{following, pending}
-use Rattle.passrun.specs.passing.Places.{visited, Table, copies, in_children, rest_of, stored, IsReached, AgreesSoFar, Roots}
+use Rattle.pass_rows.specs.Places.{visited, Table, copies, in_children, rest_of, stored, IsReached, AgreesSoFar, Roots}
 
 -- The transcript of a pass: the bodies of the records read so far, and of those written.
 pub record Transcript : Type 0 where

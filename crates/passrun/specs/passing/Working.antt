@@ -5,9 +5,9 @@ use Rattle.ag_grammar.specs.grammars.Tree.{max_nodes}
 use Rattle.passcode.specs.Rows.{Lists}
 use Rattle.passcode.specs.Settings.{Setting}
 use Rattle.passrun.specs.declared.passing.machine.Machine.{Machine}
-use Rattle.passrun.specs.declared.passing.open_node.OpenNode.{OpenNode}
+use Rattle.pass_rows.specs.declared.open_node.OpenNode.{OpenNode}
 use Rattle.passrun.specs.passing.Ahead.{goes_next}
-use Rattle.passrun.specs.passing.Places.{rest_of}
+use Rattle.pass_rows.specs.Places.{rest_of}
 use Rattle.passrun.specs.passing.Running.{stack_of}
 
 -- The number of remaining instructions of some open nodes, plus one for each of them.

@@ -9,9 +9,9 @@ use Rattle.treefile.specs.devices.Device.{WhenHonest}
 use Rattle.treefile.specs.records.TreeFile.{version_two}
 use Rattle.backreader.specs.BackState.{IsOver, BackState}
 use Rattle.passcode.specs.Settings.{Setting}
-use Rattle.passrun.specs.declared.run_fault.RunFault.{RunFault}
-use Rattle.passrun.specs.declared.run_fault.RunFault.TheVariants as fault
-use Rattle.passrun.specs.reading.Reading.{IsRead, IsNoRecord}
+use Rattle.pass_rows.specs.declared.run_fault.RunFault.{RunFault}
+use Rattle.pass_rows.specs.declared.run_fault.RunFault.TheVariants as fault
+use Rattle.pass_rows.specs.reading.Reading.{IsRead, IsNoRecord}
 
 -- The record of an item was read below `open_count` open nodes: its frame ended where the reader was, and its row
 -- was appended to the values. p is the number in the record.

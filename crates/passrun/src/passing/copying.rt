@@ -3,17 +3,17 @@
 ghost use Rattle.std.specs.Prelude.{ℕ, ◌≡◌, ◌+◌, ◌-◌, ◌<◌, ◌≤◌, ◌++◌, ◌↔◌, IsTrue, List, drop, length, set, take};
 ghost use Rattle.ag_eval.specs.Operands.{scalar_value};
 ghost use Rattle.ag_value.specs.declared.value.Value.{Value as AttributeValue, Num};
-ghost use Rattle.passrun.specs.layouts.Contexts.{setting};
-ghost use Rattle.passrun.specs.passing.Places.{kept_values};
-ghost use Rattle.passrun.specs.reading.Reading.{Agrees};
-ghost use Rattle.passrun.specs.layouts.Slots.{known_width};
+ghost use Rattle.pass_rows.specs.layouts.Contexts.{setting};
+ghost use Rattle.pass_rows.specs.Places.{kept_values};
+ghost use Rattle.pass_rows.specs.reading.Reading.{Agrees};
+ghost use Rattle.pass_rows.specs.layouts.Slots.{known_width};
 ghost use Rattle.treefile.specs.records.Records.{values_up_to};
 
-use crate::layouts::building::PlaceRow;
-use crate::layouts::context::PassContext;
 use ag_carried::Carried;
 use ag_eval::Scalar;
 use ag_grammar::Item;
+use pass_rows::layouts::building::PlaceRow;
+use pass_rows::layouts::context::PassContext;
 use std::mem::{replace, swap};
 
 /// Returns whether two rows have the same values of all attributes whose pass is before pass `k`.

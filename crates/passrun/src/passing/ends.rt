@@ -5,8 +5,8 @@ ghost use Rattle.std.specs.Prelude.{OnErr, OnOk};
 ghost use Rattle.ag_grammar.specs.grammars.Tree.{max_nodes};
 ghost use Rattle.passrun.specs.passing.Ahead.{IsRunFault};
 ghost use Rattle.passrun.specs.passing.Ends.{RunsBetween};
-ghost use Rattle.passrun.specs.passing.Nodes.{first_at};
-ghost use Rattle.passrun.specs.layouts.Contexts.{CanRun, setting};
+ghost use Rattle.pass_rows.specs.Nodes.{first_at};
+ghost use Rattle.pass_rows.specs.layouts.Contexts.{CanRun, setting};
 ghost use Rattle.passrun.specs.Passed.{IsPassed};
 ghost use Rattle.passrun.specs.passing.Putting.{AddsFrames, LeavesFrames};
 ghost use Rattle.passrun.specs.passing.Running.{Runs};
@@ -15,16 +15,16 @@ ghost use Rattle.treefile.specs.devices.Device.{LeavesContent, WhenHonest};
 ghost use Rattle.treefile.specs.devices.Several.{BothPersist};
 ghost use Rattle.treefile.specs.records.TreeFile.{header, version_two};
 
-use crate::layouts::context::PassContext;
-use crate::layouts::hints::ChildLocation;
 use crate::passing::machine::Machine;
-use crate::passing::open_node::OpenNode;
 use crate::passing::putting::put_record;
 use crate::reading::fetching::{ExpectedRecord, fetch};
-use crate::run_fault::RunFault;
 use ag_eval::Meter;
 use ag_grammar::Item;
 use backreader::Back;
+use pass_rows::layouts::context::PassContext;
+use pass_rows::layouts::hints::ChildLocation;
+use pass_rows::open_node::OpenNode;
+use pass_rows::run_fault::RunFault;
 use treefile::{Device, Kind, Writer};
 
 /// The offset of the pass number in a header, in bytes.

@@ -7,12 +7,12 @@ ghost use Rattle.ag_grammar.specs.expressions.Evaluation.{value_of};
 ghost use Rattle.ag_value.specs.Well.{IsWell};
 ghost use Rattle.ag_value.specs.declared.value.Value.{Num};
 
-use crate::layouts::building::RuleSlots;
 use crate::passing::copying::{following, put_scalar, put_value};
 use ag_carried::Carried;
 use ag_eval::{CarriedEnvironment, Meter, Scalar, eval_carried, eval_number, eval_scalar};
 use ag_grammar::{Expr, Rule};
 use ag_value::NoMemory;
+use pass_rows::layouts::building::RuleSlots;
 use std::alloc::Global;
 use std::marker::Model;
 

@@ -8,8 +8,8 @@ ghost use Rattle.passrun.specs.passing.Putting.{AddsFrames, HasPut, LeavesFrames
 ghost use Rattle.treefile.specs.devices.Device.{Persists};
 ghost use Rattle.treefile.specs.records.TreeFile.{version_two};
 
-use crate::run_fault::RunFault;
 use ag_carried::Carried;
+use pass_rows::run_fault::RunFault;
 use treefile::{Device, Kind, Writer};
 
 /// Writes the record of a node or a token with this number (of a production or of a class) and

@@ -2,18 +2,18 @@
 
 ghost use Rattle.std.specs.Prelude.{◌≡◌, ◌≤◌, None, Some, IfErr, IsErrOf, OnOk};
 ghost use Rattle.passrun.specs.passing.Ahead.{IsRunFault};
-ghost use Rattle.passrun.specs.layouts.Contexts.{CanRun, setting};
-ghost use Rattle.passrun.specs.passing.Nodes.{first_at};
+ghost use Rattle.pass_rows.specs.layouts.Contexts.{CanRun, setting};
+ghost use Rattle.pass_rows.specs.Nodes.{first_at};
 ghost use Rattle.passrun.specs.passing.Putting.{AddsFrames, LeavesFrames};
 ghost use Rattle.passrun.specs.passing.Running.{Runs};
 ghost use Rattle.treefile.specs.devices.Device.{LeavesContent, WhenHonest};
 ghost use Rattle.treefile.specs.devices.Several.{BothPersist};
 
-use crate::layouts::context::PassContext;
 use crate::passing::machine::{Machine, StepAt};
-use crate::passing::open_node::OpenNode;
-use crate::run_fault::RunFault;
 use ag_eval::Meter;
+use pass_rows::layouts::context::PassContext;
+use pass_rows::open_node::OpenNode;
+use pass_rows::run_fault::RunFault;
 use treefile::Device;
 
 /// Runs a pass from its root, whose record was read, until the root is done. Fails as

@@ -4,19 +4,19 @@ ghost use Rattle.std.specs.Prelude.{◌≡◌, ◌<◌, ◌≤◌, None, IfErr, 
 ghost use Rattle.ag_grammar.specs.grammars.Tree.{max_depth, max_nodes};
 ghost use Rattle.backreader.specs.BackState.{IsOver};
 ghost use Rattle.passrun.specs.reading.Fetching.{HasFetched, IsUnfetched};
-ghost use Rattle.passrun.specs.layouts.Contexts.{CanRun, setting};
+ghost use Rattle.pass_rows.specs.layouts.Contexts.{CanRun, setting};
 ghost use Rattle.treefile.specs.devices.Device.{LeavesContent, Persists, WhenHonest};
 ghost use Rattle.treefile.specs.records.TreeFile.{version_two};
 
-use crate::layouts::context::PassContext;
-use crate::layouts::hints::ChildLocation;
-use crate::reading::lent::read_lent;
-use crate::reading::record::{RecordFault, read_record};
-use crate::run_fault::RunFault;
 use ag_carried::Carried;
 use ag_grammar::Item;
 use ag_grammar::limits::{MAX_DEPTH, MAX_NODES};
 use backreader::Back;
+use pass_rows::layouts::context::PassContext;
+use pass_rows::layouts::hints::ChildLocation;
+use pass_rows::reading::lent::read_lent;
+use pass_rows::reading::record::{RecordFault, read_record};
+use pass_rows::run_fault::RunFault;
 use treefile::Device;
 
 /// The record that a pass expects next.

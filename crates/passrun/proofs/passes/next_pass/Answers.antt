@@ -1,5 +1,5 @@
 use Rattle.std.proofs.Common.{◌≡◌, inl, subst, sym}
-use Rattle.passrun.specs.Settings.{pass_setting}
+use Rattle.pass_rows.specs.Settings.{pass_setting}
 use Rattle.treefile.specs.framing.Beginning.{LeavesBeginning}
 use Rattle.passrun.specs.declared.last.Last.{Last}
 use Rattle.passrun.specs.Rounds.{last_content, other_content}

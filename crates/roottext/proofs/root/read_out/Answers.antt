@@ -2,7 +2,7 @@ use Rattle.std.proofs.Common.{◌+◌, arith, subst}
 use Rattle.std.proofs.lemmas.Result.{err_from_is_err_and}
 use Rattle.passassign.specs.Rows.{IsGreatest}
 use Rattle.passcode.specs.Settings.{setting_of}
-use Rattle.passrun.specs.reading.Reading.{IsNoNode}
+use Rattle.pass_rows.specs.reading.Reading.{IsNoNode}
 use Rattle.roottext.proofs.Roots.{no_root, out_well, out_within, root_read, same_fault, started}
 use Rattle.roottext.proofs.root.read_out.Goals as goal
 

@@ -1,5 +1,5 @@
 use Rattle.std.proofs.Common.{sym, ◌∙◌, drop}
-use Rattle.passrun.specs.layouts.Contexts.{setting}
+use Rattle.pass_rows.specs.layouts.Contexts.{setting}
 use Rattle.passrun.proofs.steps.MachineSteps.{nothing_read}
 use Rattle.passrun.proofs.passing.copying.matches_copy.Goals as goal
 

@@ -1,7 +1,7 @@
 use Rattle.std.proofs.Common.{◌-◌, ◌<◌, arith, List, ℕ, ap, length, sym, subst, ◌∙◌}
 use Rattle.std.proofs.lemmas.Result.{err_from_is_err_and}
 use Rattle.backreader.specs.BackState.{IsOver}
-use Rattle.passrun.specs.layouts.Contexts.{setting}
+use Rattle.pass_rows.specs.layouts.Contexts.{setting}
 use Rattle.passrun.specs.passing.Ahead.{IsRunFault}
 use Rattle.passrun.specs.Damage.{IsReadable, source}
 use Rattle.passrun.proofs.Damage.{other_pass, readable, decidable}
@@ -9,7 +9,7 @@ use Rattle.passrun.proofs.Refusing.{not_started, root_unfetched}
 use Rattle.passrun.proofs.course.Ending.{begun_runs}
 use Rattle.std.proofs.Common.{Err, Ok, inr, refl}
 use Rattle.treefile.proofs.framing.Beginning.{frames_begin, none_added, not_begun}
-use Rattle.passrun.specs.declared.run_fault.RunFault.{RunFault}
+use Rattle.pass_rows.specs.declared.run_fault.RunFault.{RunFault}
 use Rattle.passrun.proofs.passing.ends.begin.Goals as goal
 
 pub returns-clause-runs : goal.returns-clause-runs

@@ -4,14 +4,14 @@ use Rattle.std.proofs.lemmas.Result.{err_from_is_err_and}
 use Rattle.treefile.specs.framing.Backward.{next_before}
 use Rattle.treefile.specs.records.TreeFile.{version_two}
 use Rattle.passrun.specs.Damage.{IsDamaged, source}
-use Rattle.passrun.specs.layouts.Contexts.{setting}
+use Rattle.pass_rows.specs.layouts.Contexts.{setting}
 use Rattle.passrun.proofs.Refusing.{end_come, end_refused, end_unbroken, end_version, left_over, some_lent}
 use Rattle.passrun.proofs.steps.Supposed.{runs_supposed}
 use Rattle.passrun.proofs.course.Ending.{as_many, none_lent, passed, reader_kept, ready_of}
 use Rattle.std.proofs.Common.{Err}
 use Rattle.treefile.proofs.framing.Beginning.{added, none_added}
-use Rattle.passrun.specs.declared.run_fault.RunFault.{RunFault}
-use Rattle.passrun.specs.declared.run_fault.RunFault.TheVariants as run_fault
+use Rattle.pass_rows.specs.declared.run_fault.RunFault.{RunFault}
+use Rattle.pass_rows.specs.declared.run_fault.RunFault.TheVariants as run_fault
 use Rattle.passrun.proofs.passing.ends.finish.Goals as goal
 
 -- The body that is lent, if there is one.

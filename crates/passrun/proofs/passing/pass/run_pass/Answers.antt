@@ -2,15 +2,15 @@ use Rattle.std.proofs.Common.{◌∙◌, ◌-◌, List, sym, subst}
 use Rattle.std.proofs.lemmas.Result.{IfOk-weaker}
 use Rattle.passassign.specs.Rows.{passes_of}
 use Rattle.passcode.specs.Settings.{setting_of}
-use Rattle.passrun.specs.declared.layouts.building.ProductionRow.{ProductionRow}
-use Rattle.passrun.specs.layouts.Layouts.{IsLayout}
+use Rattle.pass_rows.specs.declared.layouts.building.ProductionRow.{ProductionRow}
+use Rattle.pass_rows.specs.layouts.Layouts.{IsLayout}
 use Rattle.passrun.specs.declared.passing.ends.Passed.{Passed}
 use Rattle.passrun.specs.Laws.{CountsPass}
 use Rattle.passrun.specs.Passed.{IsPassed}
 use Rattle.treefile.specs.Runs.{RunsPass}
 use Rattle.treefile.specs.records.TreeFile.{version_two}
 use Rattle.passrun.proofs.places.Able.{plans_can_run}
-use Rattle.passrun.proofs.places.Entries.{layouts}
+use Rattle.pass_rows.proofs.places.Entries.{layouts}
 use Rattle.passrun.proofs.RecordedPasses.{passes_are_recorded}
 use Rattle.passrun.proofs.passing.pass.run_pass.Goals as goal
 

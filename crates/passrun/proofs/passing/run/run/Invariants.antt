@@ -1,6 +1,6 @@
 use Rattle.std.proofs.Common.{◌≡◌, ◌≤◌}
 use Rattle.treefile.specs.devices.Device.{LeavesContent, Persists}
-use Rattle.passrun.specs.layouts.Contexts.{setting}
+use Rattle.pass_rows.specs.layouts.Contexts.{setting}
 use Rattle.passrun.specs.passing.Putting.{AddsFrames}
 use Rattle.passrun.specs.passing.Running.{Runs}
 use Rattle.passrun.specs.passing.Working.{measure}

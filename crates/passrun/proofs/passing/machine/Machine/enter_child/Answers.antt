@@ -1,5 +1,5 @@
 use Rattle.std.proofs.Common.{Ok}
-use Rattle.passrun.specs.layouts.Contexts.{setting}
+use Rattle.pass_rows.specs.layouts.Contexts.{setting}
 use Rattle.passrun.proofs.steps.MachineSteps.{entered, is_passing}
 use Rattle.passrun.proofs.course.Working.{entered_less}
 use Rattle.passrun.proofs.passing.machine.Machine.enter_child.Goals as goal

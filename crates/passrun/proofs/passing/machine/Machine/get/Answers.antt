@@ -2,8 +2,8 @@ use Rattle.std.proofs.Common.{◌≡◌, ◌+◌, Some, ap, refl, ◌∙◌, sym
 use Rattle.std.proofs.lemmas.List.{take_at}
 use Rattle.std.proofs.lemmas.Result.{err_from_is_err_and}
 use Rattle.passrun.specs.Damage.{IsDamaged, source}
-use Rattle.passrun.specs.layouts.Contexts.{setting}
-use Rattle.passrun.specs.passing.Places.{kept_values}
+use Rattle.pass_rows.specs.layouts.Contexts.{setting}
+use Rattle.pass_rows.specs.Places.{kept_values}
 use Rattle.passrun.proofs.Refusing.{get_differs, get_refused, read_row}
 use Rattle.passrun.proofs.steps.Supposed.{from_supposed, leads_from}
 use Rattle.passrun.proofs.steps.MachineSteps.{got_place, got_leads, has_agreed, item_within}

@@ -1,8 +1,8 @@
 use Rattle.std.proofs.Common.{Some, drop, get_or, slice_index, pos, ◌∙◌, refl, sym, arith}
 use Rattle.ag_grammar.specs.expressions.Evaluation.{value_of}
 use Rattle.ag_value.specs.declared.value.Value.{Num}
-use Rattle.passrun.specs.layouts.Contexts.{setting}
-use Rattle.passrun.proofs.places.Entries.{slots_found, slots_less}
+use Rattle.pass_rows.specs.layouts.Contexts.{setting}
+use Rattle.pass_rows.proofs.places.Entries.{slots_found, slots_less}
 use Rattle.passrun.proofs.steps.MachineSteps.{rule_leads, giver, meter_of, rule_less, slots_within, well_of}
 use Rattle.passrun.proofs.course.Working.{given_less}
 use Rattle.passrun.proofs.passing.machine.Machine.run_rule.Goals as goal

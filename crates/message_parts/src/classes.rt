@@ -1,0 +1,12 @@
+//! The classes of tokens, by their names.
+
+use ag_grammar::limits::{NAME, NUMBER};
+
+/// Returns the name of a class of tokens.
+pub fn class_name(number: u16) -> &'static str {
+    match number {
+        NAME => "NAME",
+        NUMBER => "NUMBER",
+        _ => "TEXT",
+    }
+}

@@ -1,0 +1,125 @@
+//! How numbers and parts of texts are printed in a message.
+
+use std::fmt;
+
+/// How a message names the end of a text or a sentence.
+pub const END: &str = "the end of the text";
+
+/// The greatest number of names in most lists of a message: of terminals, symbols or occurrences.
+pub const MAX_NAMED: usize = 12;
+
+/// The greatest number of characters of a token or a value that a message shows.
+const MAX_SHOWN: usize = 24;
+
+/// A number that prints in groups of three digits, as in `1,048,576`, with at most two commas.
+#[derive(Clone, Copy)]
+pub struct GroupedNumber(pub usize);
+
+impl fmt::Display for GroupedNumber {
+    fn fmt<W: fmt::Write>(&self, f: &mut fmt::Formatter<W>) -> fmt::Result {
+        let (thousands, rest) = (self.0 / 1_000, self.0 % 1_000);
+        if thousands == 0 {
+            return write!(f, "{rest}");
+        }
+        if thousands < 1_000 {
+            return write!(f, "{thousands},{rest:03}");
+        }
+        write!(
+            f,
+            "{},{:03},{rest:03}",
+            thousands / 1_000,
+            thousands % 1_000
+        )
+    }
+}
+
+/// A text that prints in one line. Each control character, each white space but the plain space, and each
+/// character of `is_unseen` prints as an escape with its number, such as `\u{1b}`.
+#[derive(Clone, Copy)]
+pub struct PlainText<'a>(pub &'a str);
+
+impl fmt::Display for PlainText<'_> {
+    fn fmt<W: fmt::Write>(&self, f: &mut fmt::Formatter<W>) -> fmt::Result {
+        for character in self.0.chars() {
+            write_character(f, character)?;
+        }
+        Ok(())
+    }
+}
+
+/// The text of a literal, which prints as a grammar writes it: in quotes, with a backslash before each quote and each
+/// backslash. Otherwise it prints as by `PlainText`.
+#[derive(Clone, Copy)]
+pub struct QuotedText<'a>(pub &'a str);
+
+impl fmt::Display for QuotedText<'_> {
+    fn fmt<W: fmt::Write>(&self, f: &mut fmt::Formatter<W>) -> fmt::Result {
+        f.write_str("\"")?;
+        for character in self.0.chars() {
+            if matches!(character, '"' | '\\') {
+                f.write_str("\\")?;
+            }
+            write_character(f, character)?;
+        }
+        f.write_str("\"")
+    }
+}
+
+/// The text at an offset, or None at the end of the text, which prints as `END`. A text prints in backquotes, as by
+/// `PlainText`; if it has more than `MAX_SHOWN` characters, only these and `..`.
+#[derive(Clone, Copy)]
+pub struct FoundText<'a>(pub Option<&'a str>);
+
+impl fmt::Display for FoundText<'_> {
+    fn fmt<W: fmt::Write>(&self, f: &mut fmt::Formatter<W>) -> fmt::Result {
+        let Some(found) = self.0 else {
+            return f.write_str(END);
+        };
+        write!(f, "`")?;
+        let mut shown = 0usize;
+        for character in found.chars() {
+            if shown == MAX_SHOWN {
+                write!(f, "..")?;
+                break;
+            }
+            write_character(f, character)?;
+            shown = shown.saturating_add(1);
+        }
+        write!(f, "`")
+    }
+}
+
+/// Returns whether a character is in a list of those that have no shape of their own, or change the direction of
+/// those beside them: a byte order mark, some others of Unicode's category Cf, and unassigned ones between them.
+fn is_unseen(character: char) -> bool {
+    matches!(
+        character,
+        '\u{ad}' | '\u{61c}' | '\u{180e}' | '\u{200b}'..='\u{200f}' | '\u{202a}'..='\u{202e}'
+            | '\u{2060}'..='\u{206f}' | '\u{feff}' | '\u{e0000}'..='\u{e007f}'
+    )
+}
+
+/// Writes a character: as an escape with its number if it is a control character, white space other than the plain
+/// space, or one of `is_unseen`.
+fn write_character<W: fmt::Write>(f: &mut fmt::Formatter<W>, character: char) -> fmt::Result {
+    let is_plain = character == ' ' || !character.is_whitespace();
+    if is_plain && !character.is_control() && !is_unseen(character) {
+        return write!(f, "{character}");
+    }
+    for part in character.escape_unicode() {
+        write!(f, "{part}")?;
+    }
+    Ok(())
+}
+
+/// Returns the longest prefix of bytes that is UTF-8.
+pub fn utf8_prefix(bytes: &[u8]) -> &str {
+    let fault = match str::from_utf8(bytes) {
+        Ok(text) => return text,
+        Err(fault) => fault,
+    };
+    match bytes.get(..fault.valid_up_to()) {
+        Some(prefix) => str::from_utf8(prefix).unwrap_or(""),
+        None => "",
+    }
+}

@@ -1,0 +1,75 @@
+//! Which part of a text is at an offset, and whether it begins with a token.
+
+use ag_expr::{Cursor, ExprFault, refusal};
+
+/// Returns the token at an offset in bytes. If no token begins there, returns what looks like a number or an
+/// occurrence, such as a number that is too large, or else the characters up to the next separator, at least one.
+/// None at the text's end.
+pub fn found_at(text: &str, at: usize) -> Option<&str> {
+    let rest = text.get(at..)?;
+    let mut cursor = Cursor::new(rest);
+    if cursor.peek().is_none() {
+        return match leading_number(rest) {
+            Some(number) => Some(number),
+            None => first_word(rest),
+        };
+    }
+    cursor.bump();
+    Some(rest.get(..cursor.offset()).unwrap_or(rest).trim_end())
+}
+
+/// Returns the digits with which a text begins; if it begins with a `$`, returns that with the letters, digits, `.` and
+/// `_` after it. None if there is no digit among these.
+fn leading_number(text: &str) -> Option<&str> {
+    let is_occurrence = text.starts_with('$');
+    let mut has_digits = false;
+    for (offset, character) in text.char_indices() {
+        if character.is_ascii_digit() {
+            has_digits = true;
+        } else if !is_occurrence || !is_part_of_occurrence(character, offset) {
+            return if has_digits { text.get(..offset) } else { None };
+        }
+    }
+    if has_digits { Some(text) } else { None }
+}
+
+/// Returns whether a character may be in an occurrence (`$1.size`) at an offset from its `$`.
+fn is_part_of_occurrence(character: char, offset: usize) -> bool {
+    match character {
+        '$' => offset == 0,
+        '.' | '_' => true,
+        _ => character.is_alphanumeric(),
+    }
+}
+
+/// Returns the characters before the first separator, at least one. None for an empty text.
+fn first_word(text: &str) -> Option<&str> {
+    for (offset, character) in text.char_indices() {
+        if 0 < offset && is_separator(character) {
+            return text.get(..offset);
+        }
+    }
+    if text.is_empty() { None } else { Some(text) }
+}
+
+/// Returns whether a character separates tokens. No other space of Unicode does.
+fn is_separator(character: char) -> bool {
+    matches!(character, ' ' | '\t' | '\r' | '\n')
+}
+
+/// Returns why what was found does not begin with a token. None if it does.
+pub fn token_fault(found: &str) -> Option<ExprFault> {
+    let cursor = Cursor::new(found);
+    match cursor.peek() {
+        Some(_) => None,
+        None => Some(refusal(&cursor)),
+    }
+}
+
+/// Returns whether what was found begins with a character.
+pub fn begins_with(found: Option<&str>, character: char) -> bool {
+    match found {
+        Some(found) => found.starts_with(character),
+        None => false,
+    }
+}

@@ -1,0 +1,15 @@
+use Rattle.std.proofs.Common.{◌≡◌, ◌+◌, ◌*◌, ◌≤◌, ◌++◌, drop}
+use Rattle.ag_grammar.specs.grammars.AttributeGrammar.{stored_items}
+use Rattle.pass_rows.specs.Settings.{pass_setting}
+use Rattle.pass_rows.specs.layouts.BuiltLayouts.{place_rows, rows_after}
+use Rattle.pass_rows.specs.layouts.Slots.{copied_all, stored_width}
+use Rattle.pass_rows.proofs.layouts.building.rows_of_places.Given as goal
+
+abbrev pub invariant-loop-item : goal.invariant-loop-item
+invariant-loop-item l = record {
+  rows : l.rows.items ++ rows_after (pass_setting l.setting) l.start
+      (drop l.item-index (stored_items l.production.items)) ≡ place_rows (pass_setting l.setting) l.production;
+  width : l.start + copied_all (pass_setting l.setting) (drop l.item-index (stored_items l.production.items))
+      ≡ stored_width (pass_setting l.setting) l.production;
+  low : l.start ≤ 16 * (l.item-index + 1);
+}

@@ -1,0 +1,15 @@
+-- An open node before and after its instructions. All definitions are this project's.
+use Rattle.std.specs.Prelude.{ℕ, ◌+◌}
+use Rattle.pass_rows.specs.declared.open_node.OpenNode.{OpenNode}
+
+-- A node of a production whose record was just read, with its row at an index.
+abbrev pub first_at : (production base : ℕ) → OpenNode
+first_at p base = record { production = p; child = 0; place = 0; at = 0; base = base }
+
+-- A node after its next instruction. The number is that of the child that was read last.
+abbrev pub after_step : OpenNode → ℕ → OpenNode
+after_step x p = record { production = x.production; child = p; place = x.place; at = x.at + 1; base = x.base }
+
+-- A node after its next instruction, which enters the child at a place.
+abbrev pub left_at : OpenNode → ℕ → OpenNode
+left_at x j = record { production = x.production; child = x.child; place = j; at = x.at + 1; base = x.base }

@@ -1,0 +1,2 @@
+-- Reading the records of a tree file.
+pub mod Reading

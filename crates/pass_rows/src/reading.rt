@@ -1,0 +1,4 @@
+//! Reading the records of a tree file into rows.
+
+pub mod lent;
+pub mod record;

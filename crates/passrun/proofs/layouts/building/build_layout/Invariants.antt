@@ -1,9 +1,0 @@
-use Rattle.std.proofs.Common.{◌≡◌, ◌++◌, drop}
-use Rattle.passrun.specs.Settings.{pass_setting}
-use Rattle.passrun.specs.layouts.BuiltLayouts.{layout_of, rows_from}
-use Rattle.passrun.proofs.layouts.building.build_layout.Given as goal
-
-abbrev pub invariant-loop-number : goal.invariant-loop-number
-invariant-loop-number l =
-    l.rows.items ++ rows_from (pass_setting l.setting) l.number (drop l.number l.setting.grammar.now.productions) ≡ layout_of
-    (pass_setting l.setting)

@@ -1,5 +1,0 @@
-use Rattle.std.proofs.Common.{length}
-use Rattle.passrun.proofs.layouts.rows.+rank.Given as goal
-
-abbrev pub decreases-rank : goal.decreases-rank
-decreases-rank l = length l.passes.now

@@ -1,5 +1,0 @@
-use Rattle.std.proofs.Common.{length}
-use Rattle.passrun.proofs.layouts.rows.+row_length.Given as goal
-
-abbrev pub decreases-row_length : goal.decreases-row_length
-decreases-row_length l = length l.passes.now

@@ -1,9 +1,0 @@
-use Rattle.std.proofs.Common.{◌≡◌, ◌+◌, ◌≤◌, drop, length}
-use Rattle.ag_grammar.specs.grammars.AttributeGrammar.{stored_items}
-use Rattle.passrun.proofs.upgrading.stored_among.Given as goal
-
-abbrev pub invariant-loop-item : goal.invariant-loop-item
-invariant-loop-item l = record {
-  counted : l.count + length (stored_items (drop l.item-index l.items)) ≡ length (stored_items l.items);
-  room : l.count ≤ l.item-index;
-}

@@ -1,7 +1,0 @@
--- The setting of a pass, in terms of the code's type. All definitions are this project's.
-use Rattle.passcode.specs.Settings.{Setting, setting_of}
-use Rattle.passrun.specs.declared.setting.Setting.{Setting as PassSetting}
-
--- The setting with the grammar, the plan and the pass of the code's type.
-abbrev pub pass_setting : PassSetting → Setting
-pass_setting s = setting_of s.grammar.now s.plan.now s.pass

@@ -1,0 +1,175 @@
+//! How messages are printed.
+
+use crate::progress::Progress;
+use aggen::{Fault, Translator};
+use command_line::{Color, Messages};
+use message_parts::Location;
+use messages::{FaultReport, Position};
+use std::alloc::Global;
+use std::rt::{Clock, Env};
+
+/// The control characters before the fault's number: what follows is bold and red.
+const NUMBER: &str = "\u{1b}[1;31m";
+
+/// The control characters before the place: what follows is bold.
+const PLACE: &str = "\u{1b}[1m";
+
+/// The control characters after a marked part.
+const END: &str = "\u{1b}[0m";
+
+/// How messages are printed, and whether the progress of a translation is shown.
+#[derive(Clone, Copy)]
+pub struct Screen {
+    /// Whether only messages about a misused command line are printed.
+    is_quiet: bool,
+    /// Whether the fault's number and the place are marked with colour.
+    is_marked: bool,
+    /// Whether the progress of translations is shown.
+    shows_progress: bool,
+}
+
+impl Screen {
+    /// Returns the screen for messages if no command line was parsed: without colour, and without
+    /// progress.
+    pub fn plain() -> Screen {
+        Screen {
+            is_quiet: false,
+            is_marked: false,
+            shows_progress: false,
+        }
+    }
+
+    /// Returns the screen for a command line's `messages`. `is_terminal` says whether standard
+    /// error is a terminal.
+    ///
+    /// `Color::Always` and `Color::Never` decide whether messages are marked. With `Color::Auto`
+    /// they are marked on a terminal, unless the environment variable `NO_COLOR` is not empty, or
+    /// the terminal is dumb (`is_dumb`). Progress is shown on a terminal, unless messages are quiet
+    /// or the terminal is dumb.
+    pub fn new<R: Env + AllocGlobal>(rt: &R, messages: Messages, is_terminal: bool) -> Screen {
+        let is_marked = match messages.color {
+            Color::Always => true,
+            Color::Never => false,
+            Color::Auto => is_terminal && allows_colors(rt) && !is_dumb(rt),
+        };
+        Screen {
+            is_quiet: messages.is_quiet,
+            is_marked,
+            shows_progress: is_terminal && !messages.is_quiet && !is_dumb(rt),
+        }
+    }
+
+    /// Returns whether the progress of translations is shown.
+    pub fn shows_progress(self) -> bool {
+        self.shows_progress
+    }
+
+    /// Returns the progress of a translation that begins now. The first tree file that is written
+    /// is that of pass `first`. Returns `None` if no progress is shown, or the clock can't be read.
+    pub fn progress<'a, R: Clock + Eprint>(
+        self,
+        rt: &'a R,
+        translator: &Translator,
+        first: u16,
+    ) -> Option<Progress<'a, R>> {
+        if !self.shows_progress {
+            return None;
+        }
+        let began = rt.monotonic().ok()?;
+        let passes = translator.plan().assignment().passes();
+        Some(Progress::new(rt, began, passes, first))
+    }
+
+    /// Prints a message on standard error, in one line. If messages are quiet, prints only one
+    /// about a misused command line. If the message can't be printed, does nothing: the exit status
+    /// still shows the kind of failure.
+    pub fn print<R: Eprint>(self, rt: &R, alloc: Global, report: &FaultReport) {
+        if self.is_quiet && !matches!(report.fault, Fault::Usage) {
+            return;
+        }
+        let marked = if self.is_marked {
+            marked_line(alloc, report)
+        } else {
+            None
+        };
+        let _ = match marked {
+            Some(line) => rt.eprintln(&line),
+            None => rt.eprintln(report),
+        };
+    }
+}
+
+/// Returns whether the environment allows colours: if `NO_COLOR` is missing or empty, or can't be
+/// read.
+fn allows_colors<R: Env + AllocGlobal>(rt: &R) -> bool {
+    match std::env::var(rt, "NO_COLOR") {
+        Ok(value) => value.is_empty(),
+        Err(_) => true,
+    }
+}
+
+/// Returns whether the terminal is dumb, which means that it shows text alone: `TERM` is `dumb` or
+/// missing, or can't be read.
+fn is_dumb<R: Env + AllocGlobal>(rt: &R) -> bool {
+    match std::env::var(rt, "TERM") {
+        Ok(value) => value.as_str() == "dumb",
+        Err(_) => true,
+    }
+}
+
+/// Returns the line of a report with the fault's number and the place marked; `None` if memory is
+/// refused.
+fn marked_line(alloc: Global, report: &FaultReport) -> Option<String> {
+    let line = report.to_string(alloc).ok()?;
+    let fault = report.fault.to_string(alloc).ok()?;
+    let (fault, rest) = parts_at(line.as_str(), fault.len());
+    let (number, offset) = parts_at(fault, number_len(fault));
+    let (before, place) = parts_at(rest, place_start(report, rest));
+    let (place, after) = parts_at(place, place_len(alloc, report)?);
+    if place.is_empty() {
+        return format!(in alloc; "{NUMBER}{number}{END}{offset}{rest}").ok();
+    }
+    format!(in alloc; "{NUMBER}{number}{END}{offset}{before}{PLACE}{place}{END}{after}").ok()
+}
+
+/// Returns the number of bytes of a fault's first word, without a colon.
+fn number_len(fault: &str) -> usize {
+    match fault.split_once(' ') {
+        Some((word, _)) => word.trim_end_matches(':').len(),
+        None => fault.len(),
+    }
+}
+
+/// Returns the offset in bytes of a report's place in `rest`, the line after the fault. A position
+/// comes after ` (`, which has 2 bytes. A file without a position is at the end. Returns 0 if there
+/// is neither.
+fn place_start(report: &FaultReport, rest: &str) -> usize {
+    match (report.location, &report.file) {
+        (Location::At(_), _) => 2,
+        (_, Some(file)) => rest.len().saturating_sub(file.len()),
+        (_, None) => 0,
+    }
+}
+
+/// Returns the number of bytes of a report's place: a file with line and column, or a file alone.
+/// Returns 0 without a file, also for a position: it is not marked. Returns `None` if memory is
+/// refused.
+fn place_len(alloc: Global, report: &FaultReport) -> Option<usize> {
+    match (report.location, &report.file) {
+        (Location::At(Position { line, column }), Some(file)) => {
+            let place = format!(in alloc; "{}:{line}:{column}", file.as_str()).ok()?;
+            Some(place.len())
+        }
+        (_, Some(file)) => Some(file.len()),
+        (_, None) => Some(0),
+    }
+}
+
+/// Returns the parts of a text before and after an offset in bytes; the whole text and an empty one
+/// if the offset is not within the text or divides a character.
+fn parts_at(text: &str, at: usize) -> (&str, &str) {
+    match text.split_at_checked(at) {
+        Some(parts) => parts,
+        None => (text, ""),
+    }
+}

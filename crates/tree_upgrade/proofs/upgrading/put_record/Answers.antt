@@ -1,0 +1,22 @@
+use Rattle.std.proofs.Common.{Err, ap}
+use Rattle.std.proofs.lemmas.Result.{err_from_is_err_and}
+use Rattle.treefile.specs.records.TreeFile.{body_of, version_two}
+use Rattle.treefile.proofs.framing.Beginning.{one_added, one_refused}
+use Rattle.treefile.proofs.records.Records.{is_body}
+use Rattle.pass_rows.specs.declared.run_fault.RunFault.{RunFault}
+use Rattle.tree_upgrade.proofs.upgrading.put_record.Goals as goal
+
+pub returns-in_err-put-clause-left : goal.returns-in_err-put-clause-left
+returns-in_err-put-clause-left g c =
+    let p = err_from_is_err_and c.from_residual.result c.from_residual.ensures.1 in
+    let sound = is_body version_two c.args.kind c.args.number c.args.values.now c.requires.few c.requires.well in
+    rw p.1
+    (λ h. one_refused RunFault (g.E.Device.content c.args.to.now) (g.E.Device.content c.put.new.device)
+    (body_of c.args.kind c.args.number c.args.values.now) c.in_err-put.field-0.0 p.0 sound
+    (λ failed. c.in_err-put.ensures.device (ap Err failed) h) (λ resource. c.in_err-put.ensures.memory (ap Err resource) h))
+
+pub returns-clause-added : goal.returns-clause-added
+returns-clause-added g c = λ h.
+    let sound = is_body version_two c.args.kind c.args.number c.args.values.now c.requires.few c.requires.well in
+    one_added RunFault (g.E.Device.content c.args.to.now) (g.E.Device.content c.put.new.device)
+    (body_of c.args.kind c.args.number c.args.values.now) sound (c.in_ok-put.ensures.frame h)

@@ -1,0 +1,9 @@
+use Rattle.std.proofs.Common.{◌≡◌, ◌+◌, ◌≤◌, drop, length}
+use Rattle.ag_grammar.specs.grammars.AttributeGrammar.{stored_items}
+use Rattle.tree_upgrade.proofs.upgrading.stored_among.Given as goal
+
+abbrev pub invariant-loop-item : goal.invariant-loop-item
+invariant-loop-item l = record {
+  counted : l.count + length (stored_items (drop l.item-index l.items)) ≡ length (stored_items l.items);
+  room : l.count ≤ l.item-index;
+}
