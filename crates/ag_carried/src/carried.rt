@@ -27,7 +27,8 @@ use table_tree::TableTree;
 /// takes one more allocation.
 const MAX_SMALL_WEIGHT: u64 = 24;
 
-/// The greatest length in bytes of a text that is not weighed, since it is always small.
+/// The greatest length in bytes of a text that is stored without being weighed. Its weight is at
+/// most 21, five more, so it is small.
 const MAX_SMALL_TEXT: usize = 16;
 
 /// How a value is stored.
@@ -338,7 +339,8 @@ impl Carried {
         }
     }
 
-    /// Drops the value. A number or an error, which owns no memory, is dropped in one step.
+    /// Drops the value, as `drop` does. For a number or an error, which owns no memory, it calls
+    /// nothing.
     #[inline(always)]
     pub fn release(self) {
         let Carried { form } = self;
@@ -557,7 +559,8 @@ impl Carried {
     }
 
     /// Reads a value as `read` does. If the input begins with the encoding of `self`, and `self` is
-    /// a large value, a text or a tree, returns `self` for one more owner, and decodes nothing.
+    /// a large value, a tree or a text of any form, returns `self` for one more owner, and decodes
+    /// nothing.
     #[tactic(auto, using(crate::proofs::Encodings::encodings))]
     pub fn read_beside(&self, alloc: Global, input: &[u8]) -> Result<(Carried, usize), ValueFault>
         ensures well { IfOk result (λ found. IsWell found.0) }
@@ -575,8 +578,8 @@ impl Carried {
         }
     }
 
-    /// Returns the length of the encoding in bytes, if the value is a large one, a text or a tree,
-    /// and the input begins with its encoding, and otherwise `None`. Takes no memory.
+    /// Returns the length of the encoding in bytes, if the value is a large one, a tree or a text
+    /// of any form, and the input begins with its encoding, and otherwise `None`. Takes no memory.
     fn prefix_of(&self, input: &[u8]) -> Option<usize>
         ensures { IfSome result (IsPrefix self.now input.now) }
     {
@@ -603,7 +606,8 @@ fn prefix_of_small(value: &Value, input: &[u8]) -> Option<usize>
     }
 }
 
-/// Returns a value that was decoded from these bytes as a carried one. Fails with NoMemory.
+/// Returns a value as a carried one. `encoding` has the bytes that the value was decoded from.
+/// Fails with NoMemory.
 #[inline(always)]
 fn with_encoding(alloc: Global, value: Value, encoding: &[u8]) -> Result<Carried, NoMemory>
     requires well { IsWell value }

@@ -101,7 +101,8 @@ impl Encoded {
         }
     }
 
-    /// Fills `out` with the bytes from index `from` on. Takes no memory.
+    /// Fills `out` with the bytes from offset `from` on (in bytes, from 0). `from` plus the length
+    /// of `out` must not exceed the length of the encoding. Takes no memory.
     pub fn copy_part(&self, from: usize, out: &mut [u8])
         requires { from + length out.old ≤ length self.now }
         ensures { out.new ≡ take (length out.old) (drop from self.now) }

@@ -141,7 +141,8 @@ impl SharedText {
         byte_count(&header) + self.rope.len()
     }
 
-    /// Fills `out` with the bytes of the encoding from index `from` on. Takes no memory.
+    /// Fills `out` with the bytes of the encoding from offset `from` on (in bytes, from 0). `from`
+    /// plus the length of `out` must not exceed the length of the encoding. Takes no memory.
     pub(crate) fn copy_encoding(&self, from: usize, out: &mut [u8])
         requires { from + length out.old ≤ length (spelling_of (TextValue self.now)) }
         ensures { out.new ≡ take (length out.old) (drop from (spelling_of (TextValue self.now))) }

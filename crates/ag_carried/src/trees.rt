@@ -9,7 +9,8 @@ use list_tree::ListTree;
 use table_tree::TableTree;
 
 /// The greatest number of pairs of a flat table (a `Value`) that `put`, the function of
-/// expressions, is to leave flat. Of a larger one `put` is to make a tree.
+/// expressions, is to leave flat. The pairs are counted before the new one is put in. Of a larger
+/// table `put` is to make a tree.
 pub const MAX_FLAT_TABLE: usize = 16;
 
 /// The greatest number of items of a list that `append` or `++` of expressions is to make flat (as

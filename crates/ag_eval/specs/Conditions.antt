@@ -5,7 +5,7 @@ use Rattle.ag_value.specs.declared.value.ErrorCode.TheVariants.{Kind}
 use Rattle.ag_value.specs.declared.value.Value.{Value, out-Value}
 use Rattle.ag_value.specs.declared.value.Value.TheOpen.{Value-F}
 
--- a number decides true unless it is 0; an error fails with that error, and any other value with the error `kind`
+-- a number decides true unless it is 0; the decision of an error fails with that error, that of any other value with `kind`
 abbrev pub decision_at : Value-F Value → Result Bool ErrorCode
 decision_at (Value-F.Num (pos zero)) = Ok false
 decision_at (Value-F.Num (pos (suc n))) = Ok true

@@ -49,9 +49,9 @@ impl<'e, V: Lender> Evaluation<'e, V> {
         Some(Operand::owned(Measured::new(scalar.into_value())))
     }
 
-    /// Computes the value of a literal, an occurrence, a bound name or a chain of these, if each of
-    /// them is a scalar, without making operands. Returns `None` otherwise, and for `++` of two
-    /// numbers. Takes no memory.
+    /// Computes the value of a literal, an occurrence, a bound name or a chain of these and of such
+    /// chains, if each of them is a scalar, without making operands. Returns `None` otherwise, and
+    /// for `++` of two numbers. Takes no memory.
     #[cycle(scalars)]
     #[inline(always)]
     pub fn scalar(&self, node: &Node, bindings: &Bindings<'_>) -> Option<Scalar>

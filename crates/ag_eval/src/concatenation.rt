@@ -32,10 +32,10 @@ const MAX_TEXT: usize = MAX_WEIGHT as usize - 5;
 /// beyond the limit of weight.
 ///
 /// To make a text of at most `MAX_FLAT_TEXT` bytes or a list of at most `MAX_FLAT_LIST` items, the
-/// first operand is extended by the second, and copied first if it is lent, bound, shared or a
-/// tree. A longer text shares the bytes of operands that are shared texts, and a longer list the
-/// nodes of operands that are trees. Any other operand is moved into such a text or tree, or copied
-/// if it is lent or bound.
+/// left operand is extended by the right one. If the left one is lent, bound, shared or a tree, its
+/// copy is extended. A longer text shares the bytes of operands that are shared texts, and a longer
+/// list the nodes of operands that are trees. Any other operand is moved into such a text or tree,
+/// or copied if it is lent or bound.
 pub fn concatenate<'e>(
     alloc: Global,
     left: Operand<'e>,

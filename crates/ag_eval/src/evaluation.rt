@@ -38,6 +38,7 @@ pub struct Evaluation<'e, V: Lender> {
     expr: &'e Expr,
     env: &'e V,
     ghost lends: { length expr.now.1 ≤ V.count env.now },
+    // `∥ P ∥₁` states P
     ghost well: { ∥ AreWell (length expr.now.1) (V.lent env.now) ∥₁ },
 }
 
@@ -316,7 +317,8 @@ impl<'e, V: Lender> Evaluation<'e, V> {
 }
 
 /// Returns true only if the value of a call is that of its first argument, for any second one.
-/// Returns true for `orelse` if the first argument is not an error, and false otherwise.
+/// Then the second argument is not evaluated. Returns true for `orelse` if the first argument is
+/// not an error, and false otherwise.
 fn is_first_result(call: BinaryCall, first: &Operand<'_>, bindings: &Bindings<'_>) -> bool
     requires { IsIn bindings.now first.now }
     ensures { IsTrue result → (second : AttributeValue)

@@ -1,5 +1,6 @@
 //! Flat expressions: literals, occurrences and chains of these. If each of them is a number or an
-//! error, and no `++` joins two numbers, the value is computed without an operand.
+//! error, and no `++` joins two numbers, the value is computed without an operand. (A flat text,
+//! list or table is something else: one that is stored as a `Value`.)
 
 ghost use Rattle.std.specs.Prelude.{◌≡◌, length, map, true, [], IfSome};
 ghost use Rattle.ag_eval.specs.Operands.{scalar_value};

@@ -5,7 +5,7 @@
 //! the environment or by the expression, or owned. A long text may be a shared text, and a large
 //! table or list a tree. It may also be the value of a name that a `let` binds (a *binding*). A
 //! function that returns a `Result` with `NoMemory` fails only if memory is refused, or if a shared
-//! value has 2^64 - 1 owners.
+//! value has 2^64 - 1 owners; no contract says so.
 #![tactic(auto)]
 
 mod available;

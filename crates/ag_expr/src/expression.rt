@@ -35,13 +35,13 @@ pub fn read_expr(alloc: Global, text: &str) -> Result<Expr, ExprFault>
     whole(Reader::new(alloc, Cursor::new(text), false))
 }
 
-/// Parses the expression from the byte offset `from` up to the first `;` (a token, not a part of a text
-/// literal), and returns it with the offset of the `;`. Offsets are those of the whole text.
+/// Parses the expression from the byte offset `from` up to the first `;` (a token, not a part of a
+/// text literal), and returns it with the offset of the `;`. Offsets are those of the whole text.
 ///
 /// Fails as `read_expr` fails for the text up to the first `;`. If there is no `;`, fails as
-/// `read_expr` fails for the rest of the text, or, if that is an expression, with X2 at the end of the
-/// text. With any fault but `NoMemory`, it is proved that no expression followed by a `;` begins at
-/// `from`.
+/// `read_expr` fails for the rest of the text, or, if that is an expression, with X2 at the end of
+/// the text. With any fault but `NoMemory`, it is proved that no expression followed by a `;`
+/// begins at `from`.
 pub fn read_until(alloc: Global, text: &str, from: usize) -> Result<(Expr, usize), ExprFault>
     requires { IsCharBoundary text.now from }
     ensures exact { IsReadUntil text.now from result }

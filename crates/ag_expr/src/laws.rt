@@ -14,9 +14,9 @@ ghost use Rattle.ag_expr.specs.language.Until.{first_semicolon, semicolon};
 ghost use Rattle.ag_expr.specs.language.Worked.{occurrence_and_number, sum_and_product};
 ghost use Rattle.ag_expr.specs.language.Worked.{bound_and_compared, let_and_compare};
 
-/// States that the reading function of expressions (`expr_of` of the specification, which `read_expr`
-/// agrees with) returns a tree for all tokens of a text if and only if the syntax relates these
-/// tokens to the tree.
+/// States that the reading function of expressions (`expr_of` of the specification, which
+/// `read_expr` agrees with) returns a tree for all tokens of a text if and only if the syntax
+/// relates these tokens to the tree.
 #[tactic(auto, using(crate::proofs::language::Agree::exact))]
 pub fn reading_agrees_with_the_syntax()
     ensures { ReadingAgrees }

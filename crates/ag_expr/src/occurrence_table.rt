@@ -74,6 +74,7 @@ impl<'t> OccurrenceTable<'t> {
             return Ok(number);
         }
         let copied = Text::from_string(String::from_str(alloc, attr)?);
+        // reserves first, so that no call can fail between the changes of the map and of the list
         self.listed.reserve(1)?;
         let number = self.listed.len();
         self.indexes.insert((place, attr), number)?;

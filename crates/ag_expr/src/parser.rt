@@ -20,8 +20,8 @@ use ag_value::{Boxed, Items, NoMemory};
 use std::alloc::Global;
 
 /// A precedence of operators, from the weakest to the strongest. A chain is a list of operands with
-/// operators of one precedence between them. Its operands are chains of the next stronger precedence,
-/// and those of the strongest are atoms.
+/// operators of one precedence between them. Its operands are chains of the next stronger
+/// precedence, and those of the strongest are atoms.
 #[derive(Clone, Copy, Debug, PartialEq, Eq)]
 enum Precedence {
     /// `==` and `<`; a chain has at most one of these.
@@ -166,8 +166,8 @@ fn atom_of(token: GrammarToken<'_>) -> Atom
     }
 }
 
-/// Returns the tree of a chain: the first operand itself if it is the only one. Fails with `NoMemory`
-/// if memory runs out.
+/// Returns the tree of a chain: the first operand itself if it is the only one. Fails with
+/// `NoMemory` if memory runs out.
 fn chain_of(alloc: Global, first: Node, others: Vec<(Operator, Node)>) -> Result<Node, NoMemory>
     ensures { IfOk result (λ e. e ≡ syntax.chain_of first others.items) }
 {
@@ -276,8 +276,8 @@ impl<'t> Reader<'t> {
     }
 
     /// Parses an expression of at most `levels` levels. An expression has one level more than the
-    /// deepest one inside it (in brackets, a call, a `let` or an `if`), and one level if none is
-    /// inside it.
+    /// deepest one inside it (in parentheses, a list, a call, a `let` or an `if`), and one level if
+    /// none is inside it.
     ///
     /// Fails with `level_fault` if `levels` is 0, with `refusal` at the first token that cannot be
     /// accepted, and with `NoMemory`. The other parsing functions of this file fail with `refusal`
@@ -342,8 +342,7 @@ impl<'t> Reader<'t> {
 
     /// Parses a chain of any precedence; the parts of its atoms have at most `levels` levels.
     ///
-    /// If no operator follows its first atom, which is the most frequent case, the atom is the
-    /// chain.
+    /// If no operator follows its first atom, the atom is the chain.
     #[cycle(parsing)]
     #[tactic(auto, using(crate::proofs::language::Chains::atom_alone, crate::proofs::language::Chains::by_atom))]
     fn chain(&mut self, levels: usize) -> Result<Node, ExprFault>
@@ -462,8 +461,7 @@ impl<'t> Reader<'t> {
         Ok((operator, operand))
     }
 
-    /// Parses an atom whose parts have at most `levels` levels. Handles numbers first, since they
-    /// are the most frequent.
+    /// Parses an atom whose parts have at most `levels` levels. Handles numbers first, for speed.
     #[cycle(parsing)]
     #[tactic(auto, unfolding(crate::specs::language::Reading::atom_from))]
     fn atom(&mut self, levels: usize) -> Result<Node, ExprFault>
@@ -483,7 +481,8 @@ impl<'t> Reader<'t> {
         }
     }
 
-    /// Parses an operand of one token: a number, a text, a bound name or an occurrence.
+    /// Parses an operand of one token: a number, a text, a bound name or an occurrence. `atom`
+    /// reads numbers itself and never calls this function at one; the contract includes numbers.
     fn single_operand(&mut self) -> Result<Node, ExprFault>
         ensures { Reads (λ all names. reading.token_as (syntax.operand_of all names))
             self.old result self.new }

@@ -51,9 +51,9 @@ impl<'t> Model for Reader<'t> {
     } };
 }
 
-/// Returns the fault for a cursor whose next token cannot be accepted: X2 at the token's offset. If the
-/// cursor has no next token: X1 if none begins there, X3 if the number of the token there is above its
-/// limit, X2 at the end of the text.
+/// Returns the fault for a cursor whose next token cannot be accepted: X2 at the token's offset. If
+/// the cursor has no next token: X2 at the end of the text; X1 if no token begins with the
+/// character there; X3 if the number or place of the token there is above its limit.
 #[tactic(auto, using(crate::proofs::language::States::reported_is))]
 pub fn refusal(cursor: &Cursor<'_>) -> ExprFault
     ensures { result ≡ reading.refusal cursor.now }

@@ -41,13 +41,13 @@ abbrev pub job_fault_of : JobFault → Fault
 job_fault_of job.NoMemory = fault.NoMemory
 job_fault_of e = fault.Job e
 
--- and a failed device is always `Device`, never inside another fault
+-- A failed device is always `Device`, and refused memory `NoMemory`; neither is inside another fault.
 abbrev pub parse_fault_of : ParseFault → Fault
 parse_fault_of parse.Device = fault.Device
 parse_fault_of parse.NoMemory = fault.NoMemory
 parse_fault_of e = fault.Parse e
 
--- the faults of running passes; the same holds for a failed device and refused memory
+-- the faults of running passes; a failed device and refused memory as for the parser
 abbrev pub run_fault_of : RunFault → Fault
 run_fault_of run.Device = fault.Device
 run_fault_of run.NoMemory = fault.NoMemory
@@ -61,8 +61,8 @@ out_fault_of (out.Damaged at) = fault.Damaged at
 out_fault_of out.Device = fault.Device
 out_fault_of out.NoMemory = fault.NoMemory
 
--- the faults of each step that builds a translator; refused memory is `NoMemory` here too (`text.Expr` never contains it if a
--- call returned it)
+-- The faults of reading a grammar, of checking it, and of its look-ahead tables. (`Translator::build` of `aggen` itself converts
+-- those of the assignment of passes.) Refused memory is `NoMemory`; no call returns a `text.Expr` that contains it.
 abbrev pub build_fault_of_text : TextFault → BuildFault
 build_fault_of_text text.NoMemory = build.NoMemory
 build_fault_of_text e = build.Text e

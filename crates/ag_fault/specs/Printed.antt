@@ -25,7 +25,7 @@ name_at (Some symbol) attribute = name_of_attribute symbol (slice_get (attribute
 abbrev pub qualified_name : Grammar → ℕ → ℕ → List ℕ
 qualified_name g symbol attribute = name_at (slice_get g.symbols symbol) attribute
 
--- the same with a space before it, of an attribute by its symbol's number and its own
+-- this name with a space before it; x has the number of the symbol and that of its attribute
 abbrev pub attribute_text : Grammar → ℕ × ℕ → List ℕ
 attribute_text g x = codes " " ++ qualified_name g x.0 x.1
 

@@ -26,8 +26,8 @@ pub enum Terminal {
     Class(u16),
 }
 
-/// An item of the right side of a production (the textbook). The item at place 0 is the symbol of
-/// the left side.
+/// An item of the right side of a production (the textbook). `Production::item_at` and `places`
+/// also return the symbol of the left side as an item, for place 0.
 #[derive(Clone, Copy, Debug, PartialEq, Eq)]
 pub enum Item {
     /// A declared symbol, by its number from 0.

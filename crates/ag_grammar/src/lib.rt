@@ -1,8 +1,8 @@
 //! Attribute grammars as data of the program (Knuth 1968): expression trees, symbols, productions
 //! and rules, grammars as parsed from a text, accepted grammars, and directions of passes. The
 //! specs define their meaning over these types: the value of an expression, the trees of a grammar,
-//! their solutions, the legal assignments of passes, the values after a pass, and the number of
-//! rules of a tree.
+//! their solutions, the legal assignments of passes, the values after consecutive passes, and the
+//! number of rules of a tree.
 //!
 //! Notes such as (Knuth 1968), (the textbook) and (this project's) name the source of a definition;
 //! `docs/DEFINITIONS.md` lists the sources.

@@ -54,7 +54,8 @@ pub const MAX_EXPR_LEVELS: usize = 64;
 /// The greatest place that an occurrence in a text may name.
 pub const MAX_PLACE: u16 = 65_535;
 
-/// The maximum number of passes that a grammar needs: two for each attribute that it may have.
+/// The maximum number of passes that a grammar with a legal assignment needs: two for each
+/// attribute that it may have.
 pub const MAX_PASSES: u16 = 8_192;
 
 /// The maximum depth of a tree; the depth of a leaf is 1.

@@ -13,7 +13,9 @@ use std::alloc::Global;
 
 impl Item {
     /// Returns whether the item is a child, which has a place and is stored in a tree: declared
-    /// symbols and token classes are, literals are not (this project's).
+    /// symbols and token classes are, literals are not (this project's). The contract says that
+    /// `stored_items`, which lists the children of a right side, keeps the item exactly if the
+    /// result is true.
     pub fn is_stored_child(self) -> bool
         ensures { (xs : List TheItem) → stored_items (self ∷ xs)
             ≡ cond result (self ∷ stored_items xs) (stored_items xs) }

@@ -64,7 +64,9 @@ pub enum RawItem {
 
 impl RawItem {
     /// Returns whether the item is a child, which has a place and is stored in a tree: names of
-    /// symbols and token classes are, literals are not (this project's).
+    /// symbols and token classes are, literals are not (this project's). The contract says that
+    /// `raw_stored`, which lists the children of a right side, keeps the item exactly if the result
+    /// is true.
     pub fn is_stored_child(&self) -> bool
         ensures { (xs : List TheRawItem) → raw_stored (self.now ∷ xs)
             ≡ cond result (self.now ∷ raw_stored xs) (raw_stored xs) }

@@ -116,6 +116,7 @@ pub fn sample_ran()
         → RanThrough sample sample_passes sample_tree u 1 2 (sample_values 2) }
     ensures solution { IsTheSolution sample sample_passes sample_tree (sample_values 2) }
 {
+    // the proof of `solution` needs the contract of this law
     sample_legal();
 }
 
@@ -148,8 +149,8 @@ pub fn not_legal()
     ensures { IsLegal sample later_passes → ⊥ }
 {}
 
-/// States that the first grammar with one more production is in order, and the second grammar as
-/// well.
+/// States that two grammars are in order: the first grammar with one more production, for `R`,
+/// which contains a second literal; and the second grammar.
 #[tactic(auto, using(crate::proofs::grammars::samples::Ordered::two_literals))]
 pub fn samples_in_order()
     ensures literals { IsInOrder both_ways }
@@ -166,8 +167,9 @@ pub fn not_in_order()
 {}
 
 /// States that no assignment is legal, for any number of passes, for the first grammar with one
-/// more production, in which the second child's `i` uses the first child's `s`: each direction is
-/// wrong for one of the two productions of `R`.
+/// more production, in which the second child's `i` uses the first child's `s`. Since `s` and `i`
+/// use each other, a legal assignment would give them the same pass, and each direction is wrong
+/// for one of the two productions of `R`.
 pub fn none_legal()
     ensures { (m : Passes) → IsLegal both_ways m → ⊥ }
 {}

@@ -7,7 +7,8 @@ use Rattle.ag_job.specs.declared.reading.ReadFault.{ReadFault}
 use Rattle.ag_job.specs.declared.reading.ReadFault.TheVariants as read
 use Rattle.ag_job.specs.declared.job.TheConstants.{MAX_JOB_BYTES}
 
--- the maximal number of bytes of a job: 1,048,576 for the grammar, as many for the sentence, and 4 for the longest separator
+-- the maximal number of bytes of a job: 1,048,576 for the grammar, as many for the sentence, and 4 for the longest separator;
+-- only the sum is limited here
 abbrev pub max_job_bytes : ℕ
 max_job_bytes = MAX_JOB_BYTES
 

@@ -13,7 +13,8 @@ pub(crate) struct Cut {
     pub sentence: usize,
 }
 
-/// Returns the offsets at which the first line `%%` splits the bytes, or `None` if no line is exactly `%%`.
+/// Returns the offsets at which the first line `%%` splits the bytes, or `None` if no line is
+/// exactly `%%`.
 pub(crate) fn cut_of(bytes: &[u8]) -> Option<Cut>
     ensures text { IfSome result (λ cut. cut.text ≤ length bytes.now) }
     ensures sentence { IfSome result (λ cut. cut.sentence ≤ length bytes.now) }
@@ -29,7 +30,8 @@ pub(crate) fn cut_of(bytes: &[u8]) -> Option<Cut>
     None
 }
 
-/// Returns the offsets at which a line `%%` that begins at `at` splits the bytes, or `None` if none begins there.
+/// Returns the offsets at which a line `%%` that begins at `at` splits the bytes, or `None` if none
+/// begins there.
 fn cut_at(bytes: &[u8], at: usize) -> Option<Cut>
     requires { at < length bytes.now }
     ensures text { IfSome result (λ cut. cut.text ≡ at) }

@@ -4,8 +4,9 @@ use crate::fault::JobFault;
 use std::error::Error;
 use std::fmt;
 
-/// Prints a line such as `J2 standard input can't be read`: the fault's number or `NoMemory`, what is wrong,
-/// and for J1 and J3 what to do.
+/// Prints a line such as `J2 standard input can't be read`: the fault's number or `NoMemory`, what
+/// is wrong, and for J1 and J3 what to do. The lines are for the program, which reads jobs from
+/// standard input.
 impl fmt::Display for JobFault {
     ghost use Rattle.std.specs.Prelude.{Some};
     ghost use Rattle.ag_job.specs.Printed.{printed};

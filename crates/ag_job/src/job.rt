@@ -12,7 +12,8 @@ use std::io::Read;
 use std::marker::Model;
 
 /// The maximal number of bytes of a job: the maximal text of a grammar, a sentence of as many
-/// bytes, and 4 bytes for the line `%%` with a CR and an LF.
+/// bytes, and 4 bytes for the line `%%` with a CR and an LF. The parts of a job have no limits of
+/// their own here.
 pub const MAX_JOB_BYTES: usize = 2 * MAX_TEXT_BYTES + 4;
 
 /// A job that was read. In contracts it is the pair of its grammar's text and its sentence.
@@ -34,8 +35,9 @@ impl Model for Job {
 }
 
 impl Job {
-    /// Reads a job to the reader's end: a grammar, the first line that is exactly `%%`, and a sentence. A CR
-    /// directly before the LF of that line is ignored, and if it is the last line, its LF may be missing.
+    /// Reads a job: a grammar, the first line that is exactly `%%`, and a sentence, which ends at
+    /// the reader's end. A CR directly before the LF of that line is ignored. The last line may be
+    /// `%%` without an LF, but not with a CR alone.
     ///
     /// Reads at most 2,097,157 bytes, one more than a job may have. Fails with J3 `TooLong` if
     /// there are that many, with J2 `Read` if the reader fails before, with J1 `NoSeparator` if no

@@ -1,6 +1,6 @@
 -- The scanner as plain functions: the word at the beginning of characters, and all tokens of a text. The clause `tokens` of
--- `scan` says that they agree with the definitions. In this file 34 is the double quote, and the classes are 0 for NAME, 1 for
--- NUMBER and 2 for TEXT.
+-- `scan` says that they agree with the definitions for each sentence that `scan` accepts. In this file 34 is the double quote,
+-- and the classes are 0 for NAME, 1 for NUMBER and 2 for TEXT.
 use Rattle.std.specs.Prelude.{◌≡◌, ℕ, zero, suc, ◌+◌, ◌-◌, Bool, cond, nat_eq, nat_lt, ◌==◌, List, [], ◌∷◌, ◌++◌, length, take}
 use Rattle.std.specs.Prelude.{drop, Option, Some, None, slice_get, chars, encode_utf8_all}
 use Rattle.std.specs.Cmp.Lexicographic.{pointwise}
@@ -37,7 +37,7 @@ abbrev pub close_quote : List ℕ → List ℕ → Option LeadingWord
 close_quote body [] = None
 close_quote body (c ∷ cs) = cond (c == 34) (Some (record { kind = Class 2; lex = body; rest = cs })) None
 
--- the TEXT whose opening quote has been read
+-- the TEXT whose opening quote has been read; `None` if its closing quote is missing on this line
 abbrev pub text_from : List ℕ → Option LeadingWord
 text_from cs = close_quote (encode_utf8_all (prefix_in is_quotable cs)) (rest_after is_quotable cs)
 
@@ -45,7 +45,7 @@ text_from cs = close_quote (encode_utf8_all (prefix_in is_quotable cs)) (rest_af
 abbrev pub uses : List ℕ → ℕ → Bool
 uses classes k = list_any (λ d. d == k) classes
 
--- the word of a class in use at the beginning of the characters
+-- the word of a class in use at the beginning of the characters, if there is one
 unfoldable pub class_from : List ℕ → List ℕ → Option LeadingWord
 class_from classes [] = None
 class_from classes (c ∷ cs) =

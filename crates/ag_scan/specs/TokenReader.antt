@@ -11,10 +11,11 @@ pub record TokenReader : Type 0 where
   pub list : List Token
   pub taken : ℕ
 
+-- the reader of these tokens after i of them have been taken
 abbrev pub reader_at : List Token → ℕ → TokenReader
 reader_at ts i = record { list = ts; taken = i }
 
--- the specification token of a token of the code
+-- the token of the specification that corresponds to a token of the code
 abbrev pub token_of : code.Token → Token
 token_of t = record { kind = t.kind; lex = t.lex.now; at = t.at }
 

@@ -74,8 +74,8 @@ pub record AreTokensOf (v : Vocabulary) (sentence : List ℕ) (ts : List Token) 
   pub tokens : Reaches v (chars sentence) ts (length sentence) []
 
 -- The reason why the sentence cannot be cut into tokens: it is too long; else it is not UTF-8, and `at` is the
--- offset of the first invalid byte; else, from left to right, no word begins at the offset `at`, or the token
--- there is too long. `NoMemory` states nothing about the sentence.
+-- offset of the first invalid byte; else, from left to right, no word begins at the offset `at`, or the text
+-- of the token there is too long. `NoMemory` states nothing about the sentence.
 abbrev pub IsRefused : Vocabulary → List ℕ → ScanFault → Type 0
 IsRefused v sentence fault.TooLong = max_sentence_bytes < length sentence
 IsRefused v sentence (fault.BadUtf8 at) =

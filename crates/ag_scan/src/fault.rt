@@ -5,8 +5,8 @@ ghost use Rattle.ag_scan.specs.declared.fault.ScanFault.TheVariants as scan_faul
 
 use ag_value::OutOfMemory;
 
-/// Why scanning a sentence fails. (It succeeds for an empty sentence, with no tokens.) Offsets are in
-/// bytes from the beginning of the sentence.
+/// Why scanning a sentence fails. (It succeeds for an empty sentence, with no tokens.) Offsets are
+/// in bytes from the beginning of the sentence.
 #[derive(Clone, Copy, Debug, PartialEq, Eq)]
 pub enum ScanFault {
     /// S1: the sentence is not UTF-8; the offset of the first invalid byte.

@@ -17,9 +17,9 @@ use ag_value::Text;
 use std::alloc::Global;
 use std::marker::Model;
 
-/// A sentence that is known to consist of tokens and separators. It stores the text of the sentence
-/// and a table of the literals, but not the tokens; `tokens` computes them again, one at a time. In
-/// contracts it is the list of its tokens.
+/// A sentence that is known to consist of separators and tokens with texts of at most 65,535 bytes.
+/// It stores the text of the sentence and a table of the literals, but not the tokens; `tokens`
+/// computes them again, one at a time. In contracts it is the list of its tokens.
 #[derive(Drop)]
 pub struct Sentence<'s> {
     vocabulary: Vocabulary<'s>,
@@ -39,8 +39,9 @@ impl<'s> Model for Sentence<'s> {
     ghost invariant = { λ s. IsScannable s.vocabulary s.text.now };
 }
 
-/// Checks that a text of at most 1,048,576 bytes consists of tokens and separators. Fails with S2 or
-/// S3 at the first offset where it does not.
+/// Checks that a text of at most 1,048,576 bytes consists of tokens and separators, and that the
+/// text of each token has at most 65,535 bytes. At the first offset where this is not so, fails
+/// with S2 if no word begins there, and with S3 if the token's text is longer.
 #[inline(never)]
 fn check_tokens(vocabulary: &Vocabulary<'_>, text: &str) -> Result<(), ScanFault>
     requires short { length text.now ≤ max_sentence_bytes }
@@ -94,9 +95,9 @@ fn scan_over<'s>(
 ///
 /// Fails with the first of these faults: S4 if the sentence has more than 1,048,576 bytes; S1 if it
 /// is not UTF-8; then, from left to right, S2 at a character that is not a separator and begins no
-/// word, and S3 at a token whose text has more than 65,535 bytes. Allocates a table of the literals,
-/// but nothing for the tokens, which are computed again when they are read; fails with `NoMemory` if
-/// memory runs out.
+/// word, and S3 at a token whose text has more than 65,535 bytes. Allocates a table of the
+/// literals, but nothing for the tokens, which are computed again when they are read; fails with
+/// `NoMemory` if memory runs out.
 pub fn scan<'s>(
     alloc: Global,
     grammar: &'s Grammar,

@@ -113,7 +113,7 @@ impl<'t> Tokens<'t> {
         ensures { self.new ≡ reader_at self.old.list (self.old.taken + 1) }
     {
         if let Some(next) = self.next {
-            // this call shows the prover that the text is UTF-8
+            // this call shows the prover that `next.rest` is UTF-8; its result isn't needed
             let _utf8 = next.rest.as_bytes();
             let (next, at) = next_word(self.vocabulary, self.text, next.rest, self.at);
             self.next = next;

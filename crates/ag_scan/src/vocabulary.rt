@@ -75,7 +75,7 @@ impl<'g> Vocabulary<'g> {
         if lex.len() > MAX_TOKEN_BYTES {
             return Err(ScanFault::LongToken(at));
         }
-        // this call shows the prover that the text is UTF-8
+        // this call shows the prover that `lex` is UTF-8; its result isn't needed
         let _utf8 = lex.as_bytes();
         Ok(rest)
     }

@@ -47,7 +47,8 @@ read_text text i =
     cond (nat_lt max_text_bytes (length text)) (Err fault.TooLong)
     (cond (is_utf8 text) (answer_of text (grammar_of i)) (Err (fault.BadUtf8 (utf8_valid_len text))))
 
--- The answer is the result of parsing the text, whose tokens and ending are i; or memory ran out.
+-- The answer is the result of parsing the text, whose tokens and ending are i; or memory ran out. A text that is too long or not
+-- UTF-8 has such an i too, which `read_text` doesn't use.
 abbrev pub IsRead : List ℕ → Result RawGrammar TextFault → Type 0
 IsRead text answer = (i : Input) → Lexes 0 (chars text) i → answer ≢ Err fault.NoMemory → read_text text i ≡ answer
 

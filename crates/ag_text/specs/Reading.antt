@@ -37,7 +37,7 @@ refusal i = WrongAt (offset i)
 abbrev pub one_from : {A : Type 0} → (ℕ → GrammarToken → Option A) → Parser A
 one_from = parsing.one_from refusal
 
--- Reads as many parts as there are: as long as the next token passes the test. Returns the given parts and these.
+-- Reads parts with the given parser, as long as the next token passes the test. Returns the list, followed by these parts.
 abbrev pub many : {A : Type 0} → (GrammarToken → Bool) → Parser A → List A → Parser (List A)
 many = further_from false
 
@@ -54,6 +54,7 @@ ended_expr_from = λ i. ended i (read_until_from i)
 
 -- ---- grammars
 
+-- reads this punctuation, or else fails with `refusal`; `expect_word` is the same for a reserved name
 abbrev pub expect : Punctuation → Parser (Unit {0})
 expect m = one_from (mark_in m)
 
@@ -138,6 +139,7 @@ grammar_from = do
 
 -- ---- a whole text
 
+-- reads nothing if the text ends here, and else fails with `refusal`
 abbrev pub at_end : Parser (Unit {0})
 at_end = end_from refusal
 

@@ -63,7 +63,7 @@ IsSymbol = do
   mark punctuation.Semicolon
   gives (record { name = name; syn = syn; inh = inh })
 
--- The tokens are an expression, with its tree and the distinct occurrences among these tokens. They contain
+-- The tokens are an expression of at most 64 levels, with its tree and the distinct occurrences among these tokens. They contain
 -- no `;`.
 pub record IsOwnExpr (ps : List PlacedToken) (expr : Node × List Occ) : Type 0 where
   pub free : first_semicolon ps ≡ None

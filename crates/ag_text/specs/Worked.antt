@@ -11,13 +11,15 @@ use Rattle.ag_grammar.specs.declared.raw.RawGrammar.{RawGrammar}
 use Rattle.ag_grammar.specs.declared.raw.RawItem.TheVariants as item
 use Rattle.ag_grammar.specs.declared.raw.RawRule.{RawRule}
 
--- a name at an offset, as a token; below it punctuation at an offset, and a name of a raw grammar
+-- the token of a name at an offset
 abbrev pub name_at : ℕ → List ℕ → PlacedToken
 name_at at name = record { at = at; token = token.Name name }
 
+-- the token of punctuation at an offset
 abbrev pub mark_at : ℕ → Punctuation → PlacedToken
 mark_at at mark = record { at = at; token = token.Punctuation mark }
 
+-- a name of a raw grammar, with its offset
 abbrev pub named : ℕ → List ℕ → Named
 named at name = record { name = name; at = at }
 

@@ -41,7 +41,8 @@ pub fn expected_at(alloc: Global, text: &str, fault: TextFault) -> Result<Vec<Ex
     }
 }
 
-/// Returns what could be at a byte offset outside of expressions. Fails with `NoMemory`.
+/// Returns what could be at a byte offset outside of expressions; nothing if the offset is not on a
+/// character boundary. Fails with `NoMemory`.
 fn expected_outside(alloc: Global, text: &str, at: usize) -> Result<Vec<Expected>, NoMemory> {
     let mut found = Vec::new(alloc);
     if let Some(before) = text.get(..at) {
@@ -73,7 +74,8 @@ fn gather_outside(alloc: Global, before: &str, found: &mut Vec<Expected>) -> Res
     Ok(())
 }
 
-/// Returns what could be at a byte offset inside an expression. Fails with `NoMemory`.
+/// Returns what could be at a byte offset inside an expression; nothing if the offset is not on a
+/// character boundary. Fails with `NoMemory`.
 fn expected_inside(alloc: Global, text: &str, at: usize) -> Result<Vec<Expected>, NoMemory> {
     let mut found = Vec::new(alloc);
     let from = expression_start(text, at);
@@ -126,7 +128,8 @@ fn can_follow(alloc: Global, before: &str, token: &str) -> Result<bool, NoMemory
 }
 
 /// Returns the byte offset at which the text is rejected, or `None` if it is a grammar. Returns 0
-/// for any fault but G2, G3 with X2, and NoMemory. Fails with `NoMemory`.
+/// for any fault but G2, G3 with X2, and NoMemory; no candidate is then taken for possible. Fails
+/// with `NoMemory`.
 fn refused_at(alloc: Global, text: &str) -> Result<Option<usize>, NoMemory> {
     match read_grammar(alloc, text.as_bytes()) {
         Ok(_) => Ok(None),

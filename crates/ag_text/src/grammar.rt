@@ -29,8 +29,8 @@ fn line_feeds(bytes: &[u8]) -> usize
     count
 }
 
-/// Returns the number, from 1, of the line that contains a byte offset, or of the last line if the
-/// offset is that of the end or greater.
+/// Returns the number, from 1, of the line that contains a byte offset: 1 more than the number of
+/// line feeds before the offset. An offset after the end counts as the end.
 fn line_of(text: &str, at: usize) -> usize
     ensures { result ≡ answers.line_of text.now at }
 {

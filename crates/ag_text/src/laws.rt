@@ -15,8 +15,8 @@ pub fn reading_agrees_with_the_syntax()
     ensures { ReadingAgrees }
 {}
 
-/// States that, outside of expressions, the reading function of grammars fails at the first token that
-/// cannot be accepted.
+/// States that, outside of expressions, the reading function of grammars fails at the first token
+/// that cannot be accepted.
 #[tactic(auto, using(crate::proofs::Agree::refuses_at_the_first))]
 pub fn the_first_wrong_token_is_reported()
     ensures { RefusesAtTheFirst }

@@ -89,7 +89,8 @@ pub fn expect(cursor: &mut Cursor<'_>, mark: Punctuation) -> Result<(), Stop>
     }
 }
 
-/// Reads this reserved name. Fails with `WrongAt` if the next token is another one or there is none.
+/// Reads this reserved name. Fails with `WrongAt` if the next token is another one or there is
+/// none.
 pub fn expect_word(cursor: &mut Cursor<'_>, word: &str) -> Result<(), Stop>
     ensures { Reads (reading.expect_word word.now) cursor.old result cursor.new }
 {
@@ -109,8 +110,8 @@ fn copy_of(alloc: Global, text: &str) -> Result<Text, NoMemory>
     Ok(Text::from_string(String::from_str(alloc, text)?))
 }
 
-/// Reads a name that is not reserved, and returns it with its offset in bytes. Fails with `WrongAt` if
-/// the next token is not such a name or there is none, and with `NoMemory` if memory runs out.
+/// Reads a name that is not reserved, and returns it with its offset in bytes. Fails with `WrongAt`
+/// if the next token is not such a name or there is none, and with `NoMemory` if memory runs out.
 pub fn name(alloc: Global, cursor: &mut Cursor<'_>) -> Result<Named, Stop>
     ensures { Reads (reading.one_from meanings.name_in) cursor.old result cursor.new }
 {
@@ -160,8 +161,8 @@ fn is_literal(text: &str) -> bool
     !text.is_empty() && !has_separator(text.as_bytes())
 }
 
-/// Returns the item for the body of a text literal in a right side, or `None` if its text is empty or
-/// contains a separator. Fails with `NoMemory` if memory runs out.
+/// Returns the item for the body of a text literal in a right side, or `None` if its text is empty
+/// or contains a separator. Fails with `NoMemory` if memory runs out.
 fn literal(alloc: Global, body: &str) -> Result<Option<RawItem>, NoMemory>
     ensures { IfOk result (λ found. found
         ≡ meanings.literal_of (unescaped_bytes (chars body.now))) }
@@ -173,8 +174,8 @@ fn literal(alloc: Global, body: &str) -> Result<Option<RawItem>, NoMemory>
     Ok(None)
 }
 
-/// Returns the item for a name at the byte offset `at`: a class or a symbol's name; `None` for another
-/// reserved name. Fails with `NoMemory` if memory runs out.
+/// Returns the item for a name at the byte offset `at`: a class or a symbol's name; `None` for
+/// another reserved name. Fails with `NoMemory` if memory runs out.
 fn named_item(alloc: Global, name: &str, at: usize) -> Result<Option<RawItem>, NoMemory>
     ensures { IfOk result (λ found. found ≡ meanings.item_in at (token.Name name.now)) }
 {
@@ -188,8 +189,8 @@ fn named_item(alloc: Global, name: &str, at: usize) -> Result<Option<RawItem>, N
     Ok(Some(RawItem::Name(Named { name, at })))
 }
 
-/// Returns the item of a right side for a token at the byte offset `at`, or `None` if the token cannot
-/// be one. Fails with `NoMemory` if memory runs out.
+/// Returns the item of a right side for a token at the byte offset `at`, or `None` if the token
+/// cannot be one. Fails with `NoMemory` if memory runs out.
 fn item_of(alloc: Global, token: GrammarToken<'_>, at: usize) -> Result<Option<RawItem>, NoMemory>
     ensures { IfOk result (λ found. found ≡ meanings.item_in at (token_of token.entry)) }
 {
@@ -200,8 +201,8 @@ fn item_of(alloc: Global, token: GrammarToken<'_>, at: usize) -> Result<Option<R
     }
 }
 
-/// Reads an item of a right side: a class, a name or a literal. Fails with `WrongAt` if the next token
-/// is not one or there is none, and with `NoMemory` if memory runs out.
+/// Reads an item of a right side: a class, a name or a literal. Fails with `WrongAt` if the next
+/// token is not one or there is none, and with `NoMemory` if memory runs out.
 pub fn item(alloc: Global, cursor: &mut Cursor<'_>) -> Result<RawItem, Stop>
     ensures { Reads (reading.one_from meanings.item_in) cursor.old result cursor.new }
 {
@@ -215,9 +216,9 @@ pub fn item(alloc: Global, cursor: &mut Cursor<'_>) -> Result<RawItem, Stop>
     Err(refusal(cursor))
 }
 
-/// Reads the target of a rule, which is an occurrence such as `$1.value`, and returns it with its offset
-/// in bytes. Fails with `WrongAt` if the next token is not an occurrence or there is none, and with
-/// `NoMemory` if memory runs out.
+/// Reads the target of a rule, which is an occurrence such as `$1.value`, and returns it with its
+/// offset in bytes. Fails with `WrongAt` if the next token is not an occurrence or there is none,
+/// and with `NoMemory` if memory runs out.
 pub fn target(alloc: Global, cursor: &mut Cursor<'_>) -> Result<Occ, Stop>
     ensures { Reads (reading.one_from meanings.target_in) cursor.old result cursor.new }
 {

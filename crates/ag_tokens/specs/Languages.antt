@@ -2,7 +2,7 @@
 -- tokens and a meaning, such as a tree. All definitions are this project's.
 use Rattle.std.specs.Prelude.{◌≡◌, ◌≤◌, ℕ, Bool, true, false, List, [], ◌∷◌, ◌++◌, length, Option, Some, ◌⊎◌}
 
--- a part, followed by a part that may depend on the first one's meaning
+-- a part, followed by a part that may depend on the first one's meaning; the second part's meaning is that of the whole
 infixl 10 ◌>>=◌
 abbrev pub ◌>>=◌ : {T A B : Type 0} → (List T → A → Type 0) → (A → List T → B → Type 0) → List T → B → Type 0
 ◌>>=◌ {T} {A} first more ts b = (us : List T) × (vs : List T) × (a : A) × (ts ≡ us ++ vs) × first us a × more a vs b

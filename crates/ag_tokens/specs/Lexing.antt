@@ -46,7 +46,7 @@ escape_from [] = None
 escape_from (c ∷ cs) = option_and_then (λ d. Some (d, cs)) (escaped c)
 
 -- the character that the beginning of a body denotes, and the characters after it: an escape denotes one character, and any other
--- character denotes itself, also a quote
+-- character denotes itself, also a quote; `None` at a backslash that begins no escape, and at the end
 abbrev pub piece_from : List ℕ → Option (ℕ × List ℕ)
 piece_from [] = None
 piece_from (c ∷ cs) = cond (c == 92) (escape_from cs) (Some (c, cs))
@@ -108,7 +108,7 @@ punctuation_from (c ∷ cs) =
     (cond (c == 61) (Some (double_mark 61 punctuation.EqualEqual punctuation.Equal cs))
     (option_and_then (λ s. Some (s, cs)) (single_punctuation c)))
 
--- the character that the beginning of a body denotes, and the characters after it; none at a quote, which ends a body
+-- as `piece_from`, but also `None` at a quote, which ends a body
 abbrev pub character_from : List ℕ → Option (ℕ × List ℕ)
 character_from [] = None
 character_from (c ∷ cs) = cond (c == 34) None (cond (c == 92) (escape_from cs) (Some (c, cs)))
@@ -118,8 +118,8 @@ abbrev pub after_quote : List ℕ → Option (List ℕ)
 after_quote [] = None
 after_quote (c ∷ cs) = cond (c == 34) (Some cs) None
 
--- the text literal whose bytes so far are `prefix`, and the characters after it, if fewer than `turns` further characters come
--- before its closing quote
+-- The text literal that denotes `prefix` so far, and the characters after it; `cs` is the rest after that part. `None` unless
+-- fewer than `turns` characters come before the closing quote, where an escape counts as one.
 unfoldable pub text_from : ℕ → List ℕ → List ℕ → Option (GrammarToken × List ℕ)
 text_from zero prefix cs = None
 text_from (suc turns) prefix cs =

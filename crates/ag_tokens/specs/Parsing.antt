@@ -82,7 +82,7 @@ Outcome Fault A = Result (A × Input) Fault
 abbrev pub Parser : Type 0 → Type 0 → Type 0
 Parser Fault A = Input → Outcome Fault A
 
--- one outcome and then a parser, which depends on its value; a fault is the result. `>>=` is the same for two parsers.
+-- runs the parser that f gives for the outcome's value, on its remaining input; a fault stays. `>>=`: the same for two parsers
 abbrev pub and_then : {Fault A B : Type 0} → Outcome Fault A → (A → Parser Fault B) → Outcome Fault B
 and_then (Ok p) f = f p.0 p.1
 and_then (Err e) f = Err e

@@ -49,12 +49,12 @@ input_by more at cs (Some p) =
     cond (is_within p.0) (with_token at p.0 (more (after_separators p.1))) (without_tokens (ending.TooLargeAt at))
 
 -- The tokens of the last characters `cs` of a text of `len` bytes, and the ending. `cs` does not begin with a separator. `turns`
--- bounds the recursion: it must be greater than the number of tokens.
+-- bounds the recursion: it must be greater than the number of tokens. That is so in `input`, since each token has a character.
 unfoldable pub cut : ℕ → ℕ → List ℕ → Input
 cut zero len cs = without_tokens (ending.EndsAt len)
 cut (suc turns) len cs = input_by (cut turns len) (len - width cs) cs (token_from cs)
 
--- all tokens of the last characters `cs` of a text of `len` bytes
+-- the tokens and the ending of the last characters `cs` of a text of `len` bytes; `cs` does not begin with a separator
 unfoldable pub input : ℕ → List ℕ → Input
 input len cs = cut (suc (length cs)) len cs
 

@@ -79,7 +79,7 @@ IsToken word (token.Occurrence place attr) =
     × (place ≡ digits_value 10 digits) × (attr ≡ encode_utf8_all name)
 IsToken word (token.Punctuation s) = word ≡ punctuation_text s
 
--- No longer prefix of the characters `word ++ rest` is a token.
+-- Each prefix of the characters `word ++ rest` that is a token is at most as long as `word`.
 abbrev pub IsLongest : List ℕ → List ℕ → Type 0
 IsLongest word rest = (longer more : List ℕ) (t : GrammarToken) → word ++ rest ≡ longer ++ more → IsToken longer t
     → length longer ≤ length word
@@ -166,14 +166,14 @@ pub record HasTooLarge (cs : List ℕ) : Type 0 where
   pub longest : IsLongest word following
   pub large : is_within token ≡ false
 
--- the characters after the tokens of a text agree with the ending
+-- the characters after the tokens of a text agree with the ending, apart from its offset
 abbrev pub Stops : Ending → List ℕ → Type 0
 Stops (ending.EndsAt at) rest = rest ≡ []
 Stops (ending.NoTokenAt at) rest = HasNoToken rest
 Stops (ending.TooLargeAt at) rest = HasTooLarge rest
 
--- From the byte offset `from` on, where the characters `cs` begin, they are the tokens and the ending of i, and the number or
--- place of each token is within its limit.
+-- The characters `cs`, which begin at the byte offset `from`, have the tokens and the ending of i, with their offsets. The number
+-- or place of each token is within its limit.
 pub record Lexes (from : ℕ) (cs : List ℕ) (i : Input) : Type 0 where
   pub rest : List ℕ
   pub before : AreTokens from cs i.left (offset_of i.ending) rest

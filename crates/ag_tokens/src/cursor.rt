@@ -18,6 +18,7 @@ use std::marker::Model;
 /// from the beginning of the text.
 #[derive(Drop)]
 pub struct Cursor<'t> {
+    /// The whole text.
     text: &'t str,
     /// The rest of the text, from the next token on.
     rest: &'t str,
@@ -124,7 +125,8 @@ impl<'t> Cursor<'t> {
     {
         if let Ok((_, following)) = self.leading {
             self.rest = skip_separators(following);
-            // `quick_token` is inlined; `leading_token`, which reads all tokens, is not
+            // `quick_token` is inlined, and reads punctuation and short numbers; `leading_token`
+            // is not inlined, and reads tokens of every kind
             match quick_token(self.rest) {
                 Some(cut) => self.leading = Ok(cut),
                 None => self.leading = leading_token(self.rest),

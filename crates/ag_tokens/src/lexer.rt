@@ -211,8 +211,8 @@ fn past_escape(text: &str) -> Option<&str>
     }
 }
 
-/// Returns the text after the first character, or escape, of the body of a text literal. Returns `None`
-/// at a quote, at a backslash that does not begin an escape, and at the end of the text.
+/// Returns the text after the first character, or escape, of the body of a text literal. Returns
+/// `None` at a quote, at a backslash that does not begin an escape, and at the end of the text.
 #[tactic(auto, using(crate::proofs::TextTurns::past))]
 fn past_character(text: &str) -> Option<&str>
     ensures { MatchOption result (lexing.character_from (chars text.now) ≡ None)
@@ -246,8 +246,9 @@ fn after_dot(text: &str) -> Option<&str>
 }
 
 /// Returns the character that the beginning of the body of a text literal denotes, and the text
-/// after it. An escape denotes one character, and any other character itself, also a quote. Returns
-/// `None` at the end and at a backslash that does not begin an escape.
+/// after it. An escape denotes one character, and any other character denotes itself. That includes
+/// a quote, which the body of a token has only in escapes, but `unescaped` accepts any text.
+/// Returns `None` at the end and at a backslash that does not begin an escape.
 fn character(text: &str) -> Option<(char, &str)>
     ensures { option_map (λ x. (x.0, chars x.1.now)) result
         ≡ lexing.piece_from (chars text.now) }
@@ -261,9 +262,9 @@ fn character(text: &str) -> Option<(char, &str)>
     }
 }
 
-/// Returns the text that a text literal denotes, given its body between the quotes. If the body has
-/// a wrong escape, returns the text before it (the body of a token has none). Fails with `NoMemory`
-/// if the text cannot be allocated.
+/// Returns the text that a text literal denotes, given its body between the quotes. If a backslash
+/// begins no escape, returns the text before it (the body of a token has no such backslash). Fails
+/// with `NoMemory` if the text cannot be allocated.
 #[tactic(auto, using(crate::proofs::TextTurns::piece_some, crate::proofs::TextTurns::piece_none,))]
 pub fn unescaped(alloc: Global, body: &str) -> Result<Text, NoMemory>
     ensures { IfOk result (λ text. text ≡ lexing.unescaped (chars body.now)) }

@@ -37,7 +37,7 @@ abbrev pub number_at : Width → List ℕ → Read ℕ
 number_at w bytes =
     if nat_lt (length bytes) (byte_len w) then None else Some (from_be_bytes w (take (byte_len w) bytes), drop (byte_len w) bytes)
 
--- a length, and that many bytes that are UTF-8
+-- a text: its length in four bytes, and that many bytes, which are UTF-8
 unfoldable pub text_at : List ℕ → Read (List ℕ)
 text_at bytes = number_at w32 bytes >>= λ n.
     if nat_lt (length n.1) n.0 then None else (if is_utf8 (take n.0 n.1) then Some (take n.0 n.1, drop n.0 n.1) else None)

@@ -23,7 +23,7 @@ is_ascending [] = true
 is_ascending (a ∷ []) = true
 is_ascending (a ∷ b ∷ keys) = is_before a b && is_ascending (b ∷ keys)
 
--- all of them are true
+-- all tests of a list are true
 abbrev pub all_true : List Bool → Bool
 all_true [] = true
 all_true (b ∷ bs) = b && all_true bs

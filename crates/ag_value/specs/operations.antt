@@ -1,5 +1,5 @@
--- The results of operations on values, by subject: what holds of all operations (errors among the arguments, the limits of a
--- result), numbers, texts, lists and tables.
+-- The results of operations on values, by subject: errors among the arguments, the check of the limits, numbers, texts, lists and
+-- tables.
 pub mod Arguments
 pub mod Fitting
 pub mod Lists

@@ -13,8 +13,8 @@ enum Storage {
     Long(String),
 }
 
-/// A string; contracts see the list of its bytes. A text that `from_str` makes of up to 16 bytes
-/// takes no memory.
+/// A string; contracts see the list of its bytes. `from_str` takes no memory for a text of up to 16
+/// bytes.
 #[derive(Debug, Drop)]
 pub struct Text {
     held: Storage,

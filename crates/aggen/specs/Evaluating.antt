@@ -26,8 +26,8 @@ abbrev pub EvaluatesTree : Grammar → (honest_tree honest_a honest_b : Bool) �
     → Report → Type 0
 EvaluatesTree g = Evaluates (ArePassesOf g) g
 
--- All passes ran over the one tree that a content is the file of: the last two tree files have its solution, and
--- the report is true.
+-- All passes ran over the one tree whose file of pass 0 a content is: the last two tree files have its solution,
+-- and the report is true.
 pub record AreLeftOfTree (g : Grammar) (m : Passes) (content a b : List ℕ) (report : Report) : Type 0 where
   pub tree : Tree
   pub one : IsOneTree (IsTreeInFile g content) tree
@@ -53,9 +53,9 @@ pub record LeavesLastFilesOfTree (g : Grammar) (honest_tree honest_a honest_b : 
   pub report : Report
   pub files : LeavesFilesOfTree g rows honest_tree honest_a honest_b content a b report
 
--- The fault that pass 1 of a plan finds in a content that should be the file of pass 0 of a tree of the
--- grammar, or a limit that is exceeded before one. Records of pass 0 have no values of attributes, so all
--- plans find the same.
+-- Pass 1 of a plan finds this fault in a content that should be the file of pass 0 of a tree of the grammar,
+-- or finds that this limit is exceeded, before any other fault. Records of pass 0 have no values of
+-- rules, so all plans find the same.
 abbrev pub ShowsInFile : Grammar → List ℕ → RunFault → Type 0
 ShowsInFile g content f =
     (plan : List (List ℕ) × Lists) × AreFromOne (passes_of plan.0) × Shows (source (setting_of g plan 1)) content f

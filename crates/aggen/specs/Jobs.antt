@@ -28,20 +28,20 @@ pub record TranslatesJob (known : Option (List ℕ)) (honest_a honest_b : Bool) 
   pub is : IsGrammarOf text grammar
   pub translates : TranslatesSentence grammar sentence honest_a honest_b a b old new report
 
--- J1 to J3: the bytes of a reader are not a job, or could not be read, for this reason
+-- J1 to J3, and NoMemory: the bytes of a reader are not a job, or could not be read, for this reason
 pub record IsNoJob (known : Option (List ℕ)) (e : Fault) : Type 0 where
   pub reason : JobFault
   pub named : e ≡ job_fault_of reason
   pub exact : IsJobFault known reason
 
--- G, N, L and A: the text of a job's grammar makes no translator
+-- G, N, L and A, and NoMemory: no translator was built from the text of a job's grammar, for this reason
 pub record IsNoTranslator (text : List ℕ) (e : Fault) : Type 0 where
   pub reason : BuildFault
   pub named : e ≡ build_fault_of reason
   pub exact : IsBuildFault text reason
 
--- A job fails: its grammar makes no translator, or the translation of its sentence by that grammar
--- fails.
+-- A job fails: no translator was built from its grammar, or the translation of its sentence by that
+-- grammar failed.
 pub record IsRefusedJob (known : Option (List ℕ)) (honest_a honest_b : Bool) (old new : Option (List ℕ))
     (e : Fault) : Type 0 where
   pub text : List ℕ
@@ -74,7 +74,7 @@ IsBeforeTrees (fault.Assign f) = Unit {0}
 IsBeforeTrees (fault.Scan f) = Unit {0}
 IsBeforeTrees _ = ⊥
 
--- P comes before the second device is used.
+-- P comes before the second device is used, and so do the faults that come before a device is used.
 abbrev pub IsBeforePasses : Fault → Type 0
 IsBeforePasses (fault.Parse f) = Unit {0}
 IsBeforePasses e = IsBeforeTrees e

@@ -19,14 +19,14 @@ pub record HoldsOfPlan (text : List ℕ) (P : Grammar → List (List ℕ) → Li
   pub plan : IsLeastPlan grammar rows code
   pub holds : P grammar rows code
 
--- the lines of its passes were written, or a prefix of them
+-- the lines of the passes of the text's least plan were written; for `BeginsPlan`, a prefix of them
 abbrev pub PrintsPlan : List ℕ → Option (List ℕ) → Option (List ℕ) → Type 0
 PrintsPlan text old new = HoldsOfPlan text (λ g rows code. AppendsPlan g rows old new)
 
 abbrev pub BeginsPlan : List ℕ → Option (List ℕ) → Option (List ℕ) → Type 0
 BeginsPlan text old new = HoldsOfPlan text (λ g rows code. AppendsPlanBeginning g rows old new)
 
--- the lines of its code were written, or a prefix of them
+-- the lines of the code of this plan were written; for `BeginsCode`, a prefix of them
 abbrev pub PrintsCode : List ℕ → Option (List ℕ) → Option (List ℕ) → Type 0
 PrintsCode text old new = HoldsOfPlan text (λ g rows code. Appends old new (code_text g code))
 

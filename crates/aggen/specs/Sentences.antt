@@ -59,12 +59,12 @@ IsSentenceFault g sentence fault.Device = Unit {0}
 IsSentenceFault g sentence fault.NoMemory = Unit {0}
 IsSentenceFault g sentence _ = ⊥
 
--- P1 to P3
+-- a fault of the parser (P1 to P3)
 abbrev pub IsParseFault : Fault → Type 0
 IsParseFault (fault.Parse f) = Unit {0}
 IsParseFault _ = ⊥
 
--- S1 to S4
+-- a fault of the scanner (S1 to S4)
 abbrev pub IsScanFault : Fault → Type 0
 IsScanFault (fault.Scan f) = Unit {0}
 IsScanFault _ = ⊥

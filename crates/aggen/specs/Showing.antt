@@ -91,7 +91,7 @@ IsUnexpectedAt at (fault.Expr e) = e ≡ expr.Unexpected at
 IsUnexpectedAt at fault.NoMemory = Unit {0}
 IsUnexpectedAt at _ = ⊥
 
--- X1 to X4: the text is not an expression without occurrences
+-- a fault of the text of an expression (X1 to X4)
 abbrev pub IsExprFault : Fault → Type 0
 IsExprFault (fault.Expr e) = Unit {0}
 IsExprFault _ = ⊥

@@ -24,8 +24,8 @@ pub record IsOneTree (IsTree : Tree → Type 0) (t : Tree) : Type 0 where
   pub only : (s : Tree) → IsTree s → s ≡ t
   pub within : IsWithinLimits max_depth max_nodes t
 
--- A report is true of a tree and a number of passes: it has the number of the tree's nodes, as many rules were evaluated as the
--- tree has, and for each pass as many records were read, and as many written, as it has nodes.
+-- A report is true of a tree and a number of passes: it has this number and that of the tree's nodes. It counts one evaluation
+-- for each rule at each node, and nodes times passes both for the records read and for the records written.
 pub record IsReport (g : Grammar) (passes : ℕ) (t : Tree) (report : Report) : Type 0 where
   pub nodes : report.nodes ≡ node_count t
   pub passes_are : report.passes ≡ passes
@@ -46,7 +46,7 @@ pub record IsTranslated (g : Grammar) (m : Passes) (passes : ℕ) (t : Tree) (la
 
 -- The translation theorem: there is exactly one tree; the values in the last tree file meet every equation at every node; no
 -- other values meet them all; and the bytes written are the root's text. `IsTree` defines the trees of the input, and `ArePasses`
--- the assignment of the passes and their number. The statements about files and bytes hold if the devices are honest.
+-- the assignment of the passes and their number. If a device is not honest, only the tree and the plan are claimed.
 pub record Translates (IsTree : Tree → Type 0) (ArePasses : Passes → ℕ → Type 0) (g : Grammar) (honest_a honest_b : Bool)
     (a b : List ℕ) (old new : Option (List ℕ)) (report : Report) : Type 0 where
   pub tree : Tree
@@ -102,7 +102,7 @@ before_last zero last tree a b = tree
 before_last (suc zero) last tree a b = tree
 before_last (suc (suc k)) last tree a b = other_content last a b
 
--- There is exactly one tree whose file the content is, and its translation was written.
+-- There is exactly one tree whose file of pass 0 the content is, and its translation was written.
 pub record IsEvaluated (g : Grammar) (m : Passes) (passes : ℕ) (content a b : List ℕ) (old new : Option (List ℕ))
     (report : Report) : Type 0 where
   pub tree : Tree
@@ -110,7 +110,7 @@ pub record IsEvaluated (g : Grammar) (m : Passes) (passes : ℕ) (content a b : 
   pub translated : IsTranslated g m passes tree (last_content report.last a b)
       (before_last passes report.last content a b) old new report
 
--- The translation theorem for the file of a tree: it holds of the one tree whose file the content is.
+-- The translation theorem for the file of a tree: it holds of the one tree whose file of pass 0 the content is.
 pub record Evaluates (ArePasses : Passes → ℕ → Type 0) (g : Grammar) (honest_tree honest_a honest_b : Bool) (content a b : List ℕ)
     (old new : Option (List ℕ)) (report : Report) : Type 0 where
   pub assignment : Passes

@@ -44,6 +44,7 @@ pub fn certify_plan(alloc: Global, text: &[u8]) -> Result<CertifiedPlan, BuildFa
     ensures refused { IfErr result (λ e. IsBuildFault text.now e) }
 {
     let grammar = grammar_of(alloc, text)?;
+    // Only for its failure: a grammar with a conflict has no translator.
     let _tables = tables(alloc, &grammar)?;
     match assign_with_strikes(alloc, &grammar) {
         Ok((assignment, strikes)) => Ok(CertifiedPlan {

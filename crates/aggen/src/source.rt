@@ -12,7 +12,8 @@ use std::fs;
 use std::io::{Error, ErrorKind, Read};
 use std::rt::Files;
 
-/// The greatest number of bytes that are read of a file: one more than a grammar's text may have.
+/// The greatest number of bytes that are read: one more than the text of a grammar, or a sentence,
+/// may have. So a text that is too long is still too long after reading.
 const MAX_SOURCE_BYTES: u64 = MAX_TEXT_BYTES as u64 + 1;
 
 /// Returns the bytes of a file, at most the first 1,048,577. Fails with F1 File if it can't be

@@ -8,6 +8,6 @@ use Rattle.treefile.specs.devices.Files.{FileDeviceState, content_of, is_honest_
 abbrev pub stored_of : {F : Type 0} → FileDeviceState F → List ℕ
 stored_of device = (replay device.events).stored
 
--- If the file is honest, it has the whole content that its device had before the call (`old`), with the bytes that were buffered.
+-- If the file is honest, it has after a call (`new`) the whole content that its device had before (`old`), with buffered bytes.
 abbrev pub StoresContent : {F : Type 0} → FileDeviceState F → FileDeviceState F → Type 0
 StoresContent old new = WhenHonest (is_honest_of new) (stored_of new ≡ content_of old)

@@ -36,8 +36,8 @@ pub record ParsesSentence (g : Grammar) (sentence : List ℕ) (honest : Bool) (c
   pub file : WhenHonest honest (IsFirstFile version_two g tree content)
   pub nodes : count ≡ node_count tree
 
--- What a failed conversion leaves on the new device: the previous content, a prefix of a file of pass 0, or the file of the old
--- tree. If the old device is not honest, this says nothing.
+-- What a failed conversion leaves on the new device: the previous content, a prefix of a file of pass 0, or the whole converted
+-- file. If the old device is not honest, this says nothing.
 abbrev pub LeavesConversion : Grammar → (honest_old : Bool) → List ℕ → (old new : List ℕ) → Type 0
 LeavesConversion g honest content old new =
     LeavesBeginning 0 old new ⊎ ((count : ℕ) × UpgradesFile g honest content true new count)

@@ -120,7 +120,7 @@ pub fn evaluate_file<F: Read + Write + Seek + OpenFile, W: Write>(
 /// Fails with D1 if the new file can't be written out, also if the conversion failed, and otherwise
 /// as `Translator::upgrade` and `print_count` do. After O2 the new file has the tree, and a prefix
 /// of the line was printed. After another failure the device `tree` has the content that it had, a
-/// prefix of a file of pass 0, or the file of the old tree.
+/// prefix of a file of pass 0, or the whole converted file.
 pub fn upgrade_file<F: Read + Write + Seek + OpenFile, W: Write>(
     alloc: Global,
     translator: &Translator,
@@ -141,7 +141,7 @@ pub fn upgrade_file<F: Read + Write + Seek + OpenFile, W: Write>(
         (UpgradesFile translator.now (is_honest_of old.new) (content_of old.old)
         (is_honest_of tree.new) (stored_of tree.new))
         (W.contents out.old) (W.contents out.new) }
-    // what the new device had, a prefix of a file of pass 0, or the file of the old tree
+    // what the new device had, a prefix of a file of pass 0, or the whole converted file
     ensures left { OnErr result (WhenHonest (is_honest_of tree.new)
         (LeavesConversion translator.now (is_honest_of old.new) (content_of old.old)
         (content_of tree.old) (content_of tree.new))) }

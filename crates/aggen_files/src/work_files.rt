@@ -26,8 +26,8 @@ use std::rt::Files;
 use treefile::{DeviceFault, FileDevice};
 
 /// The tree files a.agt and b.agt of a folder. The parser writes a.agt, pass 1 reads a.agt and
-/// writes b.agt, pass 2 reads b.agt and writes a.agt, and so on. In `evaluate` pass 1 reads the
-/// given tree file, and nothing is parsed.
+/// writes b.agt, pass 2 reads b.agt and writes a.agt, and so on. In `evaluate` nothing is parsed:
+/// pass 1 reads the given device, and writes b.agt.
 #[derive(Drop)]
 pub struct WorkFiles<F> {
     /// The device over a.agt.

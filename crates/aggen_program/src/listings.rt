@@ -46,8 +46,9 @@ fn write_part<R: Print>(rt: &R, alloc: Global, text: &[u8], part: Part) -> Resul
     }
 }
 
-/// Prints the value of an expression. The value is written to a tree file in memory, and read back. Fails with X1 to X4
-/// if the text is not an expression, with O2 if the output fails, and if memory is refused.
+/// Prints the value of an expression. The value is written to a tree file in memory, and read back.
+/// Fails with X1 to X4 if the text is not an expression, with X2 if the expression has occurrences
+/// of attributes (`$1.a`), with O2 if the output fails, and if memory is refused.
 pub fn print_value<R: Print>(rt: &R, alloc: Global, text: &str) -> Result<(), FaultReport> {
     let mut device = MemDevice::new(alloc);
     let mut out = io::writer(rt);

@@ -38,8 +38,8 @@ const FOLDER: &str = "/";
 /// Runs the program.
 ///
 /// If a standard stream is closed, the system gives its number to the file that is opened next. So
-/// folders are opened first, and kept open while the program runs: reading from a closed stream fails,
-/// printing to one fails, and neither reaches a tree file.
+/// folders are opened first, and kept open while the program runs. Reading from a closed stream, or
+/// printing to one, then fails, and doesn't read or write a tree file.
 fn main(rt: HostRuntime) -> ExitCode {
     let _input = fs::open(&rt, FOLDER);
     let _output = fs::open(&rt, FOLDER);
@@ -121,8 +121,8 @@ fn perform<R: Files + Input + Print + Eprint + Clock>(
     Ok(ExitCode::SUCCESS)
 }
 
-/// Returns the words of the command line; the first is the program's name. Fails if one of them is not UTF-8, or memory
-/// is refused.
+/// Returns the words of the command line; the first is the program's name. Fails with `Usage` if
+/// one of them is not UTF-8, and with NoMemory if memory is refused.
 fn words_of<R: Env + AllocGlobal>(rt: &R, alloc: Global) -> Result<Vec<String>, Fault> {
     let words = match std::env::args(rt) {
         Ok(words) => words,

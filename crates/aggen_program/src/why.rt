@@ -15,8 +15,8 @@ use std::alloc::Global;
 use std::io::{self, Write};
 use std::rt::Files;
 
-/// Prints why a grammar needs its passes, or why no pass before the one of an attribute can compute it. If no order of
-/// passes evaluates the grammar, prints why, and fails with A1.
+/// Prints why a grammar needs its passes or, for an attribute, why no pass before its own can
+/// compute it. If no assignment of passes is legal, prints why, and fails with A1.
 ///
 /// Also fails if the grammar can't be read or is refused, if it does not have the attribute, if the output fails (O2),
 /// and if memory is refused.

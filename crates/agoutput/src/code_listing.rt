@@ -27,8 +27,8 @@ struct NumberedProduction<'g> {
     production: &'g Production,
 }
 
-/// Appends the name of an instruction and a place in decimal. Fails if memory is refused, as all
-/// `show_` functions do.
+/// Appends `name`, the name of an instruction with a space after it, and a place in decimal. Fails
+/// if memory is refused, as all `show_` functions do.
 fn show_place(alloc: Global, out: &mut String, name: &str, place: u16) -> Result<(), AllocError>
     ensures { OnOk result (string_bytes out.new ≡ string_bytes out.old
         ++ (name.now ++ decimal place)) }

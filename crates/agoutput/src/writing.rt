@@ -7,7 +7,8 @@ ghost use Rattle.agoutput.specs.Writing.{AppendsBeginning};
 use crate::fault::TextOutFault;
 use std::io::Write;
 
-/// Writes bytes with as many writes as the writer needs to take all of them. Takes no memory.
+/// Writes bytes with as many writes as the writer needs to take all of them. Takes no memory; the
+/// writer may take some.
 ///
 /// Fails with O2 if a write takes no byte, or fails for any reason, for example because the writer
 /// is refused memory. A prefix of the bytes, perhaps empty, is written then.
@@ -31,7 +32,7 @@ pub fn write_bytes<W: Write>(out: &mut W, bytes: &[u8]) -> Result<(), TextOutFau
     Ok(())
 }
 
-/// Writes the bytes of a text as `write_bytes` does, and fails as it does. Takes no memory.
+/// Writes the bytes of a text as `write_bytes` does, and fails as it does.
 pub fn write_text<W: Write>(out: &mut W, text: &str) -> Result<(), TextOutFault>
     ensures ok { OnOk result (Appends (W.contents out.old) (W.contents out.new) text.now) }
     ensures err { OnErr result

@@ -25,8 +25,8 @@ pub record IsNumberFor (rules : List Rule) (target : Target) (number : ℕ) : Ty
   pub there : slice_get rules number ≡ Some rule
   pub gives : rule.target ≡ target
 
--- A rule for a target passes on the error of an argument: with other errors in the place of those before it the rule has the same
--- error, and with another one in its place too it has not.
+-- A rule for a target passes on the error of an argument: with other errors in place of those among the arguments before this
+-- one, the rule has the same error; with another error in place of this argument's as well, the rule does not have that error.
 pub record PassesOn (rules : List Rule) (e : Table) (target argument : Target) : Type 0 where
   pub number : ℕ
   pub rule : Rule
@@ -43,7 +43,7 @@ pub record Arises (rules : List Rule) (e : Table) (target : Target) (number : �
   pub gives : rule.target ≡ target
   pub arises : is_arising e rule ≡ true
 
--- No rule for a target has an error as its value. The numbers of rules fit two bytes.
+-- None of the first 65,536 rules is for the target and has an error as its value.
 abbrev pub HasNoError : List Rule → Table → Target → Type 0
 HasNoError rules e target = (number : ℕ) (rule : Rule) → number < 65536 → slice_get rules number ≡ Some rule
     → rule.target ≡ target

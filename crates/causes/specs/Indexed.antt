@@ -60,7 +60,8 @@ abbrev pub OfEachLast : (Tree → Valuation → Type 0) → Grammar → List ℕ
 OfEachLast P g content = (m : Passes) (k : ℕ) (t : Tree) (v : Valuation) → k < 2 ^ 16 → IsLegal g m → IsLastPass k m
     → IsTreeOf g t → IsFileOfTree version_two g m k t v content → P t v
 
--- What is read in a content with an index: a record of it, and with the index of the content what the tree says there.
+-- What is read in a content with an index: a record of the content says what the rule does and, if the index is that of the
+-- content, so does each tree whose file the content is.
 abbrev pub in_file : Grammar → TreeIndex → List ℕ → Reading
 in_file g index content places target does = IsInRecord g content target does
     × (IsIndexIn g content index → OfEachLast (λ t v. IsInTree g t v places target does) g content)
@@ -76,13 +77,13 @@ abbrev pub IsCauseIn : Grammar → TreeIndex → List ℕ → List ℕ → Targe
 IsCauseIn g index content places target there number n = IsIndexIn g content index
     → OfEachLast (IsCauseOf g places target there number n) g content
 
--- A node of a production, which has a number in an index, has no record there.
+-- If the node of this number in the index is one of a production of the grammar, the index has no end of the node's record.
 abbrev pub HasNoRecord : Grammar → TreeIndex → ℕ → Type 0
 HasNoRecord g index number = (p : ℕ) (q : Production) → kind_in index number ≡ Some (kind.Node p) → IsProduction g p q
     → end_of index number ≡ None
 
--- The index has no record of a node of a production at the end of some places: it is a token, or a node whose production the
--- grammar lacks, or the index has no end of its record.
+-- The index has no record of a node of a production at the end of some places: the node there is a token, or its production is
+-- not one of the grammar, or the index has no such node, or no end of its record.
 pub record IsWithoutRecord (g : Grammar) (index : TreeIndex) (places : List ℕ) : Type 0 where
   pub number : ℕ
   pub numbered : IsNumberAt g index places number

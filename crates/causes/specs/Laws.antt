@@ -31,8 +31,8 @@ abbrev pub FoundIsCause : Type 0
 FoundIsCause = (g : Grammar) (t : Tree) (v : Valuation) (path : List ℕ) (target : Target) (there : List ℕ) (number n : ℕ)
     → IsCause (in_tree g t v) (map suc path) target there number n → HasCause g t v (place_path path target.place) target.attr
 
--- The error of an attribute instance has a cause that is found along the nodes of a tree, from the rule for a target at one of
--- them.
+-- The error of an attribute at a node has a cause that is found along the nodes of the tree: a chain leads to it from a rule for
+-- this attribute. `instance` is the path of the attribute's node, and `path` that of the rule's.
 pub record IsFound (g : Grammar) (t : Tree) (v : Valuation) (instance : List ℕ) (attr : ℕ) : Type 0 where
   pub path : List ℕ
   pub target : Target
@@ -43,7 +43,7 @@ pub record IsFound (g : Grammar) (t : Tree) (v : Valuation) (instance : List ℕ
   pub steps : ℕ
   pub cause : IsCause (in_tree g t v) (map suc path) target there number steps
 
--- If the error of an attribute instance of an accepted grammar has a cause, it has one that is found so.
+-- In an accepted grammar, if the error of an attribute at a node has a cause, it has one that is found so.
 abbrev pub CauseIsFound : Type 0
 CauseIsFound = (g : Grammar) (t : Tree) (v : Valuation) (instance : List ℕ) (attr : ℕ) → IsAccepted g
     → HasCause g t v instance attr → IsFound g t v instance attr

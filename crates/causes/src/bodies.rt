@@ -8,7 +8,9 @@ ghost use Rattle.treefile.specs.framing.Ending.{body_before};
 use std::alloc::Global;
 use treefile::{Device, FrameFault, read_body};
 
-/// Returns the body of the frame that ends at an offset of a file of version 2. Takes memory for the body.
+/// Returns the body of the frame that ends at an offset of a file of version 2. Takes memory for
+/// the body. The `body_before` of `tree_index` does the same, but no clause of it says which body
+/// is returned.
 ///
 /// Fails with B2 and the offset if no frame ends there, with D1 if a call of the device fails, and if
 /// memory is refused.

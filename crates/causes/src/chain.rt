@@ -57,8 +57,8 @@ pub(crate) enum Step {
     To(Target),
     /// The error arises in the rule of this number, at the node at which the chain is.
     Arises(u16),
-    /// The target has no rule, the rule's value is not an error, its argument has no rule, or the index has no
-    /// record of the node.
+    /// The target has no rule, the rule's value is not an error, the argument that passes its error
+    /// on has no rule, or the index has no end of a record of the node.
     Nothing,
 }
 
@@ -195,8 +195,9 @@ impl<'a> Chain<'a> {
         Ok(true)
     }
 
-    /// Goes to the node of the rule for an argument, and returns the target of that rule. Returns `None` if
-    /// the index does not have that node.
+    /// Goes to the node of the rule for an argument, and returns the target of that rule. Returns
+    /// `None` if the argument is an attribute of the root itself, or of a child that the index does
+    /// not have.
     fn go_to(&mut self, argument: Target) -> Result<Option<Target>, TreeFault>
         requires leads { Leads self.old.grammar.now self.old.index.now self.old.nodes.items }
         ensures goes { IfOk result (λ target. IfSome target (GoesTo
@@ -285,9 +286,11 @@ impl<'a> Chain<'a> {
 /// Finds the cause of an error, which the rule for a target computes: follows the rules that passed the error
 /// on. `device` contains the file of the last pass, and `index` is its index.
 ///
-/// Returns `None` if the places lead to no node, the target has no rule there, the rule's value is not an error,
-/// or the file does not have the chain; and after 16,777,216 rules, 16 for each of `MAX_NODES` nodes. If the values
-/// in the file are a solution, it has the chain, which has fewer rules.
+/// Returns `None` if the places lead to no node, the target has no rule there, or the rule's value
+/// is not an error; and if the chain stops without a cause, or has 16,777,216 rules, 16 for each of
+/// `MAX_NODES` nodes. The last two cases do not occur for the index of the file, in an accepted
+/// grammar, if the file is that of a tree of at most `MAX_NODES` nodes whose values are a solution.
+///
 /// Fails with R1 if a record on it is damaged, with D1 if a call of the device fails, and if memory is
 /// refused. Reads a record for each rule in the chain.
 pub fn find_cause<D: Device>(
@@ -313,8 +316,9 @@ pub fn find_cause<D: Device>(
     ensures none { IfOk result (λ cause. IfNone cause (WhenHonest (D.is_honest device.new)
         (LeadsNowhere grammar.now index.now start.now.places.now ⊎ StopsAfter grammar.now index.now
         (D.content device.old) start.now.places.now start.now.target (16 * MAX_NODES)))) }
-    // So if the index is that of the content, and the content is the file of a tree of at most MAX_NODES nodes with
-    // values that are a solution, the rule at those places does not compute an error
+    // So if the index is that of the content, and the content is the file of a tree of at most
+    // MAX_NODES nodes with values that are a solution, the rule for the target at those places, if
+    // there is one, computes no error
     ensures complete { IfOk result (λ cause. IfNone cause (WhenHonest (D.is_honest device.new)
         (ComputesNoErrorIn grammar.now index.now (D.content device.old) start.now.places.now
         start.now.target))) }

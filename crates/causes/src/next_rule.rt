@@ -22,7 +22,8 @@ pub(crate) enum Next {
     Arises(u16),
 }
 
-/// Returns the number of the rule for a target, from 0. Returns `None` if no rule has that target.
+/// Returns the number of the rule for a target, from 0. Returns `None` if none of the first 65,536
+/// rules has that target.
 pub fn rule_for(rules: &[Rule], target: Target) -> Option<u16>
     ensures number { IfSome result (IsNumberFor rules.now target) }
     ensures none { IfNone result ((number : ℕ) → (rule : TheRule) → number < 65536

@@ -45,7 +45,7 @@ pub fn tokens_before(
 /// Returns the number of tokens of the subtrees of the children of `node` that come before its child `child` in
 /// the sentence.
 fn tokens_between(index: &TreeIndex, counts: &TokenCounts, node: u32, child: u32) -> Option<u32> {
-    // the file of an odd pass is read from left to right
+    // from its end, the file of an odd pass is read from left to right
     match Direction::of_pass(index.pass()).turned() {
         Direction::LeftToRight => counts.between(node.checked_add(1)?, child),
         Direction::RightToLeft => counts.between(end_of(index, child)?, end_of(index, node)?),

@@ -17,15 +17,16 @@ IsOpen marks added visited t =
 abbrev pub IsSettled : List Bool → List Addition → ℕ → Clause → Type 0
 IsSettled marks added visited q = (is_marked marks q.head ≡ true) ⊎ ((t : ℕ) × Contains q.body t × IsOpen marks added visited t)
 
--- the list of marks keeps its length; marked numbers stay marked, and open numbers stay open
+-- From the marks and additions before a call to those after it (`marks'` and `added'`): the list of marks keeps its length,
+-- marked numbers stay marked, and open numbers stay open.
 pub record Grows (visited : ℕ) (marks : List Bool) (added : List Addition) (marks' : List Bool)
     (added' : List Addition) : Type 0 where
   pub count : length marks' ≡ length marks
   pub marked : (t : ℕ) → is_marked marks t ≡ true → is_marked marks' t ≡ true
   pub open_stays : (t : ℕ) → IsOpen marks added visited t → IsOpen marks' added' visited t
 
--- The invariant of a search: marked numbers follow and are added, in order, and the passed prefix of each
--- clause's body is marked.
+-- The invariant of a search: marked numbers follow, and are added once, each after the numbers of the body by which it follows.
+-- `passed` has, for each clause, the length of a prefix of its body; the numbers of this prefix are marked.
 pub record IsSearch (clauses : List Clause) (seeds : List ℕ) (marks : List Bool) (added : List Addition) (visited : ℕ)
     (passed : List ℕ) : Type 0 where
   pub below : All (IsClauseBelow (length marks)) clauses

@@ -1,4 +1,4 @@
--- For each number, its row: the indices of the clauses whose bodies contain the number, and which wait for it.
+-- For each number, its row: the indices of the clauses that wait for the number, which are those whose bodies contain it.
 use Rattle.std.specs.Prelude.{ℕ, map, ◌≡◌, ◌<◌, List, [], length, slice_index_or, All, Contains}
 use Rattle.std.specs.Global.{Vec}
 use Rattle.closure.specs.Clauses.{IsClauseBelow}

@@ -83,9 +83,9 @@ impl Clauses {
         Ok(self.find(alloc, seeds)?.marks)
     }
 
-    /// Returns the numbers that follow from the clauses and the seeds, and, for each number below the
-    /// count, whether it follows. Each number that follows is listed once, with the seed or the clause
-    /// by which it follows, and after all numbers of that clause's body.
+    /// Returns the numbers that follow from the clauses and the seeds, and, for each number below
+    /// the count, whether it follows. Each number that follows is listed once, with the seed or the
+    /// clause by which it follows, and after all numbers of that clause's body.
     ///
     /// The seeds have to be below the count. The list is filled as a queue. First come the heads of
     /// the clauses with an empty body, and then the seeds, both in the order of their indices. For

@@ -14,15 +14,15 @@ use crate::clause::Clause;
 use ag_value::NoMemory;
 use std::alloc::Global;
 
-/// Returns whether a number is marked.
+/// Returns whether a number is marked; false for a number that has no entry in `marks`.
 fn is_known(marks: &[bool], number: usize) -> bool
     ensures { result ≡ is_marked marks.now number }
 {
     number < marks.len() && marks[number]
 }
 
-/// Returns the length of the longest prefix of a body whose numbers are all marked. The first `from`
-/// numbers have to be marked.
+/// Returns the length of the longest prefix of a body whose numbers are all marked. The first
+/// `from` numbers have to be marked.
 fn known_prefix_len(marks: &[bool], body: &[usize], from: usize) -> usize
     requires within { from ≤ length body.now }
     requires known { list_all (is_marked marks.now) (take from body.now) ≡ true }
@@ -151,9 +151,9 @@ impl<'g> Search<'g> {
     }
 
     /// Visits clauses, given by their indices. A clause is settled (`IsSettled`) if its head is
-    /// marked, or a number of its body is still to be marked or visited. Visited clauses are
-    /// settled, and clauses that were settled stay so. Fails with NoMemory if a request for memory
-    /// is refused.
+    /// marked, or a number of its body is still to be marked or visited. Afterwards these
+    /// clauses are settled, and clauses that were settled before still are. Fails with NoMemory if
+    /// a request for memory is refused.
     fn visit_all(&mut self, waiting: &[usize]) -> Result<(), NoMemory>
         requires clauses { All (λ p. p < length self.old.clauses.now) waiting.now }
         requires search { IsSearch self.old.clauses.now self.old.seeds.now self.old.marks.items

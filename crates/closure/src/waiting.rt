@@ -1,6 +1,5 @@
-//! Finds, for each number, the clauses whose bodies contain it, which wait for the number, and the
-//! clauses with an empty body. The row of a number is the list of the indices of the clauses that
-//! wait for it.
+//! Finds the clauses that wait for each number: those whose bodies contain it. The row of a number
+//! is the list of their indices. Also finds the clauses with an empty body.
 ghost use Rattle.std.specs.Prelude.{◌≡◌, ◌<◌, ℕ, [], length, All, Contains, IfOk, OnOk};
 ghost use Rattle.std.specs.Prelude.{slice_index_or};
 ghost use Rattle.closure.specs.Clauses.{IsClauseBelow};

@@ -173,7 +173,7 @@ enum Argument {
     EvaluatedTree,
     /// The name of a tree file of any pass that is only read.
     ShownTree,
-    /// The name of a tree file of any pass that is only read, or of the folder with two of them.
+    /// The name of a tree file of any pass that is only read, or of a folder with a.agt and b.agt.
     ExplainedTree,
     /// The option that limits the levels that are printed.
     Depth,

@@ -30,8 +30,8 @@ pub fn check_tree(alloc: Global, command: &str, path: &str) -> Result<(), Error>
     Ok(())
 }
 
-/// Fails if a sentence is standard input, from which its translation's file gets no name, or if the
-/// files of two sentences have the same name.
+/// Fails if a sentence is standard input, since the file of its translation would have no name.
+/// Fails if the files of two sentences have the same name (`file_name_of`).
 pub fn check_sentences(alloc: Global, paths: &[&str]) -> Result<(), Error> {
     if paths.iter().any(|path| *path == STANDARD) {
         return Err(misuse_of(

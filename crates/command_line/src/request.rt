@@ -97,8 +97,8 @@ pub struct RunPaths<'a> {
 pub struct BatchPaths<'a> {
     /// The grammar.
     pub grammar: InputPath<'a>,
-    /// The files of the sentences, at least one. No two have the same name in their folders, and none
-    /// is standard input.
+    /// The paths of the sentences' files, at least one. No two have the same `file_name_of`, and
+    /// none is standard input.
     pub sentences: Vec<&'a str>,
     /// The folder for the translations.
     pub folder: &'a str,
@@ -316,8 +316,8 @@ fn output_of<'a>(matches: &ArgMatches<'a>) -> Option<&'a str> {
 }
 
 /// Returns the value of an argument, or the empty text if it is missing. Clap accepts no command
-/// line without a required argument. So only G of the command `value`, which has no G, is missing,
-/// and nothing uses the empty text.
+/// line without a required argument. Only `request_of` reads an argument that a command doesn't
+/// have: G for `value`. It doesn't use the empty text then.
 fn value_of<'a>(matches: &ArgMatches<'a>, name: &str) -> &'a str {
     matches.get_str(name).unwrap_or("")
 }

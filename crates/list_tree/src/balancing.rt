@@ -8,8 +8,8 @@ use ag_value::NoMemory;
 use std::alloc::Global;
 
 impl ItemTree {
-    /// Returns the items of a tree and then those of another one. Takes memory for nodes whose number
-    /// grows with the difference of the heights.
+    /// Returns the items of a tree and then those of another one. Takes memory for nodes whose
+    /// number grows with the difference of the heights.
     pub fn join(alloc: Global, left: &ItemTree, right: &ItemTree) -> Result<ItemTree, NoMemory>
         requires { length left.now + length right.now < 2 ^ 64 }
         ensures { IfOk result (λ tree. tree ≡ left.now ++ right.now) }
@@ -50,8 +50,8 @@ impl ItemTree {
     }
 }
 
-/// Returns the items of two trees, one after the other. If one of them is higher than the other by at
-/// least two levels, the tree is rotated.
+/// Returns the items of two trees, one after the other. If one of them is higher than the other by
+/// at least two levels, the tree is rotated.
 fn balanced(alloc: Global, left: ItemTree, right: ItemTree) -> Result<ItemTree, NoMemory>
     requires { length left + length right < 2 ^ 64 }
     ensures { IfOk result (λ tree. tree ≡ left ++ right) }
@@ -65,7 +65,8 @@ fn balanced(alloc: Global, left: ItemTree, right: ItemTree) -> Result<ItemTree, 
     ItemTree::pair(alloc, left, right)
 }
 
-/// Returns the same items. If the right side of their tree is higher, the tree is rotated to the left.
+/// Returns the same items. If the right side of their tree is higher, the tree is rotated to the
+/// left.
 fn with_high_left(alloc: Global, tree: ItemTree) -> Result<ItemTree, NoMemory>
     requires { length tree < 2 ^ 64 }
     ensures { IfOk result (λ same. same ≡ tree) }
@@ -78,7 +79,8 @@ fn with_high_left(alloc: Global, tree: ItemTree) -> Result<ItemTree, NoMemory>
     }
 }
 
-/// Returns the same items. If the left side of their tree is higher, the tree is rotated to the right.
+/// Returns the same items. If the left side of their tree is higher, the tree is rotated to the
+/// right.
 fn with_high_right(alloc: Global, tree: ItemTree) -> Result<ItemTree, NoMemory>
     requires { length tree < 2 ^ 64 }
     ensures { IfOk result (λ same. same ≡ tree) }
@@ -91,8 +93,8 @@ fn with_high_right(alloc: Global, tree: ItemTree) -> Result<ItemTree, NoMemory>
     }
 }
 
-/// Returns the items of two trees, one after the other, as a tree that is split where `left` is split,
-/// or between the two trees if `left` has fewer than two items.
+/// Returns the items of two trees, one after the other, as a tree that is split where `left` is
+/// split, or between the two trees if `left` has fewer than two items.
 fn turned_right(alloc: Global, left: ItemTree, right: ItemTree) -> Result<ItemTree, NoMemory>
     requires { length left + length right < 2 ^ 64 }
     ensures { IfOk result (λ tree. tree ≡ left ++ right) }
@@ -104,8 +106,8 @@ fn turned_right(alloc: Global, left: ItemTree, right: ItemTree) -> Result<ItemTr
     ItemTree::pair(alloc, sides.left.share()?, lower)
 }
 
-/// Returns the items of two trees, one after the other, as a tree that is split where `right` is split,
-/// or between the two trees if `right` has fewer than two items.
+/// Returns the items of two trees, one after the other, as a tree that is split where `right` is
+/// split, or between the two trees if `right` has fewer than two items.
 fn turned_left(alloc: Global, left: ItemTree, right: ItemTree) -> Result<ItemTree, NoMemory>
     requires { length left + length right < 2 ^ 64 }
     ensures { IfOk result (λ tree. tree ≡ left ++ right) }

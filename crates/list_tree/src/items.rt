@@ -9,7 +9,8 @@ use std::alloc::Global;
 use std::marker::Model;
 use std::rc::Rc;
 
-/// The items of a list, as a balanced tree whose nodes may have several owners. Contracts see the list.
+/// The items of a list, as a balanced tree whose nodes may have several owners. Contracts see the
+/// list.
 #[cycle(items)]
 #[derive(Drop)]
 pub(crate) struct ItemTree {
@@ -33,7 +34,8 @@ struct ItemBranch {
     right: ItemTree,
     /// The number of items of both sides.
     len: usize,
-    /// The number of nodes on the longest way down from this one, itself included.
+    /// The number of nodes on the longest way down from this one, itself included. A greater number
+    /// than 255 is stored as 255.
     height: u8,
 }
 
@@ -87,8 +89,8 @@ impl ItemTree {
         })
     }
 
-    /// Removes the last `count` items from a vector and returns the tree of them. Fails with NoMemory, and
-    /// may then have removed some of them.
+    /// Removes the last `count` items from a vector and returns the tree of them. Fails with
+    /// NoMemory, and may then have removed some of them.
     pub fn take_last(
         alloc: Global,
         items: &mut Vec<Value>,
@@ -112,8 +114,8 @@ impl ItemTree {
         ItemTree::pair(alloc, left, right)
     }
 
-    /// Returns the same items for one more owner. Takes no memory. Fails with NoMemory if the root has
-    /// 2^64 - 1 owners.
+    /// Returns the same items for one more owner. Takes no memory. Fails with NoMemory if the root
+    /// has 2^64 - 1 owners.
     pub fn share(&self) -> Result<ItemTree, NoMemory>
         ensures { IfOk result (λ tree. tree ≡ self.now) }
     {
@@ -161,8 +163,8 @@ impl ItemTree {
         }
     }
 
-    /// Returns the items of two trees, one after the other, as a node with two sides; if one is empty,
-    /// the other alone. Takes memory for that node. Fails with NoMemory.
+    /// Returns the items of two trees, one after the other, as a node with two sides; if one is
+    /// empty, the other alone. Takes memory for that node. Fails with NoMemory.
     pub fn pair(alloc: Global, left: ItemTree, right: ItemTree) -> Result<ItemTree, NoMemory>
         requires { length left + length right < 2 ^ 64 }
         ensures { IfOk result (λ tree. tree ≡ left ++ right) }
@@ -189,8 +191,8 @@ impl ItemTree {
         })
     }
 
-    /// Returns the item at an index from 0, or `None` if there are at most `index` items. Takes time
-    /// that grows with the number of levels.
+    /// Returns the item at an index from 0, or `None` if there are at most `index` items. Takes
+    /// time that grows with the number of levels.
     pub fn get(&self, index: usize) -> Option<&Value>
         ensures { option_copied result ≡ slice_get self.now index }
     {

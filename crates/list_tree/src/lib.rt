@@ -1,5 +1,5 @@
-//! Lists of attribute values as persistent balanced trees: versions of a list share nodes. Contracts see
-//! the list of the values.
+//! Lists of attribute values as persistent balanced trees: versions of a list share nodes.
+//! Contracts see the list of the values.
 #![tactic(auto)]
 
 mod balancing;

@@ -22,9 +22,9 @@ use std::rc::Rc;
 /// items.
 const HEADER_LENGTH: usize = 5;
 
-/// A well list with several owners: its items in a balanced tree, beside the encodings of the items in a
-/// rope. Contracts see the list of the items. A list made of others shares with them all nodes but those
-/// on the way to the place where they meet.
+/// A well list with several owners: its items in a balanced tree, beside the encodings of the items
+/// in a rope. Contracts see the list of the items. A list made of others shares with them all nodes
+/// but those on the way to the place where they meet, which are made anew.
 #[derive(Drop)]
 pub struct ListTree {
     parts: Rc<ListParts>,
@@ -69,6 +69,7 @@ impl ListTree {
         requires { IsWell (v.List items) }
         ensures { IfOk result (λ list. list ≡ items) }
     {
+        // `encode` takes a `Value`
         let list = Value::List(items);
         let encoding = encoded(alloc, &list)?;
         let Some(items) = items_in(list) else {
@@ -77,8 +78,8 @@ impl ListTree {
         from_encoding(alloc, items, encoding.as_slice())
     }
 
-    /// Returns the same list for one more owner, in constant time. Takes no memory. Fails with NoMemory
-    /// if the list has 2^64 - 1 owners.
+    /// Returns the same list for one more owner, in constant time. Takes no memory. Fails with
+    /// NoMemory if the list has 2^64 - 1 owners.
     pub fn share(&self) -> Result<ListTree, NoMemory>
         ensures { IfOk result (λ list. list ≡ self.now) }
     {
@@ -103,8 +104,8 @@ impl ListTree {
         self.parts().items.len()
     }
 
-    /// Returns the number of levels, 0 for the empty list. For n > 0 items it is meant to be at most
-    /// 1 + 1.45 · log2(n). No contract says so.
+    /// Returns the number of levels, 0 for the empty list. For n > 0 items it is meant to be at
+    /// most 1 + 1.45 · log2(n). No contract says so.
     pub fn height(&self) -> u8 {
         self.parts().items.height()
     }
@@ -118,8 +119,8 @@ impl ListTree {
         5 + self.parts().encodings.len() as u64
     }
 
-    /// Returns the item at an index from 0, or `None` if the list has no more than `index` items. Takes
-    /// time that grows with the logarithm of the number of items.
+    /// Returns the item at an index from 0, or `None` if the list has no more than `index` items.
+    /// Takes time that grows with the logarithm of the number of items.
     pub fn get(&self, index: usize) -> Option<&Value>
         ensures item { option_copied result ≡ slice_get self.now index }
         ensures well { IfSome result (λ item. IsWell item.now) }
@@ -128,9 +129,9 @@ impl ListTree {
         Some(item)
     }
 
-    /// Returns the list of the items of `left` and then those of `right`, or `None` if its weight would
-    /// exceed `MAX_WEIGHT`. Takes time that grows with the difference of the heights. Fails with
-    /// NoMemory.
+    /// Returns the list of the items of `left` and then those of `right`, or `None` if its weight
+    /// would exceed `MAX_WEIGHT`. Takes time that grows with the difference of the heights. Fails
+    /// with NoMemory.
     pub fn join(
         alloc: Global,
         left: &ListTree,
@@ -141,6 +142,7 @@ impl ListTree {
         ensures none { IfOk result (λ joined. IfNone joined
             (max_weight < weight_of (v.List (left.now ++ right.now)))) }
     {
+        // each weight counts a header of 5 bytes, and the joined list has one header
         if left.weight() + right.weight() > MAX_WEIGHT + 5 {
             return Ok(None);
         }
@@ -204,7 +206,8 @@ impl ListTree {
         Ok(())
     }
 
-    /// Fills `out` with the bytes of the encoding from index `from` on. Takes no memory.
+    /// Fills `out` with the bytes of the encoding from offset `from` on (in bytes, from 0). `from`
+    /// plus the length of `out` must not exceed the length of the encoding. Takes no memory.
     pub fn copy_part(&self, from: usize, out: &mut [u8])
         requires { from + length out.old ≤ weight_of (v.List self.now) }
         ensures { out.new ≡ take (length out.old) (drop from (spelling_of (v.List self.now))) }
@@ -222,7 +225,8 @@ impl ListTree {
         byte_count(&header) + self.parts().encodings.len()
     }
 
-    /// Returns the bytes of the encoding before the first item.
+    /// Returns the bytes of the encoding before the first item: 2, the kind of a list, and the
+    /// number of items, big-endian.
     #[tactic(auto, using(crate::proofs::Encoded::header_is))]
     fn header(&self) -> [u8; HEADER_LENGTH]
         ensures { spelling_of (v.List self.now) ≡ result ++ joined (map spelling_of self.now) }

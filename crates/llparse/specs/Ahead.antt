@@ -66,7 +66,7 @@ pub record IsConflict (g : Grammar) (first second : ℕ) (x : Ahead) : Type 0 wh
 abbrev pub HasNoConflict : Grammar → Type 0
 HasNoConflict g = (first second : ℕ) (x : Ahead) → IsConflict g first second x → ⊥
 
--- the look-ahead of a list of words
+-- the look-ahead of a list of words (terminals with their texts): the terminal of the first one, or the end if there is none
 abbrev pub ahead_of : List Lexeme → Ahead
 ahead_of [] = ahead.End
 ahead_of (w ∷ ws) = ahead.Terminal w.0

@@ -9,7 +9,7 @@ use std::alloc::Global;
 /// A grammar's text that is read again.
 #[derive(Drop)]
 pub struct GrammarText<'a> {
-    /// The allocator that reads it.
+    /// The allocator of what is read.
     pub alloc: Global,
     /// The text, and its file.
     pub source: Source<'a>,

@@ -29,7 +29,7 @@ const DECLARATION: &str = "declare all symbols before the first production";
 /// What helps at `if` or `let` where only an operand is expected.
 const PARENTHESES: &str = "put an `if` or a `let` in parentheses here";
 
-/// What helps at a sign before an operand.
+/// What helps at a minus before an operand.
 const SIGN: &str = "`-a` is written `(0 - a)`";
 
 /// What helps at a quote that begins no text.
@@ -39,8 +39,8 @@ const TEXT: &str = "a text ends with a quote and has only the escapes \\\" \\\\ 
 const OCCURRENCE: &str =
     "an attribute is written `$`, place, `.`, name, without spaces, as in `$1.s`";
 
-/// Hints about characters that begin no token, by the first of them: mostly signs of other languages. A sign comes
-/// after those that begin with it.
+/// Hints about characters that begin no token, mostly operators of other languages: the characters,
+/// and the hint. The first entry that fits is used, so `!=` comes before `!`.
 const SIGNS: [(&str, &str); 8] = [
     ("\"", TEXT),
     ("$", OCCURRENCE),
@@ -100,7 +100,8 @@ impl<'a> Context<'a> {
         ""
     }
 
-    /// Returns a hint about a token that an expression does not go on with, or an empty text.
+    /// Returns a hint about the token at the offset, which can't be there in an expression, or an
+    /// empty text. `expected` is what could be there.
     pub fn expression_hint(&self, expected: &[Expected]) -> &'static str {
         let is_operand = expected.contains(&Expected::Part(Part::Operand))
             || expected.contains(&Expected::Part(Part::Expression));
@@ -128,7 +129,8 @@ impl<'a> Context<'a> {
         }
     }
 
-    /// Returns a hint about what a grammar does not go on with outside its expressions, or an empty text.
+    /// Returns a hint about what is at the offset, and can't be there in a grammar outside its
+    /// expressions, or an empty text. `expected` is what could be there.
     pub fn grammar_hint(&self, expected: &[Expected]) -> &'static str {
         if begins_with(self.found, BYTE_ORDER_MARK) {
             return MARK;
@@ -152,8 +154,8 @@ impl<'a> Context<'a> {
         is_second || ["//", "#", "--", "/*"].iter().any(is_first)
     }
 
-    /// Returns `hint` if a name was found, and else an empty text. A name that is found where a name or an operand is
-    /// expected is a reserved one.
+    /// Returns `hint` if a name was found, and else an empty text. It is called where a name or an
+    /// operand is expected: a name that is refused there is a reserved one.
     fn reserved_hint(&self, hint: &'static str) -> &'static str {
         let Some(found) = self.found else {
             return "";

@@ -32,7 +32,7 @@ first_separator (location.At position) = codes ": "
 abbrev pub part_text : List ℕ → List ℕ → List ℕ
 part_text separator part = if length part == 0 then [] else separator ++ part
 
--- the separator that follows a part, by the separator before it: an empty part is left out with its separator
+-- the separator before the next part, from the one before `part`: if `part` is empty, the next part has its separator
 abbrev pub next_separator : List ℕ → List ℕ → List ℕ
 next_separator separator part = if length part == 0 then separator else codes ", "
 
@@ -56,7 +56,7 @@ file_text location.InFault None = []
 file_text location.Whole (Some path) = codes ": " ++ string_bytes path
 file_text location.InFault (Some path) = codes ": " ++ string_bytes path
 
--- the line: the fault with its number first, its position, its parts, and its file if there is no position
+-- the line: the fault with its number first, its position, its parts, and without a position its file, if it has one
 abbrev pub line_of : FaultReport → List ℕ
 line_of report = printed report.fault ++ location_text report.location report.file
     ++ parts_text (first_separator report.location) report.parts ++ file_text report.location report.file

@@ -101,8 +101,8 @@ fn write_part<W: fmt::Write>(f: &mut fmt::Formatter<W>, separator: &str, part: &
     write!(f, "{separator}{part}")
 }
 
-/// Returns the separator that follows `part`, which follows `separator`: an empty part is left out with its
-/// separator.
+/// Returns the separator before the next part, from the one before `part`: if `part` is empty, it
+/// is left out, and the next part has its separator.
 fn next_separator<'a>(separator: &'a str, part: &str) -> &'a str
     ensures { result.now ≡ next_separator separator.now part.now }
 {

@@ -2,9 +2,10 @@
 //! what was found, and what to do, with the names of the grammar. It prints as one line.
 //!
 //! Each kind of input has a call that makes the report of a fault: `of_expression`, `of_grammar`,
-//! `of_sentence`, `of_tree`, `of_old_tree`. `of_file` makes the report of a file that can't be read or written, and
-//! `new` that of a fault without a location. All but `new` take memory. If memory is refused, the report leaves out
-//! what needs it. Characters that control a terminal are written as escapes, such as `\u{1b}`.
+//! `of_sentence`, `of_tree`, `of_old_tree`. `of_file` makes the report of a fault of a file or of
+//! its content, and `new` that of a fault alone. All but `new` take memory. If memory is refused,
+//! the report leaves out what needs it. Control characters, invisible characters and unusual spaces
+//! are written as escapes, such as `\u{1b}`.
 #![tactic(auto)]
 
 mod display;

@@ -114,9 +114,10 @@ impl FaultReport {
         FaultReport::of_file(alloc, fault, path).with_tree(alloc, format, tree)
     }
 
-    /// Returns the report of a fault of converting the tree in an old file, which is read again. It names the
-    /// old file if that one is damaged or its tree exceeds a limit, or if the fault is D1 and the old file's device
-    /// fails again; otherwise it can name only the new file.
+    /// Returns the report of a fault of converting the tree in an old file, which is read again. It
+    /// names the old file if that one is damaged or its tree exceeds a limit, or if the fault is D1
+    /// and the old file's device fails again. It names the new file after F1, and after any other
+    /// D1.
     pub fn of_old_tree<D: Device>(
         alloc: Global,
         fault: Fault,

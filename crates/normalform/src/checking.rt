@@ -29,7 +29,8 @@ use ag_value::{Items, NoMemory, Text};
 use closure::{Clause, Clauses, Edge};
 use std::alloc::Global;
 
-/// The first fault, as it is found: N4 and N5 have the number of the symbol, and not yet its name.
+/// The first fault, as it is found: N4 and N5 have the number of the symbol. The search borrows the
+/// raw grammar, so the symbol's name is moved into the fault only afterwards (`refusal`).
 #[derive(Debug, Drop)]
 enum Found {
     /// A fault of any kind except N4 and N5.
@@ -203,7 +204,9 @@ fn number_productions(
     Ok((start, productions))
 }
 
-/// Returns the numbered grammar of a raw one without faults; names and expressions are moved.
+/// Returns the numbered grammar of a raw one; names and expressions are moved. `Grammar::new`
+/// requires an accepted grammar: the numbered one is accepted, since the raw one has no fault and
+/// is readable.
 fn number(alloc: Global, raw: RawGrammar) -> Result<Grammar, NoMemory>
     requires right { HasNoFault raw }
     requires readable { IsReadable raw }

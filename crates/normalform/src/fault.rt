@@ -16,7 +16,8 @@ pub enum LimitKind {
     Productions,
     /// A right side of more than 64 items.
     Items,
-    /// A right side with more than 16 symbols and classes, whose nodes are stored in tree files.
+    /// A right side with more than 16 children, which are its symbols and classes. Tree files store
+    /// the nodes of children, and nothing for a literal.
     Stored,
     /// A literal of more than 255 bytes.
     LiteralLength,
@@ -25,10 +26,11 @@ pub enum LimitKind {
 }
 
 /// The reasons why a raw grammar is refused. The kinds are checked in this order. Within a kind,
-/// the first fault in the order of the lists, which is that of the text, is reported; for N4 and N5
-/// the first declared symbol; for N6 the first by production, place and attribute; for N10 the
-/// first limit. Offsets are in bytes from the beginning of the text. Place 0 is the left side of a
-/// production; its children (symbols and classes of the right side) have the places from 1 on.
+/// the first fault in the order of the raw grammar's lists is reported (if it was read from a text,
+/// this is the order of the text); for N4 and N5 the first declared symbol; for N6 the first by
+/// production, place and attribute; for N10 the first limit. Offsets are in bytes from the
+/// beginning of the text. Place 0 is the left side of a production; its children (symbols and
+/// classes of the right side) have the places from 1 on.
 #[derive(Debug, Drop)]
 pub enum NormalFault {
     /// N1: the symbol at this offset in a production is not declared, or the target or argument of

@@ -46,7 +46,7 @@ has_bytes_at stored at bytes = bytes_eq (take (length bytes) (drop at stored)) b
 
 -- The effect of a call, given by the four parts of its event, on a replay. A failed call has no effect. A successful append or
 -- truncation changes the content. A returned length, or returned bytes, agree with the content, or the file is not honest from
--- then on.
+-- then on. The initial event sets the content. The last case is that of kind 5; no greater kind is recorded.
 abbrev pub after_call : ℕ → ℕ → Bool → List ℕ → Replay → Replay
 after_call zero number ok bytes file = record file { stored = bytes }
 after_call (suc zero) number ok bytes file = file

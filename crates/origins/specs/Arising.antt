@@ -26,7 +26,7 @@ exchanged_to first other (Some c) v = if nat_eq (number_of c) 1 then first else 
 abbrev pub exchanged : Value → Value
 exchanged v = exchanged_to (value.Fault Divide) (value.Fault Overflow) (fault_of v) v
 
--- two values are the same error
+-- both are an error, and the same one
 abbrev pub is_same_error : Option ErrorCode → Option ErrorCode → Bool
 is_same_error None d = false
 is_same_error (Some c) None = false

@@ -1,5 +1,5 @@
--- The cause of an error: the chain of values through which it was passed on, down to the rule in which it arises. All
--- of this is this project's.
+-- The cause of an error: the rule in which it arises, at the end of a chain of rules that passed it on. All of this is this
+-- project's.
 use Rattle.std.specs.Prelude.{ℕ, zero, suc, ◌≡◌, ◌⊎◌, true, false, nat_lt, List, [], ◌∷◌, ◌++◌, Option, Some, None, slice_get}
 use Rattle.std.specs.Prelude.{if◌then◌else◌, Bool}
 use Rattle.ag_value.specs.declared.value.Value.{Value}

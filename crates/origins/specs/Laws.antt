@@ -14,12 +14,12 @@ abbrev pub CausesHaveOrigins : Type 0
 CausesHaveOrigins = (g : Grammar) (t : Tree) (v : Valuation) (path : List ℕ) (a : ℕ) → HasCause g t v path a
     → (origin : List ℕ) × HasOrigin g origin (Some t) v
 
--- Where a tree has no origin, no value of its solution is an error. So errors don't come from nothing.
+-- In an accepted grammar with a legal assignment, if a tree has no origin, no value of a solution of the tree is an error.
 abbrev pub NoneIsClean : Type 0
 NoneIsClean = (g : Grammar) (m : Passes) (t : Tree) (v : Valuation) → IsAccepted g → IsLegal g m → IsTreeOf g t
     → Solves AnyRule g t v → IsFirst g t v None
     → HoldsAt (λ path ps. (a p : ℕ) → slice_get ps a ≡ Some p → fault_of (values_at v path [] a) ≡ None) g m t []
 
--- A tree has no origin exactly if no rule in which an error arises is counted.
+-- A tree has no origin exactly if its number of rules in which an error arises is 0.
 abbrev pub NoneIsCounted : Type 0
 NoneIsCounted = (g : Grammar) (t : Tree) (v : Valuation) → IsFirst g t v None ↔ (origin_count g t v ≡ 0)

@@ -50,7 +50,7 @@ is_before [] (j ∷ q) = true
 is_before (i ∷ p) [] = false
 is_before (i ∷ p) (j ∷ q) = nat_lt i j || (nat_eq i j && is_before p q)
 
--- The path leads to the first origin of a tree: to one, and none comes before it. Or there is none.
+-- `None`: the tree has no origin. `Some path`: the path leads to an origin of the tree, and no origin comes before it.
 abbrev pub IsFirst : Grammar → Tree → Valuation → Option (List ℕ) → Type 0
 IsFirst g t v None = (path : List ℕ) → HasOrigin g path (Some t) v → ⊥
 IsFirst g t v (Some path) =

@@ -47,7 +47,7 @@ pub record Family : Type 0 where
   pub trees : Forest
   pub values : ℕ → Valuation
 
--- those that are not visited yet, in the order of the walk
+-- the children that are not visited yet, in the order of the walk
 abbrev pub upcoming : Direction → Open → Family → List Kid
 upcoming d o f = drop o.visited (in_order d (kids 0 f.trees f.values))
 
@@ -69,7 +69,7 @@ pending_bodies g m k d [] fs = []
 pending_bodies g m k d (o ∷ os) [] = []
 pending_bodies g m k d (o ∷ os) (f ∷ fs) = flat_map (bodies_of_kid g m k d) (upcoming d o f) ++ pending_bodies g m k d os fs
 
--- the number of rules of some children in which an error arises
+-- the number of rules in which an error arises, in the subtrees of some children
 abbrev pub count_in : Grammar → List Kid → ℕ
 count_in g [] = 0
 count_in g (kid ∷ others) = origin_count g kid.tree kid.values + count_in g others
@@ -79,13 +79,13 @@ pending_count g d [] fs = 0
 pending_count g d (o ∷ os) [] = 0
 pending_count g d (o ∷ os) (f ∷ fs) = count_in g (upcoming d o f) + pending_count g d os fs
 
--- An origin is in one of some children, at the end of a path from their node.
+-- An origin is in the subtree of one of some children, at the end of a path from the node whose children they are.
 abbrev pub OccursIn : Grammar → List Kid → List ℕ → Type 0
 OccursIn g [] path = ⊥
 OccursIn g (kid ∷ others) path =
     ((deeper : List ℕ) × (path ≡ kid.number ∷ deeper) × HasOrigin g deeper (Some kid.tree) kid.values) ⊎ OccursIn g others path
 
--- and in what is to come below open nodes
+-- the same for the unvisited children of all open nodes, with paths from the root
 abbrev pub ArePending : Grammar → Direction → List Open → List Family → List ℕ → Type 0
 ArePending g d [] fs path = ⊥
 ArePending g d (o ∷ os) [] path = ⊥
@@ -152,7 +152,7 @@ abbrev pub IsNextRecord : Grammar → Direction → List ℕ → ℕ → Item �
 IsNextRecord g d content at x open_nodes first count =
     OfEach (λ m k t v. IsPending g m k d t v content at x open_nodes first count) g content
 
--- A reader is one of the content, of version 2, and has no permanent fault.
+-- A reader reads this content as a file of version 2, and has no permanent fault.
 pub record IsReady (honest : Bool) (content : List ℕ) (state : BackState) : Type 0 where
   pub over : WhenHonest honest (IsOver content state)
   pub version : state.progress.version ≡ version_two
@@ -165,7 +165,7 @@ pub record HasFetched (g : Grammar) (honest : Bool) (content : List ℕ) (old ne
   pub is : IsRecord g body r
   pub now : new.progress.at ≡ before_frame old.progress.at body
 
--- the path of two that comes first
+-- of two paths, the one that comes first; the second one if the first one is `None`
 abbrev pub earlier : Option (List ℕ) → List ℕ → List ℕ
 earlier None path = path
 earlier (Some first) path = if is_before path first then path else first

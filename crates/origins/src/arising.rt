@@ -36,7 +36,7 @@ impl<'a> Row<'a> {
         eval(alloc, &rule.expr, &arguments, &mut meter)
     }
 
-    /// Evaluates a rule with another error in place of each error among its arguments.
+    /// Evaluates a rule with each error among its arguments exchanged, as by `ExchangedErrors`.
     fn evaluate_exchanged(&self, alloc: Global, rule: &Rule) -> Result<Value, NoMemory>
         requires arguments { length rule.now.args ≡ length rule.now.expr.1 }
         ensures { IfOk result (λ v. v ≡ value_of rule.now.expr.0 (λ k. exchanged (environment rule.now
@@ -59,7 +59,7 @@ impl<'a> Row<'a> {
         eval(alloc, &rule.expr, &exchanged, &mut meter)
     }
 
-    /// Evaluates a rule with another error in place of each error among its first `count` arguments.
+    /// Evaluates a rule with each error among its first `count` arguments exchanged.
     fn evaluate_first_exchanged(
         &self,
         alloc: Global,
@@ -92,7 +92,8 @@ impl<'a> Row<'a> {
     }
 
     /// Returns whether an error arises in a rule at the node: the rule's value is an error, and
-    /// would be the same error if every error among the rule's arguments were another error.
+    /// is the same error with every error among the rule's arguments exchanged: divide in place of
+    /// overflow, and overflow in place of every other error.
     /// Evaluates the rule, and a second time if its value is an error; a rule that only copies an
     /// argument is not evaluated. Requires an argument for each occurrence of the rule's
     /// expression. Fails with NoMemory if memory is refused.
@@ -154,10 +155,10 @@ impl<'a> Row<'a> {
         Ok(error_of(&value))
     }
 
-    /// Returns whether a rule, whose value is the error `code`, has the same error with other errors in place
-    /// of those among its first `number + 1` arguments. Requires that it has the same error with other errors in
-    /// place of those among the first `number`. Evaluates the rule only if the argument `number`, from 0, is an
-    /// error.
+    /// Returns whether a rule, whose value is the error `code`, has the same error with the errors
+    /// among its first `number + 1` arguments exchanged. Requires that it has the same error with
+    /// those among the first `number` exchanged. Evaluates the rule only if the argument `number`,
+    /// from 0, is an error.
     #[tactic(auto, using(crate::proofs::Sources::still_clean), unfolding(crate::specs::Causes::is_still))]
     fn is_still(
         &self,

@@ -1,4 +1,4 @@
-//! Why a walk over a tree file failed.
+//! Why a record was not read, and why a walk over a tree file failed.
 
 ghost use Rattle.std.specs.Prelude.{◌≡◌};
 ghost use Rattle.origins.specs.Faults.{record_fault_of, walk_fault_of};

@@ -38,7 +38,8 @@ pub struct Origins {
 impl Origins {
     /// Adds the node that was read last, which has `count` rules in which an error arises. `nodes`
     /// are the open nodes above it, from the root down. Changes nothing if `count` is 0. Fails with
-    /// P3 if the number of all such rules is 2^64 or more, and with NoMemory if memory is refused.
+    /// P3 if the number of all such rules is 2^64 or more, which no tree within the limits reaches,
+    /// and with NoMemory if memory is refused.
     fn add_node(
         &mut self,
         alloc: Global,
@@ -339,9 +340,10 @@ impl Walk {
     }
 }
 
-/// Finds where errors arise in the tree whose file of the last pass a device contains: the first node in
-/// the order of the sentence that has a rule in which an error arises, and the number of such rules in the
-/// tree. A node comes before what is below it.
+/// Finds where errors arise in the tree whose file of the last pass a device contains: the first
+/// node in the order of the sentence that has a rule in which an error arises, and the number of
+/// such rules in the tree. A node comes before what is below it. That the file is of the last pass
+/// is not checked: for another file nothing is claimed.
 ///
 /// Reads the file once, from its end. Evaluates each rule of the tree that does more than copy an argument, and
 /// a second time if its value is an error. Takes memory for a buffer, for the values of one record, and for each level.
@@ -381,5 +383,6 @@ pub fn find_origins<D: Device>(
         };
         walk.turn(alloc, &context, node, device)?;
     }
+    // not reached: `fetch` reads at most `MAX_NODES` records, so the loop has fewer turns
     Err(WalkFault::TooManyNodes)
 }

@@ -1,5 +1,7 @@
 -- The remaining instructions of a node, the visited parts of a right side, and the values of a node and of
--- its children. All definitions are this project's.
+-- its children. Letters: c is a setting, q a production, x an item (in `rest_of` an open node), xs are items, j is a place, a an
+-- attribute, s a symbol, d a class or a direction, e a table, and f the values of a node. In `stored` and `AgreesSoFar` s is a
+-- table too. All definitions are this project's.
 use Rattle.std.specs.Prelude.{ℕ, suc, ◌≡◌, ◌+◌, ◌-◌, ◌<◌, ◌≤◌, ◌⊎◌, List, [], ◌∷◌, ◌++◌, Some, slice_get, length, take, drop}
 use Rattle.std.specs.List.{flat_map}
 use Rattle.ag_value.specs.declared.value.Value.{Value}

@@ -1,8 +1,26 @@
 //! The rows of values with which a pass works, and reading the records of a tree file into them.
-//! `passrun` runs passes by this crate; it has no part in evaluating rules.
+//! Evaluating rules and writing records are not part of this crate.
 //!
-//! The words of `passrun` (row, known, copies, slot, layout, place, open node) are those of this
-//! crate too; its `lib.rt` explains them.
+//! Words of this crate, in pass k:
+//!
+//! - *Setting*: what a pass runs with, which is a grammar, a plan for it, and k.
+//! - *Node*: a node of a symbol. Where nodes or levels are counted, a token of a class is a node
+//!   too: it also has a record. Literals have none.
+//! - *Level*: 1 for the root; a child's level is one more than its parent's.
+//! - *Place*: 0 for the left side of a production, and 1, 2, .. for the children, which are the
+//!   symbols and classes of its right side.
+//! - *Known*: the values that the file of pass k - 1 has, so those of attributes of passes before
+//!   k.
+//! - *Row* of a node, with values of attributes of passes up to k: its own values (synthesized ones
+//!   first), and then the *copies* of its children: the values of their synthesized attributes, or
+//!   a token's text. The row of a token is its text.
+//! - *Slot*: the index of a value, counted from the beginning of a node's row. The row of the child
+//!   whose record was read last comes directly after, so its values have slots too.
+//! - *Layout* of a production: its instructions in pass k, and where the values of its rules are.
+//!   It is a `ProductionRow`, with a `PlaceRow` for each place; the type `Layout` has those of all
+//!   productions, and the hints. These rows are not rows of values.
+//! - *Hint*: the slot of a stored value that may be equal to one that is to be read.
+//! - *Open* node: one that the pass has entered, and whose instructions are not finished.
 #![tactic(auto)]
 
 mod display;

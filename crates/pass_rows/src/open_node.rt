@@ -1,4 +1,4 @@
-//! A node whose instructions a pass is executing.
+//! An open node: one that a pass has entered, and whose instructions are not finished.
 
 ghost use Rattle.std.specs.Prelude.{◌≡◌, ◌+◌, ◌<◌, ◌^◌};
 ghost use Rattle.pass_rows.specs.Nodes.{first_at, left_at, after_step};

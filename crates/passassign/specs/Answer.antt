@@ -15,7 +15,7 @@ abbrev pub IsInDeclaredOrder : List (ℕ × ℕ) → Type 0
 IsInDeclaredOrder set = (i j : ℕ) (x y : ℕ × ℕ) → slice_get set i ≡ Some x → slice_get set j ≡ Some y → i < j
     → (x.0 < y.0) ⊎ ((x.0 ≡ y.0) × (x.1 < y.1))
 
--- The strikes are those of two consecutive passes that assign nothing, after passes made from the start.
+-- The strikes are those of two consecutive passes that assign nothing, after passes made from pass 1 on.
 pub record IsOfIdlePasses (g : Grammar) (c : Stuck) : Type 0 where
   pub pass : ℕ
   pub before : Partial

@@ -63,7 +63,7 @@ IsAwaited d q u o None = (s : ℕ) → item_at q o.place ≡ Some (item.Symbol s
 IsAwaited d q u o (Some w) =
     (IsSameOrLater d u.target.place o.place → ⊥) × (item_at q o.place ≡ Some (item.Symbol w.0)) × (o.attr ≡ w.1)
 
--- the strike at an index
+-- the strike at an index, one with zeros alone if there is none
 abbrev pub strike_at : List Strike → ℕ → Strike
 strike_at xs i = slice_index_or xs i (record { symbol = 0; attr = 0; production = 0; rule = 0; arg = 0 })
 

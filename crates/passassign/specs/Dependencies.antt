@@ -57,7 +57,8 @@ pub record Adds {X : Type 0} (P : X → Type 0) (old new : List X) : Type 0 wher
   pub all : (x : X) → P x → Has new x
   pub only : (x : X) → Has new x → Has old x ⊎ P x
 
--- a dependency on argument i, which is an attribute of a symbol
+-- the dependency of the target at place j on argument i, which is o and an attribute of a symbol; `places` has the item at each
+-- place
 abbrev pub IsByArgument : List Item → Strike → ℕ → ℕ → Target → Dependency → Type 0
 IsByArgument places head j i o u =
     (k : ℕ) × (table_slot (symbol_of (slice_get places o.place)) o.attr ≡ Some k) × (u ≡ dependency_of head j i k o.place)

@@ -104,7 +104,7 @@ CertificatesAreStrikes = (g : Grammar) (c : Stuck) (m : Passes) (k : ℕ) → Is
     → AreStrikesAt g m k (list_for c (direction_of k))
 
 -- If an assignment has strikes, the first attribute of a chain for one of its passes has a later pass than this one in every
--- legal assignment. In the statement this is pass k + 1.
+-- legal assignment. In the statement this pass is k + 1.
 abbrev pub ChainsShowLater : Type 0
 ChainsShowLater =
     (g : Grammar) (rows : List (List ℕ)) (lists : List (List Strike)) (k s a : ℕ) (xs : List Strike) (other : Passes)

@@ -39,7 +39,7 @@ abbrev pub HasPassIn : Partial → Production → Target → ℕ → Type 0
 HasPassIn n q o p = pass_at n (item_at q o.place) o.attr ≡ Some p
 
 -- A legal partial assignment. It assigns passes of at least 1, and only to attributes that exist. Each argument of a rule for
--- one of these attributes has a pass too, one that the rule may use (after Jazayeri and Walter 1975).
+-- an attribute with a pass has a pass too, one that the rule may use (after Jazayeri and Walter 1975).
 pub record IsLegalPartial (g : Grammar) (n : Partial) : Type 0 where
   pub known : AssignsOnlyAttributes g n
   pub positive : (s a p : ℕ) → n s a ≡ Some p → 1 ≤ p

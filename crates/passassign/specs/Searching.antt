@@ -60,7 +60,7 @@ dependency_by all barred (reason.Clause p) = slice_get all p
 abbrev pub IsStrikeOf : (all barred : List Dependency) → List Strike → ℕ → Addition → Type 0
 IsStrikeOf all barred xs i x = (u : Dependency) × (dependency_by all barred x.reason ≡ Some u) × (slice_get xs i ≡ Some u.strike)
 
--- The strikes of the dependencies that are the reasons of additions, in their order.
+-- The strikes of the dependencies that are the reasons of additions, in the order of the additions.
 pub record AreStrikesBy (all barred : List Dependency) (added : List Addition) (xs : List Strike) : Type 0 where
   pub len : length xs ≡ length added
   pub exact : (i : ℕ) (x : Addition) → slice_get added i ≡ Some x → IsStrikeOf all barred xs i x

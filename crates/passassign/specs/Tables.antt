@@ -59,7 +59,7 @@ pub record IsFirstTable (symbols : List Symbol) (states : List State) : Type 0 w
 abbrev pub IsDeclared : List Symbol → ℕ → ℕ → Type 0
 IsDeclared symbols s a = (k : Kind) × (slice_get (symbol_kinds (slice_get symbols s)) a ≡ Some k)
 
--- A table of some symbols: it has a state for each of their attributes, and for no others.
+-- A table of some symbols. The state of a slot is not Absent exactly if the slot has an attribute of one of these symbols.
 pub record IsTable (symbols : List Symbol) (states : List State) : Type 0 where
   pub len : length states ≡ length symbols * max_attributes
   pub there : (s a : ℕ) → (state_of states s a ≡ Absent → ⊥) ↔ IsDeclared symbols s a

@@ -29,7 +29,7 @@ pub(crate) struct Dependency {
     pub from: u16,
 }
 
-/// Returns the symbol at a place, if there is one.
+/// Returns the symbol at a place, if there is one. `places` has the item at each place, from 0.
 fn symbol_at(places: &[Item], place: u16) -> Option<u16>
     ensures { result ≡ symbol_of (slice_get places.now place) }
 {

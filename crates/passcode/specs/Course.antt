@@ -72,7 +72,7 @@ pub record MayCompute (m : Passes) (q : Production) (k : ℕ) (s : State) (j a r
 abbrev pub AreDone : Passes → Production → ℕ → State → ℕ → Type 0
 AreDone m q k s j = (r : ℕ) (u : Rule) → IsRuleAt q r u → u.target.place ≡ j → HasPass m q u.target k → Has s.done r
 
--- a node is in a phase, and this is the place of its current child
+-- a node is in a phase, and this is the place of its first child, in the direction of the pass, that is not complete
 pub record IsTurnOf (q : Production) (k : ℕ) (s : State) (phase : Phase) (j : ℕ) : Type 0 where
   pub phase_is : s.phase ≡ phase
   pub within : s.turn < arity q

@@ -9,7 +9,7 @@ use Rattle.passcode.specs.Rows.{Lists, lists_of}
 
 -- A grammar, an assignment `passes`, code, and a pass. Pass k reads the file of pass k - 1 (`read`) and writes that of pass k
 -- (`write`), so `write` is the number of the pass. The file of pass 0 is the parsed tree, with its tokens' texts. The struct
--- `Setting` of passrun has references to the grammar and the plan; contracts turn it into this record.
+-- `Setting` of pass_rows has references to the grammar and the plan; contracts turn it into this record.
 pub record Setting : Type 0 where
   pub grammar : Grammar
   pub passes : Passes
@@ -25,6 +25,6 @@ setting_of g plan k = record { grammar = g; passes = passes_of plan.0; code = pl
 abbrev pub pass_direction : Setting → Direction
 pass_direction c = direction_of c.write
 
--- the list of instructions for production p in the pass, empty if the code has none: lists are counted from 0, passes from 1
+-- the list of instructions for production p in the pass, empty if the code has none; the list of pass k has index k - 1, `read`
 abbrev pub list_at : Setting → ℕ → List Instr
 list_at c p = slice_index_or (lists_of c.code p) c.read []

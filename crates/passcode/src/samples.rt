@@ -29,6 +29,7 @@ pub fn sample_turns()
 pub fn sample_runs()
     ensures { Runs sample_passes sample_production 1 start sample_list }
 {
+    // The call has no effect. By its contract the assignment is legal, which the proof needs.
     sample_legal();
 }
 
@@ -37,6 +38,7 @@ pub fn sample_runs()
 pub fn sample_agrees()
     ensures { ListAgrees sample_passes sample_production 1 sample_list }
 {
+    // The call has no effect. By its contract the assignment is legal, which the proof needs.
     sample_legal();
 }
 
@@ -70,6 +72,7 @@ pub fn late_refused()
 pub fn undefined_refused()
     ensures { ListAgrees sample_passes sample_production 1 undefined_list → ⊥ }
 {
+    // The call has no effect. By its contract the assignment is legal, which the proof needs.
     sample_legal();
 }
 

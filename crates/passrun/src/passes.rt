@@ -179,10 +179,11 @@ pub fn run_all<D: Device>(
         (LeavesSomeFile (D.content a.old) (D.content a.new)) }
     ensures b_left { WhenHonest (D.is_honest b.new)
         (LeavesSomeFile (D.content b.old) (D.content b.new)) }
-    // for any devices, honest or not
+    // for any devices, honest or not: there are fewer than 2^16 passes, and each reads and writes
+    // at most 2^20 records
     ensures few { IfOk result (λ r. (r.1.nodes ≤ max_nodes)
         × (r.1.read ≤ 2 ^ 36) × (r.1.written ≤ 2 ^ 36)) }
-    // for any devices, honest or not
+    // for any devices, honest or not: each pass evaluates at most 2^36 rules (see `run_pass`)
     ensures rises { meter.old ≤ meter.new }
     ensures meter { OnOk result (meter.new ≤ meter.old + 2 ^ 52) }
     // D1 only if the number of failures rose on one of the two

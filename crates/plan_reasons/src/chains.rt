@@ -83,10 +83,10 @@ impl LeastPlan<'_> {
         first_with_pass(self.strikes.of_pass(pass), self.assignment, later)
     }
 
-    /// Returns the links that show why a pass can't compute an attribute that has a later pass: the
-    /// links of the chain that begins with the attribute's strike. They are those of a chain if the
-    /// strikes are those of the assignment, and `grammar` is its grammar. The result is empty if
-    /// the pass does not strike the attribute. Fails if memory is refused.
+    /// Returns the links that show why a pass can't compute an attribute that has a later pass:
+    /// those of the strikes that `Strikes::chain_of` returns. These strikes are a chain if the
+    /// field `strikes` has the strikes of the assignment, and `grammar` is its grammar. The result
+    /// is empty if the pass does not strike the attribute. Fails if memory is refused.
     pub fn links(
         &self,
         alloc: Global,
@@ -106,8 +106,8 @@ impl LeastPlan<'_> {
 }
 
 /// Returns the links that show why no pass of a direction can compute an attribute of a
-/// certificate's set: those of the chain that begins with the attribute's strike. They are those of
-/// a chain if `stuck` is a certificate of `grammar`. The result is empty if the list for the
+/// certificate's set: those of the strikes that `Stuck::chain_of` returns. These strikes are a
+/// chain if `stuck` is a certificate of `grammar`. The result is empty if the list for the
 /// direction does not strike the attribute. Fails if memory is refused.
 pub fn stuck_links(
     alloc: Global,

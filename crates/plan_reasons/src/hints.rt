@@ -91,7 +91,9 @@ fn copied_among(
 }
 
 impl Explanation<'_> {
-    /// Writes the attributes that no rule uses, and those that are only copied, if there are any.
+    /// Writes the attributes that no rule uses, except the start symbol's `out`, and those that
+    /// are only copied (each rule for them is a copy, and there is one). Writes nothing of a kind
+    /// that has no attribute.
     pub(crate) fn write_hints(&self, out: &mut String) -> Result<(), NoMemory> {
         let attributes = attributes_of(self.alloc, self.grammar.symbols())?;
         let unused = unused_among(self.alloc, self.grammar, attributes.as_slice())?;
@@ -100,7 +102,7 @@ impl Explanation<'_> {
         self.write_copied(out, copied.as_slice())
     }
 
-    /// Writes the attributes that no rule uses.
+    /// Writes the attributes `unused` after a heading.
     fn write_unused(&self, out: &mut String, unused: &[Attribute]) -> Result<(), NoMemory> {
         if unused.is_empty() {
             return Ok(());
@@ -112,7 +114,7 @@ impl Explanation<'_> {
         write_others(out, unused.len())
     }
 
-    /// Writes the attributes that are only copied, with the numbers of their rules.
+    /// Writes the attributes `copied` after a heading, each with the number of rules for it.
     fn write_copied(&self, out: &mut String, copied: &[Attribute]) -> Result<(), NoMemory> {
         if copied.is_empty() {
             return Ok(());

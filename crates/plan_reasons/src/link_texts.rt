@@ -50,7 +50,7 @@ impl Explanation<'_> {
 }
 
 impl Link {
-    /// Writes why pass `pass` can't evaluate the link's rule. Pass `computing` computes its
+    /// Writes why pass `pass` can't evaluate the link's rule. Pass `computing` computes the link's
     /// argument.
     pub(crate) fn write_reason(
         &self,

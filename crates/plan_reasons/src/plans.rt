@@ -11,8 +11,8 @@ const MAX_EXPLAINED_PASSES: u16 = 20;
 
 impl Explanation<'_> {
     /// Writes the number of passes. For each pass after pass 1 that has attributes, writes why the
-    /// pass before it can't compute one of them. Then writes the attributes that no rule uses, and
-    /// those that are only copied. Fails if memory is refused.
+    /// pass before it can't compute one of them. Then writes the attributes that no rule uses,
+    /// except the start symbol's `out`, and those that are only copied. Fails if memory is refused.
     pub fn write_plan(&self, out: &mut String, plan: &LeastPlan<'_>) -> Result<(), NoMemory> {
         let passes = plan.assignment.passes();
         let noun = if passes == 1 { "pass" } else { "passes" };

@@ -7,8 +7,9 @@ use messages::{FaultReport, Source};
 use std::alloc::Global;
 use std::rt::Files;
 
-/// Returns the bytes of an input. Fails with F1 if a file can't be opened or read, with J2 if standard input can't
-/// be read, and if memory is refused.
+/// Returns the bytes of a grammar or a sentence, at most the first 1,048,577: one more than either
+/// may have. Fails with F1 if a file can't be opened or read, with J2 if standard input can't be
+/// read, and if memory is refused.
 pub fn read_input<R: Files + Input>(
     rt: &R,
     alloc: Global,

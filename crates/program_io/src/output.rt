@@ -14,12 +14,15 @@ use std::rt::Files;
 /// The greatest number of links that are followed from a path, as on Linux.
 const MAX_LINKS: usize = 40;
 
-/// The greatest number of names that are tried for a new file.
+/// The greatest number of names that are tried for a new file. Another run may be using a name.
 const MAX_NAMES: u32 = 1_000;
 
-/// Writes a translation to the file at `path`. A regular file is replaced by a new one with its mode, and a missing
-/// one is created, in both cases with the whole translation or not at all. To any other file, and to any below /dev/
-/// (not /dev/shm/) and /proc/, the translation is appended. If standard output is this file, prints the translation.
+/// Writes a translation to the file at `path`:
+/// - prints it if this is a regular file that is also standard output;
+/// - appends it to a file that is not a regular one, and to any existing file below /dev/ (except
+///   /dev/shm/) or /proc/;
+/// - replaces any other file by a new one with its mode, and creates a missing file, in both cases
+///   with the whole translation or not at all.
 ///
 /// Fails with F1 if the file can't be opened or created, and with O2 if a write fails or takes no byte, or if the
 /// new file can't be renamed; the report names the file. Fails with NoMemory if memory is refused.
@@ -44,6 +47,7 @@ fn put<R: Files + Print>(rt: &R, alloc: Global, path: &str, bytes: &[u8]) -> Res
             write_bytes(&mut io::writer(rt), bytes).map_err(Fault::from)
         }
         Ok(found) if found.is_file() && !is_of_system(path) => {
+            // only to fail if the file can't be written: a rename would replace it all the same
             open_to_append(rt, path)?;
             replace(rt, alloc, path, bytes, Some(found.permissions()))
         }
@@ -121,7 +125,7 @@ fn target_of<R: Files>(rt: &R, alloc: Global, path: &str) -> Result<String, Faul
             Ok(_) => return Ok(target),
             Err(error) => match fault_or(&error, Fault::File) {
                 Fault::NoMemory => return Err(Fault::NoMemory),
-                // a missing file is created later, and only that shows whether it can be
+                // `create_beside` fails later if a file can't be created there
                 _ => return Ok(target),
             },
         }

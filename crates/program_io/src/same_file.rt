@@ -32,8 +32,8 @@ impl FileId {
         }
     }
 
-    /// Returns the identity of the regular file at `path`, through links. None if there is none. Fails if
-    /// memory is refused.
+    /// Returns the identity of the regular file at `path`, through links. Returns `None` if there
+    /// is none, or if the system's call fails. Fails if memory is refused.
     pub fn at<R: Files>(rt: &R, path: &str) -> Result<Option<FileId>, NoMemory> {
         match fs::metadata(rt, path) {
             Ok(metadata) if metadata.is_file() => Ok(Some(FileId::of(&metadata))),
@@ -42,8 +42,8 @@ impl FileId {
         }
     }
 
-    /// Returns the identity of the folder at `path`, through links. None if there is none. Fails if memory
-    /// is refused.
+    /// Returns the identity of the folder at `path`, through links. Returns `None` if there is
+    /// none, or if the system's call fails. Fails if memory is refused.
     pub fn of_folder<R: Files>(rt: &R, path: &str) -> Result<Option<FileId>, NoMemory> {
         match fs::metadata(rt, path) {
             Ok(metadata) if metadata.is_dir() => Ok(Some(FileId::of(&metadata))),

@@ -1,7 +1,7 @@
 //! `read_back [--old] PATH` reads a tree file from its end and prints the number of its records; with
 //! `--old` the file is one of version 1. `benches/run` measures the program, and `tests/refused-memory`
-//! runs it with each of its requests for memory refused. A call of the reader for which memory was
-//! refused is named on standard error and made a second time.
+//! runs it once for each of its requests for memory, and refuses this request. A call of the reader
+//! for which memory was refused is named on standard error and made a second time.
 #![tactic(auto)]
 
 ghost use Rattle.std.specs.Prelude.{IfOk};
@@ -25,6 +25,7 @@ fn main(rt: HostRuntime) -> ExitCode {
             Err(_) => ExitCode::from(1),
         },
         Err(fault) => {
+            // A message that can't be printed is lost; the status says what failed.
             let _answer = eprintln!(rt; "{fault:?}");
             ExitCode::from(status(fault))
         }
@@ -40,8 +41,8 @@ fn status(fault: FrameFault) -> u8 {
     }
 }
 
-/// Returns the number of records of the file that the command line names. Fails with D1 Device if
-/// the command line names no file or the file can't be opened, with NoMemory if memory for the
+/// Returns the number of records of the file that the command line names. Fails with D1 (`Device`)
+/// if the command line names no file or the file can't be opened, with NoMemory if memory for the
 /// words of the command line is refused, and otherwise as `records` does.
 fn run<R: Env + Eprint + Files + AllocGlobal>(rt: &R, alloc: Global) -> Result<u64, FrameFault> {
     let words = match std::env::args(rt) {

@@ -62,7 +62,8 @@ IsWellText text = IsWell (Text text)
 abbrev pub IsNoText : Value → Type 0
 IsNoText x = (text : List ℕ) → x ≢ Text text
 
--- The meaning of the returned text or fault: O1 has the value, which is not a text; the others are those of `FindsValue`.
+-- The meaning of the returned text or fault: O1 has the value, which is not a text. A text, B1 and B2 mean what they mean in
+-- `FindsValue`.
 abbrev pub FindsText : Grammar → List (List ℕ) → List ℕ → Result (List ℕ) OutFault → Type 0
 FindsText g assignment content (Ok text) = FindsValue g assignment content (Ok (Text text))
 FindsText g assignment content (Err (out_fault.NoText x)) = FindsValue g assignment content (Ok x) × IsNoText x

@@ -73,6 +73,8 @@ fn read_out(
     };
     let mut values = Vec::new(alloc);
     read_node(alloc, &next, grammar.start(), body, &mut values)?;
+    // The row begins with the values of all attributes of the symbol, in the order of their
+    // numbers.
     Ok(values.swap_remove(out))
 }
 

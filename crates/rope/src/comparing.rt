@@ -4,14 +4,14 @@ ghost use Rattle.std.specs.Prelude.{◌≡◌, ◌↔◌, ◌+◌, ◌≤◌, dr
 
 use crate::rope::{Rope, RopeNode};
 
-/// The greatest number of bytes of a block. Two ropes of which the left sides have different
-/// lengths are compared block by block.
+/// The greatest number of bytes of a block. Two nodes with two sides are compared block by block if
+/// their left sides have different lengths.
 const BLOCK: usize = 1024;
 
 impl Rope {
-    /// Returns whether two ropes have the same bytes. Takes no memory. As long as both are two
-    /// ropes with left sides of the same length, compares the shorter sides by recursion and goes
-    /// on with the longer ones. Calls `same_by_blocks` for the rest.
+    /// Returns whether two ropes have the same bytes. Takes no memory. As long as both are nodes
+    /// with two sides, and the left sides have the same length, compares the shorter sides by
+    /// recursion and goes on with the longer ones. Calls `same_by_blocks` for the rest.
     #[tactic(auto, using(crate::proofs::Sides::sides))]
     pub fn same(&self, other: &Rope) -> bool
         ensures { IsTrue result ↔ (self.now ≡ other.now) }

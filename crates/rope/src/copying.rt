@@ -14,8 +14,9 @@ impl Rope {
         self.copy_part(0, out);
     }
 
-    /// Fills `out` with the bytes from index `from` on. Takes no memory. Of two sides, the one with
-    /// fewer bytes to copy is copied by recursion and the other one in the loop.
+    /// Fills `out` with the bytes from index `from` on. `from` plus the length of `out` must not
+    /// exceed the length of the rope. Takes no memory. Of two sides, the one with fewer bytes to
+    /// copy is copied by recursion and the other one in the loop.
     pub fn copy_part(&self, from: usize, out: &mut [u8])
         requires { from + length out.old ≤ length self.now }
         ensures { out.new ≡ take (length out.old) (drop from self.now) }

@@ -8,15 +8,16 @@ use std::alloc::{AllocError, Global};
 /// The greatest length in bytes of a piece that is made of two.
 const MAX_PIECE: usize = 256;
 
-/// The greatest depth of a piece that is extended: the root has depth 0. If a text gets nodes at
-/// both ends in turn, the piece at the end that got a node last has depth 1, and that at the other
-/// end has depth 2.
+/// The greatest depth of a piece in whose place a longer one is put: the root has depth 0. If a
+/// text gets nodes at both ends in turn, the piece at the end that got a node last has depth 1, and
+/// that at the other end has depth 2.
 const MAX_LEVELS: u32 = 2;
 
 impl Rope {
-    /// Joins two ropes in constant time. A rope of one piece becomes part of the piece that it
-    /// meets in the other rope, if that piece is at most two nodes below the root and both pieces
-    /// together have at most 256 bytes. Fails with AllocError.
+    /// Joins two ropes, whose lengths together must be below 2^64, in constant time. A rope of one
+    /// piece becomes part of the piece that it meets in the other rope, if that piece is at most
+    /// two nodes below the root and both pieces together have at most 256 bytes. Fails with
+    /// AllocError.
     pub fn join(alloc: Global, left: Rope, right: Rope) -> Result<Rope, AllocError>
         requires { length left + length right < 2 ^ 64 }
         ensures { IfOk result (λ rope. rope ≡ left ++ right) }

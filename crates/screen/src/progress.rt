@@ -32,7 +32,8 @@ pub struct Progress<'a, R> {
     is_shown: Cell<bool>,
     /// The pass of the first tree file that is written: 0 if a sentence is parsed first.
     first: u16,
-    /// The number of tree files that were begun, that of the parser included.
+    /// The number of tree files that were begun: that of the parser, if a sentence is parsed, and
+    /// those of the passes.
     written: Cell<u16>,
     /// The number of calls that appended, modulo `APPENDS`.
     appends: Cell<u32>,
@@ -67,7 +68,7 @@ impl<'a, R: Clock + Eprint> Progress<'a, R> {
     }
 
     /// Counts a call that appends. While the sentence is parsed, each `APPENDS`th call shows a line
-    /// if one is due.
+    /// if one is due. In a pass the calls that read show the lines.
     fn note_append(&self) {
         let appends = self.appends.get().saturating_add(1);
         if appends < APPENDS {

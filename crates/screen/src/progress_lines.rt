@@ -9,7 +9,7 @@ const ERASE: &str = "\r\u{1b}[K";
 /// A line that replaces the current one on a terminal.
 #[derive(Clone, Copy)]
 pub enum ProgressLine {
-    /// Nothing.
+    /// An empty line: the current one is only erased.
     Nothing,
     /// The sentence is parsed.
     Parsing,

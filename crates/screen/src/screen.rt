@@ -43,9 +43,9 @@ impl Screen {
     /// error is a terminal.
     ///
     /// `Color::Always` and `Color::Never` decide whether messages are marked. With `Color::Auto`
-    /// they are marked on a terminal, unless the environment variable `NO_COLOR` is not empty, or
-    /// the terminal is dumb (`is_dumb`). Progress is shown on a terminal, unless messages are quiet
-    /// or the terminal is dumb.
+    /// they are marked on a terminal, unless the environment variable `NO_COLOR` is set and not
+    /// empty, or the terminal is dumb (`is_dumb`). Progress is shown on a terminal, unless messages
+    /// are quiet or the terminal is dumb.
     pub fn new<R: Env + AllocGlobal>(rt: &R, messages: Messages, is_terminal: bool) -> Screen {
         let is_marked = match messages.color {
             Color::Always => true,
@@ -152,8 +152,8 @@ fn place_start(report: &FaultReport, rest: &str) -> usize {
 }
 
 /// Returns the number of bytes of a report's place: a file with line and column, or a file alone.
-/// Returns 0 without a file, also for a position: it is not marked. Returns `None` if memory is
-/// refused.
+/// Returns 0 if the report has no file. A position without a file is not marked. Returns `None` if
+/// memory is refused.
 fn place_len(alloc: Global, report: &FaultReport) -> Option<usize> {
     match (report.location, &report.file) {
         (Location::At(Position { line, column }), Some(file)) => {

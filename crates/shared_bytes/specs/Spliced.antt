@@ -3,14 +3,15 @@
 use Rattle.std.specs.Prelude.{◌≡◌, ℕ, zero, suc, ◌+◌, ◌-◌, ◌≤◌, List, [], ◌∷◌, ◌++◌, take, drop, length, get_or, ◌<◌}
 use Rattle.shared_bytes.specs.declared.splice.Splice.{Splice}
 
--- The bytes of a list from the own byte with index `base` on: the own bytes up to the next splice, the bytes of this splice,
--- and the rest. `own` are the own bytes from that index on, and the splices are those from there on.
+-- The bytes of a part of a list: its own bytes up to its first splice, the bytes of this splice, and the rest. `base` is the
+-- number of own bytes of the list before the part. The other arguments are the own bytes of the part, and its splices.
 abbrev pub spliced : ℕ → List ℕ → List Splice → List ℕ
 spliced base own [] = own
 spliced base own (g ∷ gs) = take (g.own - base) own ++ (g.bytes ++ spliced g.own (drop (g.own - base) own) gs)
 
--- The splices are in order, and all of them come between the own bytes with the indices `base` and `end`. The offset in each is
--- right, if the own byte with index `base` is at offset `at`. The bytes end at offset `total`.
+-- The splices of a part are in order, and before each of them come at least `base` and at most `end` own bytes of the list. The
+-- offset in each is right if the part begins at offset `at`, after `base` own bytes. The part ends at offset `total`, after `end`
+-- own bytes.
 abbrev pub AreSplices : ℕ → ℕ → ℕ → ℕ → List Splice → Type 0
 AreSplices base at end total [] = (base ≤ end) × (total ≡ at + (end - base))
 AreSplices base at end total (g ∷ gs) =

@@ -20,14 +20,14 @@ use std::marker::Model;
 pub struct Body<'a> {
     /// The own bytes of this part.
     own: &'a [u8],
-    /// The splices of this part. Their numbers and offsets count from the beginning of the whole
+    /// The splices of this part. Their fields `own` and `at` count from the beginning of the whole
     /// list.
     splices: &'a [Splice],
     /// The number of own bytes of the whole list before this part.
     base: usize,
     /// The offset in the whole list at which this part begins.
     at: u64,
-    /// The offset in the whole list at which this part ends.
+    /// The offset in the whole list at which this part ends: that after its last byte.
     end: u64,
 }
 
@@ -170,7 +170,8 @@ impl<'a> Body<'a> {
     }
 
     /// Returns the number of shared values of this part that begin before an offset, in bytes from
-    /// the first byte of the part.
+    /// the first byte of the part. No clause says so. With a wrong number `cut` returns `None`, or
+    /// still the right parts.
     pub fn splices_before(&self, offset: u64) -> usize {
         let place = self.at.saturating_add(offset);
         self.splices.partition_point(|splice| splice.at < place)
@@ -245,7 +246,8 @@ impl<'a> Body<'a> {
         }
     }
 
-    /// Fills `out` with the bytes from an offset on. Takes no memory. Begins with the last shared
+    /// Fills `out` with the bytes from an offset on (in bytes, from 0). `offset` plus the length of
+    /// `out` must not exceed the length of the body. Takes no memory. Begins with the last shared
     /// value before the offset, so that those before it are not visited one by one.
     pub fn read_at(&self, offset: u64, out: &mut [u8])
         requires { offset + length out.old ≤ length self.now }
@@ -361,9 +363,9 @@ impl<'a> Body<'a> {
     }
 }
 
-/// Appends a copy of own bytes, the first of which has number `base`, and of the encodings between
-/// them. Fails with AllocError if memory runs out, and may then have appended a part of these
-/// bytes.
+/// Appends a copy of the own bytes of a part and of the encodings between them. `base` is the
+/// number of own bytes of the whole list before the part. Fails with AllocError if memory runs out,
+/// and may then have appended a part of these bytes.
 #[tactic(auto, using(ag_value::proofs::Extending::extending))]
 fn append_all(
     own: &[u8],

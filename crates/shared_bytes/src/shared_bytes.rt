@@ -91,8 +91,8 @@ impl SharedBytes {
         Ok(())
     }
 
-    /// Appends the encoding of a shared value, as one more owner. Fails with NoMemory; then nothing
-    /// changes.
+    /// Appends the encoding of a shared value: the list becomes one more owner of the value. Fails
+    /// with NoMemory; then nothing changes.
     pub fn append_encoded(&mut self, bytes: &Encoded) -> Result<(), NoMemory>
         ensures ok { OnOk result (self.new ≡ self.old ++ bytes.now) }
         ensures err { OnErr result (self.new ≡ self.old) }
@@ -104,8 +104,9 @@ impl SharedBytes {
         Ok(())
     }
 
-    /// Appends an encoding, as one more owner of its value. The caller guarantees that the number
-    /// of all bytes is then below 2^64. Fails with AllocError; then nothing changes.
+    /// Appends an encoding: the list becomes one more owner of its value. The caller guarantees
+    /// that the number of all bytes is then below 2^64. Fails with AllocError; then nothing
+    /// changes.
     fn append_shared(&mut self, bytes: &Encoded) -> Result<(), AllocError>
         requires { length self.old + length bytes.now < 2 ^ 64 }
         ensures ok { OnOk result (self.new ≡ self.old ++ bytes.now) }
@@ -132,8 +133,8 @@ impl SharedBytes {
         self.len = 0;
     }
 
-    /// Appends all bytes of `other`: a copy of its own ones, and its shared values as one more
-    /// owner. Fails with NoMemory; then nothing changes.
+    /// Appends all bytes of `other`: a copy of its own ones, and its shared values, of each of
+    /// which this list becomes one more owner. Fails with NoMemory; then nothing changes.
     pub fn append_all(&mut self, other: &SharedBytes) -> Result<(), NoMemory>
         ensures ok { OnOk result (self.new ≡ self.old ++ other.now) }
         ensures err { OnErr result (self.new ≡ self.old) }
@@ -163,7 +164,8 @@ impl SharedBytes {
         Ok(())
     }
 
-    /// Fills `out` with the bytes from offset `at` on. Takes no memory.
+    /// Fills `out` with the bytes from offset `at` on (in bytes, from 0). `at` plus the length of
+    /// `out` must not exceed the number of bytes. Takes no memory.
     pub fn read_at(&self, at: u64, out: &mut [u8])
         requires { at + length out.old ≤ length self.now }
         ensures { out.new ≡ slice_range self.now at (at + length out.old) }

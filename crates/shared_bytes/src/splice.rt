@@ -18,9 +18,9 @@ pub struct Splice {
 }
 
 impl Splice {
-    /// Returns this splice as it is if its list is appended to another list, which has `own` own
-    /// bytes and `at` bytes in all. Fails with AllocError if the new number of own bytes or the new
-    /// offset exceeds 2^64 - 1, or if the value has 2^64 - 1 owners.
+    /// Returns the splice that this one becomes if its list is appended to another list, which has
+    /// `own` own bytes and `at` bytes in all. Fails with AllocError if the new number of own bytes
+    /// or the new offset exceeds 2^64 - 1, or if the value has 2^64 - 1 owners.
     pub fn shifted(&self, own: usize, at: u64) -> Result<Splice, AllocError>
         ensures { IfOk result (λ splice. splice ≡ shift own at self.now) }
     {

@@ -33,8 +33,8 @@ impl TableTree {
         root.right.same(other_root.right)
     }
 
-    /// Returns whether two tables with the same number of pairs are equal, or `None` unless both have a
-    /// block.
+    /// Returns whether two tables with the same number of pairs are equal, or `None` unless both
+    /// have a block.
     fn same_block(&self, other: &TableTree) -> Option<bool>
         requires { length self.now ≡ length other.now }
         ensures { IfSome result (λ same. IsTrue same ↔ (self.now ≡ other.now)) }

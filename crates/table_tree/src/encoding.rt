@@ -80,7 +80,8 @@ impl TableTree {
         self.append_pairs(out)
     }
 
-    /// Appends the encodings of the pairs. Fails with NoMemory, and may then have appended some of them.
+    /// Appends the encodings of the pairs. Fails with NoMemory, and may then have appended some of
+    /// them.
     pub(crate) fn append_pairs(&self, out: &mut Vec<u8>) -> Result<(), NoMemory>
         ensures ok { OnOk result
             (out.new.items ≡ out.old.items ++ joined (map spelling_of_pair self.now)) }
@@ -124,8 +125,8 @@ impl TableTree {
     }
 }
 
-/// Copies the bytes of a piece into `out` from index `done` on, as far as there is room. Returns `done`
-/// plus the number of bytes copied.
+/// Copies the bytes of a piece into `out` from index `done` on, as far as there is room. Returns
+/// `done` plus the number of bytes copied.
 fn copy_piece(piece: &[u8], done: usize, out: &mut [u8]) -> usize
     requires { done ≤ length out.old }
     ensures count { result ≡ done + min (length piece.now) (length out.old - done) }

@@ -40,7 +40,8 @@ impl Model for Entry {
 }
 
 impl Entry {
-    /// Encodes a pair and returns its entry. Fails with NoMemory.
+    /// Encodes a pair and returns its entry. The key must have at most 1,048,576 bytes, and the
+    /// value must be well and not an error. Fails with NoMemory.
     pub(crate) fn new(alloc: Global, key: Text, value: Value) -> Result<Entry, NoMemory>
         requires short { length key ≤ max_weight }
         requires well { IsWell value }

@@ -1,5 +1,5 @@
-//! Tables of attribute values as persistent balanced trees: versions of a table share nodes. Contracts
-//! see a table as the list of its pairs.
+//! Tables of attribute values as persistent balanced trees: versions of a table share nodes.
+//! Contracts see a table as the list of its pairs.
 #![tactic(auto)]
 
 mod balancing;

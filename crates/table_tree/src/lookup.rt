@@ -11,8 +11,8 @@ use ag_value::Value;
 use std::cmp::Ordering;
 
 impl TableTree {
-    /// Returns the value of a key, or `None` if the table has no such key. Takes time that grows with
-    /// the logarithm of the number of pairs.
+    /// Returns the value of a key, or `None` if the table has no such key. Takes time that grows
+    /// with the logarithm of the number of pairs.
     pub fn get(&self, key: &str) -> Option<&Value>
         ensures value { option_copied result ≡ option_map (λ p. p.1) (pair_with key.now self.now) }
         ensures well { IfSome result (λ value. IsWell value.now) }
@@ -37,8 +37,9 @@ impl TableTree {
         }
     }
 
-    /// Returns the pair at an index, counted from 0 in the order of the keys, or `None` if the table has
-    /// no more than `index` pairs. Takes time that grows with the logarithm of the number of pairs.
+    /// Returns the pair at an index, counted from 0 in the order of the keys, or `None` if the
+    /// table has no more than `index` pairs. Takes time that grows with the logarithm of the number
+    /// of pairs.
     pub fn entry_at(&self, index: usize) -> Option<&Entry>
         ensures { option_copied result ≡ slice_get self.now index }
     {

@@ -9,8 +9,8 @@ use crate::tree::TableTree;
 use ag_value::{Text, Value};
 
 impl TableTree {
-    /// Returns whether a value is this table. Takes no memory, and time that is linear in the length of
-    /// the encoding.
+    /// Returns whether a value is this table. Takes no memory, and time that is linear in the
+    /// length of the encoding.
     pub fn is_value(&self, value: &Value) -> bool
         ensures { IsTrue result ↔ (v.Table self.now ≡ value.now) }
     {

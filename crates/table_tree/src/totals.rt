@@ -27,8 +27,8 @@ impl Totals {
         }
     }
 
-    /// Returns the totals of three parts together: of the pairs before a pair, of that pair and of the
-    /// pairs after it.
+    /// Returns the totals of three parts together: of the pairs before a pair, of that pair and of
+    /// the pairs after it.
     pub fn joined(before: Totals, pair: Totals, after: Totals) -> Totals
         requires pairs { before.pairs + pair.pairs + after.pairs < 2 ^ 32 }
         requires bytes { before.bytes + pair.bytes + after.bytes < 2 ^ 32 }

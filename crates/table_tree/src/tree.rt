@@ -17,8 +17,8 @@ use std::marker::Model;
 use std::rc::Rc;
 
 /// The least number of bytes of a long block. A *block* is the list of the encodings of all pairs
-/// of a subtree, one after the other. The root of a subtree stores its block if this has the length
-/// of a long or of a short one. `append_encoding` mostly copies long blocks.
+/// of a subtree, one after the other. The root of a subtree stores the block if the block has the
+/// length of a long or of a short one. `append_encoding` mostly copies long blocks.
 const MIN_BLOCK: usize = 768;
 
 /// The greatest number of bytes of a long block.
@@ -30,9 +30,9 @@ const MIN_SHORT_BLOCK: usize = 192;
 /// The greatest number of bytes of a short block.
 const MAX_SHORT_BLOCK: usize = 512;
 
-/// A well table: its pairs in the order of their keys, as a balanced tree whose nodes may have several
-/// owners. Contracts see the list of the pairs. A table that `put` makes of another shares all nodes
-/// with it but those on the way to the key.
+/// A well table: its pairs in the order of their keys, as a balanced tree whose nodes may have
+/// several owners. Contracts see the list of the pairs. A table that `put` makes of another shares
+/// all nodes with it but those on the way to the key, which are made anew.
 #[cycle(tree)]
 #[derive(Drop)]
 pub struct TableTree {
@@ -112,8 +112,8 @@ impl TableTree {
         }
     }
 
-    /// Returns the same table for one more owner, in constant time. Takes no memory. Fails with NoMemory
-    /// if its root has 2^64 - 1 owners.
+    /// Returns the same table for one more owner, in constant time. Takes no memory. Fails with
+    /// NoMemory if its root has 2^64 - 1 owners.
     pub fn share(&self) -> Result<TableTree, NoMemory>
         ensures { IfOk result (λ table. table ≡ self.now) }
     {
@@ -163,8 +163,8 @@ impl TableTree {
         }
     }
 
-    /// Returns the number of levels. For n pairs it is meant to be at most 1.45 · log2(n + 2). No contract
-    /// says so.
+    /// Returns the number of levels. For n pairs it is meant to be at most 1.45 · log2(n + 2). No
+    /// contract says so. The balancing of trees and tests call it.
     pub fn height(&self) -> u8 {
         match &self.node {
             TableNode::Leaf => 0,

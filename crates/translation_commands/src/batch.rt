@@ -20,7 +20,7 @@ use std::rt::{Clock, Files};
 /// Fails before a sentence is read if the grammar can't be read or is refused, if the folder for
 /// the translations is missing or not a folder (F1), if a translation's file is one of the inputs,
 /// with `--work` also if an input or a translation's file is one of the tree files there, and if
-/// memory is refused.
+/// memory is refused before that.
 pub fn run_sentences<'a, R: Files + Input + Print + Eprint + Clock>(
     rt: &'a R,
     alloc: Global,

@@ -96,7 +96,8 @@ impl<R: Files + Input + Print + Eprint + Clock> EvaluationRun<'_, R> {
         }
     }
 
-    /// Translates the tree in an opened tree file, and writes the translation.
+    /// Translates the tree in an opened tree file, and writes the translation. Calls
+    /// `evaluate_file` if no progress is shown and the passes write to memory.
     fn run_file<W: Write>(
         &self,
         tree: &mut FileDevice<R::File>,
@@ -178,9 +179,9 @@ impl<R: Files + Input + Print + Eprint + Clock> EvaluationRun<'_, R> {
     }
 
     /// Returns the report of a fault. With `--work` the report names the folder if a tree file
-    /// there seems to have failed: if the fault is F1, or if it is D1 and the device of the
-    /// translated tree still returns its length. Otherwise the report names the translated tree
-    /// file.
+    /// there seems to have failed: if the fault is F1 (the translated tree's file was opened
+    /// before), or if it is D1 and the device of the translated tree can still return its length.
+    /// Otherwise the report names the translated tree file.
     fn report_of<T: Device>(&self, fault: Fault, tree: &mut T) -> FaultReport {
         let is_of_folder = match fault {
             Fault::File => true,
@@ -197,8 +198,8 @@ impl<R: Files + Input + Print + Eprint + Clock> EvaluationRun<'_, R> {
     }
 
     /// Returns what the message says of the cause, if the fault is O1 and the root's `out` is an
-    /// error. Finding the cause needs the file of the last pass. So this translates the tree once
-    /// more, with the tree files in memory.
+    /// error. Finding the cause needs the file of the last pass, and the device with this file has
+    /// been dropped. So this translates the tree once more, with the tree files in memory.
     fn cause_of<T: Device>(&self, fault: &Fault, tree: &mut T) -> Option<String> {
         if !matches!(fault, Fault::NoText(_)) {
             return None;

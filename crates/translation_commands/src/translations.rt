@@ -181,7 +181,7 @@ impl<R: Files + Print + Eprint + Clock> TranslationRun<'_, R> {
     }
 
     /// Translates a sentence without showing the progress, and writes the translation to `out`.
-    /// Sets `cause` to the result of `cause_of`.
+    /// Sets `cause` to the result of `cause_of`, unless the tree files can't be opened.
     fn run_unseen<W: Write>(
         &self,
         sentence: Source<'_>,

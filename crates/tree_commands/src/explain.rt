@@ -62,7 +62,8 @@ pub fn explain_tree<R: Files + Input + Print>(
     }
 }
 
-/// Returns the bytes of the sentence in which a node is named by line and column; none if it is named otherwise.
+/// Returns the bytes of the sentence in which a node is named by line and column. Returns no bytes
+/// if the node is named otherwise.
 fn read_sentence<R: Files + Input>(
     rt: &R,
     alloc: Global,
@@ -74,8 +75,8 @@ fn read_sentence<R: Files + Input>(
     }
 }
 
-/// Returns the path that names the node, as child numbers; none if the node is named otherwise, or not at all.
-/// Fails if the text is not a path.
+/// Returns the path that names the node, as child numbers from 1. Returns an empty list if the node
+/// is named otherwise, or not at all. Fails if the text is not a path.
 fn places_of_path(alloc: Global, node: NodeWords<'_>) -> Result<Vec<u16>, FaultReport> {
     match node {
         NodeWords::Path(path) => places_of(alloc, Some(path)),
@@ -88,7 +89,7 @@ fn places_of_path(alloc: Global, node: NodeWords<'_>) -> Result<Vec<u16>, FaultR
 struct ExplanationRun<'a> {
     translator: &'a Translator,
     source: Source<'a>,
-    /// The bytes of the sentence; none if no line and column of it name the node.
+    /// The bytes of the sentence; empty if no line and column of it name the node.
     sentence: &'a [u8],
     path: &'a str,
     /// Whether the tree file was chosen in a folder, so that its path has to be printed.
@@ -158,8 +159,8 @@ impl<'a> ExplanationRun<'a> {
         tree.node_at(alloc, position, device)
     }
 
-    /// Fails if a node does not have the attributes that the words of the command line name. Fails too if these words
-    /// ask for the rules in which errors arise and the file is not of the last pass.
+    /// Fails if the words of the command line ask for the rules in which errors arise and the file
+    /// is not of the last pass. Then fails if the node lacks an attribute that these words name.
     fn check(
         self,
         alloc: Global,

@@ -89,7 +89,8 @@ pub fn no_node(alloc: Global, grammar: &Grammar, index: &TreeIndex, places: &[u1
     report.or_bare(written)
 }
 
-/// Writes how far a path goes in a tree, and the number of children of its last node.
+/// Writes how far a path goes in a tree, and the number of children of its last node. Writes
+/// nothing if memory for the path is refused.
 fn describe_missing(
     alloc: Global,
     out: &mut String,

@@ -92,7 +92,8 @@ impl TreeSentence<'_> {
         self.index.find_covering(alloc, grammar, &counts, range)
     }
 
-    /// Fails if the tokens of the sentence are not those of the tree.
+    /// Fails if the tokens of the sentence are not those of the tree. The loop never runs to its
+    /// end: a sentence has at most `MAX_TEXT_BYTES` tokens.
     fn check_tokens<D: Device>(
         self,
         alloc: Global,
@@ -136,7 +137,7 @@ impl TreeSentence<'_> {
         }
     }
 
-    /// Returns the literal of a number as a token.
+    /// Returns the literal of a number as a token. The grammar has each literal of a tree.
     fn literal(self, alloc: Global, number: u16) -> Result<TokenText, NoMemory> {
         let literals = self.translator.grammar().literals();
         let text = match literals.get(usize::from(number)) {
@@ -149,7 +150,8 @@ impl TreeSentence<'_> {
         })
     }
 
-    /// Reads the record of a token of a class, and returns the token.
+    /// Reads the record of a token of a class, and returns the token. The index has the node, so
+    /// the fault `Damaged(0)` never comes.
     fn word<D: Device>(
         self,
         alloc: Global,
@@ -319,8 +321,8 @@ fn offset_of(text: &str, position: Position) -> Option<usize> {
     }
 }
 
-/// Returns a range of token numbers, from 0: the token at an offset of a sentence in bytes, or both tokens around it.
-/// Returns `None` before the first token and after the last one.
+/// Returns a range of token numbers, from 0: the token at an offset of a sentence in bytes, or both
+/// tokens around it. Returns `None` before the first token and after the last one.
 fn range_at(mut tokens: Tokens<'_>, at: usize) -> Option<TokenRange> {
     for number in 0..=MAX_TEXT_BYTES as u32 {
         let token = tokens.ahead()?;
@@ -351,7 +353,7 @@ fn length_of(token: Token<'_>) -> usize {
     }
 }
 
-/// Goes to the next token, if there is one to skip.
+/// Skips the next token, if there is one: `Tokens::advance` requires one.
 #[tactic(auto, using(std::proofs::lemmas::Option::slice_get_within))]
 fn skip_token(tokens: &mut Tokens<'_>) {
     if let Some(_token) = tokens.ahead() {

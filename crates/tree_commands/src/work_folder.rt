@@ -1,4 +1,4 @@
-//! The tree file of a folder that `run --work` wrote.
+//! The choice of a tree file in a folder of `--work`.
 
 use ag_value::NoMemory;
 use noted_file::CallRecord;
@@ -47,8 +47,8 @@ impl<'a> TreePath<'a> {
     }
 }
 
-/// Returns one more than the pass of the tree file at `path`; 0 if there is none, or it can't be read. Fails if memory
-/// is refused.
+/// Returns one more than the pass of the tree file at `path`; 0, which is less than for pass 0, if
+/// there is none, or it can't be read. Fails if memory is refused.
 fn pass_rank<R: Files>(rt: &R, alloc: Global, path: &str) -> Result<u32, NoMemory> {
     let Ok(mut tree) = FileDevice::existing(rt, alloc, path, CallRecord::new()) else {
         return Ok(0);

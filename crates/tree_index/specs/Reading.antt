@@ -25,7 +25,8 @@ use Rattle.tree_index.specs.declared.index.TreeIndex.{TreeIndex}
 use Rattle.tree_index.specs.declared.reading.Fetched.{Fetched}
 use Rattle.tree_index.specs.declared.reading.OpenRecord.{OpenRecord}
 
--- A body begins as the record of an item, with this number of a production or a class.
+-- A body begins as the record of an item, with this number of a production or a class. Of a symbol it says only that the body is
+-- that of a node, and that the grammar has a production of this number; not that the production is one of the symbol.
 abbrev pub BeginsRecord : Grammar → Item → List ℕ → ℕ → Type 0
 BeginsRecord g (item.Symbol s) body number = (q : Production) × (bytes : List ℕ) × IsProduction g number q
     × (body ≡ body_from Node number bytes)
@@ -102,8 +103,8 @@ AreOpen g (o ∷ os) [] = ⊥
 AreOpen g (o ∷ os) (f ∷ fs) = (q : Production) × IsProduction g o.production q × FitsAll g (stored_items q.items) f.trees
     × (o.children ≡ length (stored_items q.items)) × AreOpen g os fs
 
--- n nodes were read. The subtree of each open node ends after the nodes that are not read yet below it and below the open nodes
--- inside it. `sizes` are the sizes of the subtrees of all nodes of the tree.
+-- n nodes were read. In the numbers of the index, the subtree of an open node ends after these n nodes, and after those that are
+-- not read yet below it and below the open nodes inside it. `sizes` are the sizes of the subtrees of all nodes of the tree.
 abbrev pub AreEnding : Direction → List ℕ → ℕ → List OpenRecord → List Family → Type 0
 AreEnding d sizes n [] fs = Unit {0}
 AreEnding d sizes n (o ∷ os) [] = ⊥

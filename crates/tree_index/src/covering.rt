@@ -49,8 +49,9 @@ impl TokenRange {
 
 impl TreeIndex {
     /// Returns the places from the root to the deepest node of a production whose subtree has all
-    /// tokens of a range of the sentence. Returns the empty list, the path of the root, if the tree
-    /// does not have all tokens of the range. Fails if memory is refused.
+    /// tokens of a range, which are numbered in the whole sentence. Returns
+    /// the empty list, the path of the root, if the tree does not have all tokens of the range.
+    /// Fails if memory is refused.
     pub fn find_covering(
         &self,
         alloc: Global,

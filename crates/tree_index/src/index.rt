@@ -148,7 +148,7 @@ impl TreeIndex {
     }
 
     /// Returns the number of the child of a node that comes after `before` other children in the
-    /// order of the index. The node must have such a child.
+    /// order of the index. If the node has no such child, a returned number has no meaning.
     fn child_after(&self, node: u32, before: u16) -> Option<u32>
         ensures later { IfSome result (HasLater self.now node before) }
         ensures complete { IfNone result (HasNoLater self.now node before) }

@@ -78,9 +78,9 @@ impl NodePath {
 
     /// Reads a path: `/` for the root, or a sequence of one or more runs, each after a `/`. A run
     /// is a place, from 1 to 65,535, or a place, `*` and a number of repetitions, from 1 to 65,535:
-    /// `/1/1/1` is the same path as `/1*3`. A number may begin with `+` or zeros. Fails with
-    /// `NotAPath` for another text (also for one that ends with `/`, except `/` itself), and with
-    /// `NoMemory` if memory is refused.
+    /// `/1/1/1` has the same places as `/1*3`, but does not print like it. A number may begin with
+    /// `+` or zeros. Fails with `NotAPath` for another text (also for one that ends with `/`,
+    /// except `/` itself), and with `NoMemory` if memory is refused.
     pub fn parse(alloc: Global, text: &str) -> Result<NodePath, PathFault> {
         let Some(rest) = text.strip_prefix('/') else {
             return Err(PathFault::NotAPath);

@@ -26,8 +26,8 @@ use treefile::Device;
 const PASS_OFFSET: u64 = 4;
 
 /// The greatest size in bytes of a file whose bodies `read_shape` copies, in blocks. From a larger
-/// file it borrows bodies one by one, if the device lends them. For small bodies this takes longer
-/// than copying.
+/// file it borrows bodies one by one, if the device lends them. Borrowing takes longer than
+/// copying if bodies are small; only the size of the file is tested.
 const MAX_COPIED: u64 = 4_194_304;
 
 /// A bound of the number of turns of the loop in `read_file`: one to read each node below the root,

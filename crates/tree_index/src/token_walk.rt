@@ -98,7 +98,7 @@ impl<'a> TokenWalk<'a> {
         )
     }
 
-    /// Puts an open node back after its next item, which is `token`.
+    /// Puts an open node back on the list, with its next item visited. This item is `token`.
     fn pass(&mut self, open: OpenRecord, token: TreeToken) -> Result<(), NoMemory> {
         match token {
             TreeToken::Literal(_) => self.go_on(open, 0),
@@ -106,8 +106,8 @@ impl<'a> TokenWalk<'a> {
         }
     }
 
-    /// Puts an open node back after its next item. `children` is 1 if that item is a child, and 0
-    /// if it is a literal.
+    /// Puts an open node back on the list, with its next item visited. `children` is 1 if this item
+    /// is a child, and 0 if it is a literal.
     fn go_on(&mut self, open: OpenRecord, children: u16) -> Result<(), NoMemory> {
         Ok(
             self.nodes.push(OpenRecord {

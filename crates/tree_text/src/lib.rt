@@ -2,8 +2,9 @@
 //! object for each. What `aggen show` prints.
 //!
 //! In lines, control characters, invisible characters and unusual spaces are written as escapes,
-//! such as `\u{1b}`. In JSON, control characters are written as `\u001b`, and other characters of a
-//! value as they are. The functions that write to a `String` fail if memory is refused.
+//! such as `\u{1b}`. In JSON, quotes, backslashes and control characters are written as escapes,
+//! such as `\n` and `\u001b`, and other characters as they are. The functions that write to a
+//! `String` fail if memory is refused.
 #![tactic(auto)]
 
 mod fault;

@@ -19,7 +19,7 @@ use treefile::Device;
 pub(crate) struct ShownNode {
     /// The number of the node in the index.
     pub(crate) node: u32,
-    /// The number of levels below the first node of the walk.
+    /// The level of the node; that of the walk's first node is 0.
     pub(crate) level: u32,
     /// The symbol or the class of the node.
     pub(crate) item: Item,
@@ -120,10 +120,10 @@ impl TreeText<'_> {
 /// Prints the nodes of a walk over a tree file. The walk has to be over the index of `text`; its
 /// greatest level is set to `text.depth`.
 ///
-/// Fails with R1 if a record is damaged: if the file was changed after its index was made, or if
-/// the index was made without reading the values (`TreeIndex::read_shape`). Fails with D1 if a call
-/// of the device fails, with O2 if the output fails, and if memory is refused. A part of the text
-/// may have been printed before a failure.
+/// Fails with R1 if a record is damaged. (`TreeIndex::read` refuses a file with such a record, but
+/// `read_shape` does not read the values, and the file may have changed since.) Fails with D1 if a
+/// call of the device fails, with O2 if the output fails, and if memory is refused. A part of the
+/// text may have been printed before a failure.
 pub fn write_tree<D: Device, W: Write>(
     alloc: Global,
     text: &TreeText<'_>,

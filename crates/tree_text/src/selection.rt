@@ -15,8 +15,8 @@ pub struct SelectedAttribute {
 }
 
 /// Returns the attribute of a name, such as `L.sum` or `NUMBER.lex`. Each class has `lex`, even if
-/// the grammar does not use the class. For other names, fails as `attribute_named` does, if the
-/// grammar has no such attribute.
+/// the grammar does not use the class. If the grammar has no attribute of another name, fails as
+/// `attribute_named` does.
 pub fn selected_attribute<'a>(
     grammar: &Grammar,
     name: &'a str,

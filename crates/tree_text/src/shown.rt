@@ -6,9 +6,10 @@ use message_parts::display::PlainText;
 use std::alloc::Global;
 
 /// Writes the first `width` characters of a value as text, and `..` after them if there are more.
-/// Writes the whole text if `width` is 0 or the value is a number. The characters are those of
-/// `show`, with quotes and with two for `\n`. One that is then written as an escape such as
-/// `\u{1b}` counts as one. Fails if memory is refused.
+/// Writes the whole text if `width` is 0 or the value is a number. The characters are
+/// counted in the text that `show` returns: its quotes count, and an LF counts as two, since it is
+/// `\n` there. A character that is written as an escape such as `\u{1b}` counts as one. Fails if
+/// memory is refused.
 pub fn write_value(
     alloc: Global,
     out: &mut String,

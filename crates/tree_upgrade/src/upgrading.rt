@@ -49,11 +49,12 @@ struct Subtree {
 }
 
 impl Upgrading {
-    /// Reads the record of a subtree's root, which comes before the record that was read last. Fails
-    /// with P2 if the root's level exceeds `MAX_REVERSED_LEVELS`, and with P3 if
-    /// `MAX_REVERSED_RECORDS` records were read already. Fails with R1 and the offset at which the
-    /// record's frame should end if no frame ends there, or one whose body is not a record of the
-    /// item. Fails with D1 if the device fails, and with `NoMemory` if memory cannot be allocated.
+    /// Reads the record of a subtree's root, which comes before the record that was read last.
+    /// Requires an item that is a child: a symbol or a class. Fails with P2 if the root's level
+    /// exceeds `MAX_REVERSED_LEVELS`, and with P3 if `MAX_REVERSED_RECORDS` records were read
+    /// already. Fails with R1 and the offset at which the record's frame should end if no frame
+    /// ends there, or one whose body is not a record of the item. Fails with D1 if the device
+    /// fails, and with `NoMemory` if memory cannot be allocated.
     fn record<D: Device>(
         &mut self,
         grammar: &Grammar,
@@ -94,8 +95,9 @@ impl Upgrading {
     }
 
     /// Converts a subtree, if its item is a child: reads its records, and writes them in postfix
-    /// order, from right to left. Returns the text if the item is a class. Fails as `upgrade` does for
-    /// the first device, and with D1 if the second one fails.
+    /// order, from right to left. For a literal does nothing. Returns the text if the item is a
+    /// class, and otherwise `None`. Fails as `upgrade` does for the first device, and with D1 if
+    /// the second one fails.
     fn tree<D: Device, E: Device>(
         &mut self,
         grammar: &Grammar,
@@ -260,9 +262,9 @@ fn stored_among(items: &[Item]) -> u32
 /// Converts a tree file of version 1. Reads the file of pass 0 of a tree of the grammar backward
 /// from the first device, and writes to the third one the file of version 2 and pass 0 of the same
 /// tree: the file that `parse` writes for a sentence with this tree. Writes the same records from
-/// right to left to the second device in between. Returns the number of nodes. The call
-/// recurses over at most `MAX_REVERSED_LEVELS` (256) levels. The first device always keeps its
-/// content. After a success the old content of the other two is lost.
+/// right to left to the second device in between. Returns the number of nodes. The recursion is as
+/// deep as the tree, and ends at the first record below level `MAX_REVERSED_LEVELS` (256). The
+/// first device always keeps its content. After a success the old content of the other two is lost.
 ///
 /// Fails with R1 (`Damaged`) only if the content is not the file of version 1 and pass 0 of a tree of
 /// the grammar; the offset is as for `run_pass`. If a limit is exceeded before any damage, fails with P2
@@ -309,8 +311,9 @@ pub fn upgrade<D: Device, E: Device, F: Device>(
     Ok(count)
 }
 
-/// Writes the record of a node or token that was read from a file of version 1. Fails with D1 if the
-/// device fails, and with `NoMemory` if memory cannot be allocated.
+/// Writes the record of a node or token that was read from a file of version 1. Its values are of
+/// the type `Value`, and not carried ones as those that a pass writes. Fails with D1 if the device
+/// fails, and with `NoMemory` if memory cannot be allocated.
 #[inline(always)]
 fn put_record<E: Device>(
     kind: Kind,

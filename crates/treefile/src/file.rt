@@ -38,8 +38,9 @@ pub enum Access {
     Broken,
 }
 
-/// A device over a file. It buffers appended bytes in memory, at most 65,536 of them, and writes
-/// them to the file when more arrive, before `len` and `read_at` use the file, and in `finish`: a
+/// A device over a file. It buffers appended bytes in memory, at most 65,536 of them. It writes
+/// them to the file before it appends bytes for which the buffer has no room, before `len` and
+/// `read_at` use the file, and in `finish`. A successful `clear` drops the buffered bytes too. A
 /// device that is dropped without `finish` loses the bytes that it has buffered. After a failed
 /// write every call fails.
 ///

@@ -38,9 +38,10 @@ pub fn frames_are_read()
         body_before version content at ≡ Err (Damaged at) }
 {}
 
-/// States that a file grows by the frame of a body. In a usable version its last body is the one whose
-/// frame was appended last, if its length is within the limits of the version, and after a header alone
-/// there is none. B2 Damaged comes only with the offset of the end of the content.
+/// States that a file with one more body has one more frame at its end. In a usable version the
+/// last body of a file is the one that was appended last, if the length of this body is within the
+/// limits of the version. A header alone has no last body: B2 Damaged at offset 6. In any version,
+/// if the last body of a content is B2 Damaged, the offset is the end of the content.
 pub fn last_is_read()
     ensures grows { (version : Version) (pass : ℕ) (bodies : List (List ℕ)) (body : List ℕ) →
         file version pass (bodies ++ body ∷ []) ≡ file version pass bodies ++ frame body }

@@ -16,8 +16,8 @@ pub const LENGTH_BYTES: u64 = 4;
 /// The least number of bytes of a body: one of the kind, and two of the number.
 pub const LEAST_BODY: u64 = 3;
 
-/// The greatest number of values of a record: those of all attributes of its symbol, and at most as many
-/// copies for each child.
+/// The greatest number of values of a record, 272: at most `MAX_ATTRIBUTES` of its own, and at most
+/// `MAX_ATTRIBUTES` copies for each of at most `MAX_CHILDREN` children.
 pub const MAX_VALUES: usize = MAX_ATTRIBUTES + MAX_CHILDREN * MAX_ATTRIBUTES;
 
 /// The greatest number of bytes of a body of version 1: the least body, and a value of the greatest

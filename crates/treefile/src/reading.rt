@@ -85,6 +85,7 @@ pub fn pass_in<D: Device>(version: FileVersion, device: &mut D, end: u64) -> Res
 /// Returns whether bytes begin with the magic (the first four bytes) of a version.
 fn has_magic(version: FileVersion, bytes: &[u8]) -> bool
     ensures found { result ≡ starts_with nat_eq bytes.now (version_of version).magic }
+    // A slice of `u8` has only bytes: `pass_in` claims this of the header.
     ensures bytes { IsBytes bytes.now }
 {
     bytes.starts_with(&version.magic())

@@ -104,9 +104,10 @@ impl Device for SharedDevice {
 
 /// Lends the body of the frame that ends at offset `at` of a content. Returns `None` if no frame
 /// ends there. The type `Body` is any borrowed part of shared bytes: `whole`, `frame`, `rest` and
-/// `last` are of this type too, and are not bodies of frames. A *splice* is the encoding of a
-/// shared value. `cut` splits a part at an offset; its second argument is the number of splices
-/// before the offset.
+/// `last` are of this type too, and are not bodies of frames. `frame` has all bytes before offset
+/// `at`, also those before the frame; `last` has the last four of them, and `rest` the others. A
+/// *splice* is the encoding of a shared value. `cut` splits a part at an offset; its second
+/// argument is the number of splices before the offset.
 #[inline(never)]
 fn body_before(bytes: &SharedBytes, at: u64) -> Option<Body<'_>>
     ensures body { IfSome result (λ body. body_before version_two bytes.now at ≡ Ok body) }

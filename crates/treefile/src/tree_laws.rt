@@ -163,16 +163,18 @@ pub fn records_are_read()
     ensures left { BytesAreLeft }
 {}
 
-/// States that the last record of a file is the root's, and in the file of the last pass it has all its
-/// values.
+/// States that the last record of a tree's file is the root's, and that in the file of the last
+/// pass a record has the value of each attribute of its symbol, at the index of the attribute's
+/// number.
 pub fn root_is_last()
     ensures last { RootIsLast }
     ensures values { ValuesAreWhole }
 {}
 
-/// Worked examples: the tree of `1` with its values can be recorded, and so can that of `iffy if`,
-/// but not with an empty text for the name. The file of pass 2 of `1` is that of no other tree, and
-/// its last record is that of N. Pass 1 ran from the file of pass 0 of `x x` in `sample` to that of
+/// Worked examples: a record can number the productions of the grammar of binary fractions. The
+/// tree of `1` with its values can be recorded, and so can that of `iffy if`, but not with an empty
+/// text for the name. The file of pass 2 of `1` is that of no other tree, and its last record is
+/// that of N. Pass 1 ran from the file of pass 0 of `x x` in `sample` to that of
 /// pass 1, and so did the passes from 1 to 1. T's record in pass 1 has the number 65536, which is
 /// spelled in nine bytes. A following byte 9 begins no value, so these ten bytes do not spell two
 /// values.

@@ -36,9 +36,11 @@ struct RulePlace<'a> {
 }
 
 impl<'a> ExplainedTree<'a> {
-    /// Writes the values of a node, each with the rule that computed it and the values that the rule used;
-    /// after an error its cause, if the file is of the last pass. Writes nothing if the tree does not have
-    /// the node. Fails with R1 if a record is damaged, with D1 if a call of the device fails, and if memory is refused.
+    /// Writes the values of a node, each with the rule that computed it and the values that the
+    /// rule used; after an error its cause, if the file is of the last pass. For a value that the
+    /// file does not have yet, writes the pass that computes it. Writes nothing if the tree does
+    /// not have the node. Fails with R1 if a record is damaged, with D1 if a call of the device
+    /// fails, and if memory is refused.
     pub fn write_node<D: Device>(
         &self,
         out: &mut String,
@@ -234,8 +236,9 @@ impl<'a> ExplainedTree<'a> {
         Some((node, rule_for(production.rules.as_slice(), place.target)?))
     }
 
-    /// Writes a line for each argument of a rule of the node at the end of a path, if the node's record has its value:
-    /// the argument, its value, and the path of its node.
+    /// Writes a line for each argument of a rule whose value is in the record of the rule's node:
+    /// the argument, its value, and the path of the node whose attribute it is. `path` is that of
+    /// the rule's node.
     fn write_arguments(
         &self,
         out: &mut String,

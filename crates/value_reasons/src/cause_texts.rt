@@ -28,13 +28,15 @@ pub struct ErrorTranslation<'a> {
 }
 
 impl<'a> ErrorTranslation<'a> {
-    /// Returns what a message says of the error after its value: the rule in which it arises, the rule's
-    /// position, where the rule's node is in the sentence (without a sentence, in the tree), the values of the
-    /// rule's arguments, and the number of rules that passed the error on. `device` contains the file of the last
-    /// pass, which was just written.
+    /// Returns what a message says of the error after its value: the rule in which it arises, the
+    /// rule's position, where the rule's node is in the sentence (without a sentence, in the tree),
+    /// the values of the rule's arguments, and the number of rules that passed the error on.
+    /// `device` contains the file of the last pass. It was just written, so its values are not all
+    /// read and checked (`read_shape`).
     ///
-    /// Returns `None` if the file does not have the cause. Fails with R1 if it is damaged, with P2 or P3 if its
-    /// tree exceeds a limit, with D1 if a call of the device fails, and if memory is refused.
+    /// Returns `None` if no cause is found (`find_cause`). Fails with R1 if the file is damaged,
+    /// with P2 or P3 if its tree exceeds a limit, with D1 if a call of the device fails, and if
+    /// memory is refused.
     pub fn describe_cause<D: Device>(
         &self,
         alloc: Global,

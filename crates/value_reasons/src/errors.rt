@@ -30,8 +30,9 @@ impl<'a> ExplainedTree<'a> {
         Ok(body_before(self.alloc, device, end)?)
     }
 
-    /// Reads the record of a node of the last file, and writes a line for each rule of the node in which an
-    /// error arises. Returns the number of such rules: 0 if the index does not have the node.
+    /// Reads the record of a node of the last file, and writes a line for each rule of the node in
+    /// which an error arises. Returns the number of such rules: 0 for a token, or if the index does
+    /// not have the node.
     fn write_errors_at<D: Device>(
         &self,
         out: &mut String,
@@ -113,9 +114,11 @@ impl<'a> ExplainedTree<'a> {
     }
 }
 
-/// Prints a line for each rule of a tree in which an error arises, in the order of the sentence, and then
-/// their number. The file has to be that of the last pass. Fails with R1 if a record is
-/// damaged, with D1 if a call of the device fails, with O2 if the output fails, and if memory is refused.
+/// Prints a line for each rule in which an error arises, at each node of a tree in the order of the
+/// sentence, and then the number of these lines. The caller has to check that the file is of the
+/// last pass; for another file the lines mean nothing. Fails with R1 if a record is damaged, with
+/// D1 if a call of the device fails, with O2 if the output fails, and if memory is refused. Some of
+/// the lines may have been printed before a failure.
 pub fn write_errors<D: Device, W: Write>(
     tree: &ExplainedTree<'_>,
     device: &mut D,

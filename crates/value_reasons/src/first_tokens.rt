@@ -56,7 +56,8 @@ impl<'a> ExplainedTree<'a> {
         let mut nodes = Vec::new(self.alloc);
         push(&mut nodes, node)?;
         let mut count = 0usize;
-        // more than a tree within the limits takes: one turn for each node, one for its end, and three for literals
+        // more than a tree within the limits takes: one turn for each node, one for its end, and
+        // one for each literal written, of which there are at most `MAX_TOKENS`
         for _turn in 0..16 * MAX_NODES {
             if MAX_TOKENS <= count {
                 return Ok(());
@@ -149,7 +150,8 @@ fn push(nodes: &mut Vec<OpenNode>, node: u32) -> Result<(), NoMemory> {
     })?)
 }
 
-/// Puts a node back after its next item was visited and, if that is a symbol, puts the child there after it.
+/// Puts a node back on the list after its next item was visited. If this item is a symbol, then
+/// adds the child there, which so comes before the rest of the node.
 fn push_next(nodes: &mut Vec<OpenNode>, open: OpenNode, next: NextToken) -> Result<(), NoMemory> {
     let is_child = !matches!(next, NextToken::Literal(_));
     let children = if is_child {

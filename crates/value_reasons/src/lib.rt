@@ -1,8 +1,8 @@
 //! Where the values in a tree file come from: what `aggen explain` prints, and what the message of O1 says
 //! of an error.
 //!
-//! Characters that control a terminal are written as escapes, such as `\u{1b}`. The functions that write
-//! to a `String` fail if memory is refused.
+//! Control characters, invisible characters and unusual spaces are written as escapes, such as
+//! `\u{1b}`. The functions that write to a `String` fail if memory is refused.
 #![tactic(auto)]
 
 mod attributes;

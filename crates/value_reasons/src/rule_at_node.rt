@@ -11,8 +11,9 @@ use tree_index::{NodeKind, NodeRecord, TreeFault};
 use tree_text::write_value;
 use treefile::Device;
 
-/// The greatest number of characters of an argument's value where the cause of an error is described, in a
-/// message or in a line of an explanation. Numbers are whole.
+/// The greatest number of characters of an argument's value where the cause of an error is
+/// described, in a message or in a line of an explanation. A value that is a number is written
+/// whole.
 const MAX_ARGUMENT: usize = 40;
 
 /// A rule at a node, with the record of the node.
@@ -84,9 +85,11 @@ impl<'a> ExplainedTree<'a> {
         Ok(Some(record))
     }
 
-    /// Writes where an error arises: the target of the rule and its position, the text `place`, the values of the
-    /// rule's arguments, and the number of rules that passed the error on. Writes nothing if the node has no such
-    /// rule. Fails as reading the record of the rule's node does, and if memory is refused.
+    /// Writes where an error arises: the target of the rule, the rule's position, the text `place`
+    /// (which says where the rule's node is), the values of the rule's arguments, and the number of
+    /// rules that passed the error on. Writes nothing if the node has no such rule. Fails with R1
+    /// if the node's record is damaged, with D1 if a call of the device fails, and if memory is
+    /// refused.
     pub fn write_cause<D: Device>(
         &self,
         out: &mut String,
@@ -106,7 +109,8 @@ impl<'a> ExplainedTree<'a> {
         Ok(write_steps(out, cause.steps)?)
     }
 
-    /// Writes that an error arises in a rule at a place, and the values of the rule's arguments.
+    /// Writes that an error arises in a rule at a place, and the values of the rule's arguments up
+    /// to the first one that the record does not have.
     fn write_arising(
         &self,
         out: &mut String,

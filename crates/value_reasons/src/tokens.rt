@@ -46,7 +46,7 @@ pub fn position_of_token<'a>(
     }
 }
 
-/// Goes to the next token. Returns whether there was one to skip.
+/// Skips the next token. Returns whether there was one.
 #[tactic(auto, using(std::proofs::lemmas::Option::slice_get_within))]
 fn skip_token(tokens: &mut Tokens<'_>) -> bool {
     let Some(_token) = tokens.ahead() else {

@@ -1,5 +1,5 @@
-//! Finds the leftmost error among arguments. It is the value of every operator, and of every call
-//! except `iserr` and `orelse`.
+//! Finds the leftmost error among arguments. If there is one, it is the value of every operator,
+//! and of every call except `iserr` and `orelse`.
 
 ghost use Rattle.std.specs.Prelude.{◌≡◌, ◌∷◌, []};
 ghost use Rattle.ag_value.specs.operations.Arguments.{fault_of, leftmost};

@@ -76,6 +76,7 @@ pub fn append<'a>(alloc: Global, list: &ListTree, item: Measured) -> Result<Held
     requires { fault_of item ≡ None }
     ensures { IfOk result (λ h. held_value h ≡ append_result (value.List list.now) item) }
 {
+    // a list is one level deeper than its deepest item
     if item.depth() >= MAX_VALUE_DEPTH {
         return Ok(Held::fault(ErrorCode::Deep));
     }

@@ -65,6 +65,7 @@ pub fn remainder_of(dividend: i64, divisor: i64) -> Scalar
     if divisor == 0 {
         return Scalar::Fault(ErrorCode::Divide);
     }
+    // the remainder of the least number by -1 is 0, for which `%` would overflow
     Scalar::Number(dividend.wrapping_rem(divisor))
 }
 
@@ -134,7 +135,8 @@ pub fn decimal(alloc: Global, value: &Value) -> Result<Value, NoMemory>
     let Value::Num(number) = value else {
         return Ok(Value::Fault(ErrorCode::Kind));
     };
-    // for the prover: the range of i64, and that a text is UTF-8
+    // The copy shows the prover that the number is in the range of i64, and the contract of
+    // `as_str` that the text is UTF-8.
     let number = *number;
     let text = Text::from_string(number.to_string(alloc)?);
     let _utf8 = text.as_str();

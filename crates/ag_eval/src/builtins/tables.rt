@@ -76,8 +76,9 @@ pub fn has(table: &Value, key: &Value) -> Value
     }
 }
 
-/// Computes `put(t, k, v)`: the table gets the pair, or the key a new value. A table of more than
-/// `MAX_FLAT_TABLE` pairs becomes a tree. Takes memory for the growth, or for the tree.
+/// Computes `put(t, k, v)`: the table gets the pair, or the key a new value. A table that has more
+/// than `MAX_FLAT_TABLE` pairs before this becomes a tree. Takes memory for the growth, or for the
+/// tree.
 pub fn put<'a>(
     alloc: Global,
     table: Measured,
@@ -183,7 +184,8 @@ fn put_pair(
     Ok(Measured::fit(Value::Table(pairs), weight, depth))
 }
 
-/// Replaces the value at an index of a table, and computes its weight and depth anew.
+/// Replaces the value at an index of a table, and measures the whole table again, since the weight
+/// and the depth of the old value are not stored.
 fn replaced(pairs: Items<(Text, Value)>, index: usize, item: Value) -> Measured
     requires table { IsWell (value.Table pairs) }
     requires item { is_item item ≡ true }

@@ -39,7 +39,7 @@ fn join_items(alloc: Global, items: &[Value], separator: &str) -> Result<Measure
         return Ok(Measured::new(Value::Fault(ErrorCode::Big)));
     }
     let text = Text::from_string(joined(alloc, items, separator)?);
-    // for the prover: a text is UTF-8
+    // the contract of `as_str` shows the prover that the text is UTF-8
     let _utf8 = text.as_str();
     Ok(Measured::fit(Value::Text(text), weight, 0))
 }
@@ -118,7 +118,7 @@ fn extended(alloc: Global, left: Text, right: &str) -> Result<Measured, NoMemory
     let mut string = left.into_string(alloc)?;
     string.push_str(right)?;
     let text = Text::from_string(string);
-    // for the prover: a text is UTF-8
+    // the contract of `as_str` also shows the prover that the text is UTF-8
     let weight = 5u64.saturating_add(text.as_str().len() as u64);
     Ok(Measured::fit(Value::Text(text), weight, 0))
 }

@@ -1,4 +1,4 @@
--- The reserved names, which cannot be bound, and those of calls (this project's language).
+-- The reserved names, which cannot be bound; among them are the names of calls (this project's language).
 use Rattle.std.specs.Prelude.{ℕ, Bool, ◌||◌, ◌+◌, List, [], ◌∷◌, Option, Some, None, cond, bytes_eq, codes, is_some}
 use Rattle.ag_expr.specs.declared.names.Call.{Call}
 use Rattle.ag_expr.specs.declared.names.Call.TheVariants as call

@@ -90,20 +90,24 @@ ranked_from atom (k ∷ ks) = chain_from k (ranked_from atom ks)
 
 -- ---- expressions
 
--- Whether the token is the name of a call; whether it is an operand of one token; whether an atom, and whether an expression
--- begins with it. `listed` are the distinct occurrences, and `scope` the names in scope.
+-- Four tests of a token. `listed` are the distinct occurrences, and `scope` the names in scope.
+
+-- the token is the name of a call
 abbrev pub is_call : GrammarToken → Bool
 is_call t = is_some (call_in t)
 
+-- the token alone is an operand
 abbrev pub is_operand : List Occ → Names → GrammarToken → Bool
 is_operand listed scope t = is_some (operand_of listed scope t)
 
+-- an atom can begin with the token
 abbrev pub begins_atom : List Occ → Names → GrammarToken → Bool
 begins_atom listed scope t =
     is_sign (mark punctuation.Open) t
     || (is_sign (mark punctuation.OpenList) t
     || (is_sign (mark punctuation.OpenTable) t || (is_call t || is_operand listed scope t)))
 
+-- an expression can begin with the token
 abbrev pub begins : List Occ → Names → GrammarToken → Bool
 begins listed scope t = is_sign (word (codes "let")) t || (is_sign (word (codes "if")) t || begins_atom listed scope t)
 
@@ -236,6 +240,7 @@ module _ (inner : Names → Parser Node) (scope : Names) where
         (choose (is_sign (mark punctuation.OpenTable)) table_from
         (choose is_call call_from (token_as (operand_of listed scope)))))
 
+    -- an expression: a `let`, an `if` or a chain
     unfoldable pub whole_from : Parser Node
     whole_from =
         choose (is_sign (word (codes "let"))) let_from
@@ -256,6 +261,7 @@ expr_from listed levels = expr_in listed levels []
 
 -- ---- a whole text
 
+-- reads nothing if the text ends here, and else fails with `refusal`
 abbrev pub at_end : Parser (Unit {0})
 at_end = end_from refusal
 

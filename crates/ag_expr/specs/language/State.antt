@@ -101,7 +101,7 @@ HasIndex s place attr k = position_of (complete_list s) place attr ≡ Some k
 abbrev pub level_fault : State → ExprFault
 level_fault s = level_fault_of (complete_list s) s.scope (input s).ending (input s).left
 
--- whether an expression can begin with the token; any occurrence can begin one
+-- whether an expression can begin with the token; any occurrence can begin one, so `begins` needs no list of occurrences here
 abbrev pub begins_here : Names → GrammarToken → Bool
 begins_here scope (token.Occurrence place attr) = true
 begins_here scope t = begins [] scope t

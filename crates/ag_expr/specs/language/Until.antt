@@ -57,7 +57,7 @@ or_fault e (Ok x) = Err e
 or_fault e (Err f) = Err f
 
 -- The tokens before the first semicolon are parsed as a text that ends there. Without a semicolon, the fault
--- is that of parsing all tokens, or that of their ending.
+-- is that of parsing all tokens or, if they are an expression, that of their ending.
 abbrev pub until_by : Option ℕ → Input → Result Ended ExprFault
 until_by (Some at) i = with_offset at (read_from (record { left = before_semicolon i.left; ending = ending.EndsAt at }))
 until_by None i = or_fault (ending_fault i.ending) (read_from i)
@@ -95,16 +95,15 @@ pub record IsUnended (i : Input) (f : ExprFault) : Type 0 where
   pub tree : Node
   pub spells : IsExpr (occurrences_of i) max_levels (tokens i.left) tree
 
--- The fault is at the first token that cannot be accepted, where the first semicolon counts as the end of the text. If
--- there is no semicolon, the fault is at the first of all tokens that cannot be accepted, or at the end of the text.
+-- The fault is at the first token that cannot be accepted, where the first semicolon counts as the end of the text. Without
+-- a semicolon all tokens count; if they are an expression, the fault is at the end of the text.
 abbrev pub IsReportedUntil : Option ℕ → Input → ExprFault → Type 0
 IsReportedUntil (Some at) i f =
     IsReportedFirst (distinct_occurrences (all_occurrences (before_semicolon i.left))) max_levels
     (record { left = before_semicolon i.left; ending = ending.EndsAt at }) f
 IsReportedUntil None i f = IsReportedFirst (occurrences_of i) max_levels i f ⊎ IsUnended i f
 
--- A fault other than `NoMemory` is at the first token from the offset `from` on, up to a semicolon, that
--- cannot be accepted.
+-- A fault other than `NoMemory` of parsing the text from the offset `from` on is at the offset that `IsReportedUntil` states.
 abbrev pub IsFirstUntil : List ℕ → ℕ → ExprFault → Type 0
 IsFirstUntil text from f = (i : Input) → Lexes from (chars (drop from text)) i → f ≢ fault.NoMemory
     → IsReportedUntil (first_semicolon i.left) i f

@@ -53,8 +53,8 @@ max_literal_bytes = MAX_LITERAL_BYTES
 abbrev pub max_text_bytes : ℕ
 max_text_bytes = MAX_TEXT_BYTES
 
--- The maximum number of passes that a grammar needs: two for each attribute that it may have (Jazayeri and
--- Walter 1975).
+-- The maximum number of passes that a grammar with a legal assignment needs: two for each attribute that it may have (Jazayeri
+-- and Walter 1975).
 abbrev pub max_passes : ℕ
 max_passes = MAX_PASSES
 

@@ -35,7 +35,7 @@ stored_items (item.Terminal (Literal l) ∷ xs) = stored_items xs
 abbrev pub places_of : Production → List Item
 places_of q = item.Symbol q.left ∷ stored_items q.items
 
--- the item at a place of a production
+-- the item at a place of a production; `None` if the place does not exist
 abbrev pub item_at : Production → ℕ → Option Item
 item_at q zero = Some (item.Symbol q.left)
 item_at q (suc i) = slice_get (stored_items q.items) i
@@ -91,7 +91,7 @@ used_kind (suc i) = Synthesized
 abbrev pub lex_name : List ℕ
 lex_name = 108 ∷ 101 ∷ 120 ∷ []
 
--- the names of a symbol's attributes, if the symbol exists
+-- the names of a symbol's attributes; none if the symbol does not exist
 abbrev pub symbol_names : Option Symbol → List (List ℕ)
 symbol_names None = []
 symbol_names (Some s) = attribute_names s

@@ -8,7 +8,7 @@ use Rattle.ag_grammar.specs.grammars.AttributeGrammar.{Grammar, item_at}
 use Rattle.ag_grammar.specs.grammars.Passes.{Passes, item_passes}
 use Rattle.ag_grammar.specs.grammars.Tree.{Tree, Forest, leaf, node, none, more}
 
--- the sum, over the nodes of a tree, of a function of their productions
+-- the sum, over the nodes of a tree, of a function of their productions; a leaf counts 0
 abbrev mutual
   pub total : (Option Production → ℕ) → Grammar → Tree → ℕ
   total f g (leaf c x) = 0
@@ -18,7 +18,7 @@ abbrev mutual
   totals f g none = 0
   totals f g (more t ts) = total f g t + totals f g ts
 
--- the pass of the attribute at a place, if that exists
+-- the pass of the attribute at a place; `None` if the place or the attribute does not exist
 abbrev pub pass_at : Passes → Production → Target → Option ℕ
 pass_at m q o = slice_get (item_passes m (item_at q o.place)) o.attr
 

@@ -44,7 +44,7 @@ abbrev pub IsBefore : Direction → ℕ → ℕ → Type 0
 IsBefore LeftToRight i j = i < j
 IsBefore RightToLeft i j = j < i
 
--- the index from 0 of the child, of n children, that is visited after i others in this direction
+-- the index from 0 of the child, of n children, that is visited after i others in this direction, for i below n
 abbrev pub nth : Direction → ℕ → ℕ → ℕ
 nth LeftToRight n i = i
 nth RightToLeft n i = n - suc i

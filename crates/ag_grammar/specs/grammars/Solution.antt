@@ -117,6 +117,6 @@ IsWellOn W g m t v = AtEachNode (WellAt W) g m t v v
 abbrev pub AnyPass : ℕ → Type 0
 AnyPass p = Unit {0}
 
--- The translation: the value of the root's `out` (this project's).
+-- The translation is x: the value of the root's `out` (this project's).
 abbrev pub IsTranslation : Grammar → Valuation → Value → Type 0
 IsTranslation g v x = (a : ℕ) × IsOut g a × (v [] a ≡ x)

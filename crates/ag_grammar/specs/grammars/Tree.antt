@@ -77,7 +77,8 @@ max_depth = MAX_DEPTH
 abbrev pub max_nodes : ℕ
 max_nodes = MAX_NODES
 
--- and those of a tree whose file is reversed, or converted from version 1 (this project's)
+-- the maximum depth and the maximum number of nodes of a tree whose file is reversed, or converted from version 1 (this
+-- project's)
 abbrev pub max_reversed_depth : ℕ
 max_reversed_depth = MAX_REVERSED_DEPTH
 

@@ -1,4 +1,5 @@
--- Operations on lists, and those shared by texts, lists and tables. All definitions are this project's.
+-- Operations on lists, and those shared by texts, lists and tables. Except for `listed`, the arguments are not errors. All
+-- definitions are this project's.
 use Rattle.std.specs.Prelude.{ℤ, pos, negsuc, List, [], ◌∷◌, ◌++◌, length, Option, Some, None, slice_get}
 use Rattle.ag_value.specs.declared.value.ErrorCode.TheVariants.{Kind, Index}
 use Rattle.ag_value.specs.declared.value.Value.{Value, out-Value}

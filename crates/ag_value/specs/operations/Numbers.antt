@@ -15,13 +15,13 @@ use Rattle.ag_value.specs.Well.{is_i64}
 abbrev pub number_value : ℤ → Value
 number_value z = if is_i64 z then value.Num z else value.Fault Overflow
 
--- the error `divide` if the divisor is zero, whatever the dividend is, else the given value: a quotient or a remainder
+-- the error `divide` if the divisor is zero, else the given value, which is a quotient or a remainder
 abbrev pub quotient_of : ℤ → Value → Value
 quotient_of (pos zero) quotient = value.Fault Divide
 quotient_of (pos (suc n)) quotient = quotient
 quotient_of (negsuc n) quotient = quotient
 
--- the quotient, truncated towards zero; an error if the divisor is zero or the quotient is out of range
+-- the quotient, truncated towards zero; the error `divide` if the divisor is zero, and `overflow` if the quotient is out of range
 abbrev pub quotient : ℤ → ℤ → Value
 quotient m n = quotient_of n (number_value (int_div m n))
 

@@ -1,4 +1,4 @@
--- Operations on tables. All definitions are this project's.
+-- Operations on tables, for arguments that are not errors. All definitions are this project's.
 use Rattle.std.specs.Prelude.{◌≡◌, ℕ, suc, Bool, true, false, List, ◌∷◌, ◌++◌, map, filter, find, take, drop, slice_get, Option}
 use Rattle.std.specs.Prelude.{Some, None, bytes_eq}
 use Rattle.ag_value.specs.declared.value.ErrorCode.TheVariants.{Kind, Key}
@@ -17,7 +17,7 @@ pair_with key pairs = find (λ p. bytes_eq p.0 key) pairs
 abbrev pub with_pair : List ℕ → Value → List (List ℕ × Value) → List (List ℕ × Value)
 with_pair key v pairs = filter (λ p. is_before p.0 key) pairs ++ (key, v) ∷ filter (λ p. is_before key p.0) pairs
 
--- `put(t, k, v)`, for arguments that are not errors
+-- `put(t, k, v)`
 abbrev pub put_at : Value-F Value → Value-F Value → Value → Value
 put_at (Value-F.Table pairs) (Value-F.Text key) v = fit (value.Table (with_pair key v pairs))
 put_at table key v = value.Fault Kind

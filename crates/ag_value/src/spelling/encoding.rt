@@ -130,6 +130,7 @@ fn append_count(out: &mut Vec<u8>, count: usize) -> Result<(), NoMemory>
     append_bytes(out, &(count as u32).to_be_bytes())
 }
 
+/// Appends bytes.
 #[tactic(auto, using(crate::proofs::Extending::extending))]
 fn append_bytes(out: &mut Vec<u8>, bytes: &[u8]) -> Result<(), NoMemory>
     ensures ok { OnOk result (out.new.items ≡ out.old.items ++ bytes.now) }

@@ -24,6 +24,8 @@ pub fn show(alloc: Global, value: &Value) -> Result<String, NoMemory>
     Ok(out)
 }
 
+/// Appends the text of a value. Fails with NoMemory, and then may have appended a part of the text;
+/// this is also true of the functions below that return a `Result`.
 #[cycle(showing)]
 #[tactic(auto, using(crate::proofs::Layers::shown))]
 fn show_value(out: &mut String, value: &Value) -> Result<(), NoMemory>

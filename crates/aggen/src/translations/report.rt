@@ -5,11 +5,11 @@ use passrun::Last;
 /// The statistics of a translation.
 #[derive(Clone, Copy, Debug, PartialEq, Eq)]
 pub struct Report {
-    /// The number of nodes of the tree, which are those with records, from 1 to `MAX_NODES`.
+    /// The number of nodes of the tree, from 1 to `MAX_NODES` (1,048,576). Each node has a record.
     pub nodes: u32,
     /// The number of passes that ran: those of the plan, at least 1.
     pub passes: u16,
-    /// The number of evaluations of rules: as many as the tree has rules at its nodes.
+    /// The number of evaluations of rules: the sum, over all nodes, of the numbers of their rules.
     pub evals: u64,
     /// The number of records that the passes read: for each pass as many as the tree has nodes. The
     /// records that the parser wrote are not counted.

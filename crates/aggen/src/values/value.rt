@@ -28,8 +28,8 @@ use treefile::Device;
 /// Fails before the device is used with X1 to X4 if the text is not an expression, and with X2 at
 /// its first `$` if it has occurrences. Fails with D1 Device if the device failed, with B1 or B2 if
 /// it does not return the bytes that were written, and with NoMemory if memory is refused. Writes
-/// to `out` last, and fails with O2 Write if a write fails or takes no byte. After each fault
-/// except X the device has its old content, or a prefix of the file, possibly all of it.
+/// to `out` last, and fails with O2 Write if a write fails or takes no byte. After X the device is
+/// unchanged. After another fault it has its old content, or a prefix of a tree file of pass 0.
 pub fn show_value<D: Device, W: Write>(
     alloc: Global,
     text: &str,
@@ -54,7 +54,7 @@ pub fn show_value<D: Device, W: Write>(
     ensures persists { Persists (D.is_honest device.old) (D.is_honest device.new)
         (D.failures device.old) (D.failures device.new) (IsErrOf result Fault.Device) }
 
-    // The old content of the device, or a prefix of the file, possibly all of it
+    // The old content of the device, or a prefix of a file of pass 0, also after Ok
     ensures left { WhenHonest (D.is_honest device.new)
         (LeavesBeginning 0 (D.content device.old) (D.content device.new)) }
 
@@ -122,8 +122,7 @@ fn first_occurrence(expr: &Expr) -> Option<usize>
     }
 }
 
-/// The environment of an expression without occurrences. For any occurrence it would lend the value
-/// 0, but there are none.
+/// The environment of an expression without occurrences: one value, 0, which nothing reads.
 #[derive(Drop)]
 struct NoOccurrences {
     number: Value,

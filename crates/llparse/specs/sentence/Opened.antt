@@ -44,7 +44,8 @@ module _ (g : Grammar) where
       (fs : Forest) × (vs : List Lexeme) × FitsAll g (stored_items o.rest) fs × (ws ≡ yield_along g o.rest fs ++ vs)
       × Continues os (node o.production (joined o.done fs)) vs t
 
-  -- t is a whole tree in which a tree of s comes next below the innermost open node, and the words are those from it on
+  -- t is a whole tree in which a tree of s comes next below the innermost open node, and the words are those of this tree and
+  -- after it
   abbrev pub ContinuesWith : List Open → ℕ → List Lexeme → Tree → Type 0
   ContinuesWith os s ws t =
       (c : Tree) × (vs : List Lexeme) × Fits g (item.Symbol s) c × (ws ≡ yield_of g c ++ vs)

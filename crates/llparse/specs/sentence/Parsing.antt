@@ -56,7 +56,7 @@ abbrev mutual
   forest_frames none = []
   forest_frames (more t ts) = tree_frames t ++ forest_frames ts
 
--- the trees whose words are those before an index, and then others
+-- the trees whose words are those of the task before an index, and then `rest`
 abbrev pub IsTreeAfter : Task → ℕ → List Lexeme → Tree → Type 0
 IsTreeAfter k i rest = IsTreeWith k.grammar (take i k.words ++ rest)
 
@@ -65,7 +65,7 @@ abbrev pub kept : List Open → List Value
 kept [] = []
 kept (o ∷ os) = kept os ++ leaf_texts o.done
 
--- the stack has the productions of the open nodes, how far each is read, and the beginnings of their texts
+-- the stack has the productions of the open nodes, how far each is read, and the number of texts kept before those of each
 abbrev pub Shows : Grammar → List Open → List OpenProduction → Type 0
 Shows g [] [] = Unit {0}
 Shows g [] (f ∷ fs) = ⊥
@@ -79,7 +79,7 @@ abbrev pub written : List Open → List ℕ
 written [] = []
 written (o ∷ os) = written os ++ forest_frames o.done
 
--- the output of a parser: the bytes that the device has, and the texts that it keeps
+-- the output of a parser: the bytes that the device has, and the texts that the parser keeps
 pub record Output : Type 0 where
   pub bytes : List ℕ
   pub texts : List Value

@@ -48,11 +48,11 @@ IsFirstEdge g n q e = OfSome (λ x e. IsEdge (node_in g x) q.left e) (starting_i
 abbrev pub node_count : Grammar → ℕ
 node_count g = length g.symbols + (length g.literals + 4)
 
--- edges are added to a list
+-- exactly the edges with the property P are added to a list
 abbrev pub AddsEdges : (Edge → Type 0) → List Edge → List Edge → Type 0
 AddsEdges P before after = Adds P (Contains before) (Contains after)
 
--- clauses are those of such edges, over the nodes of a grammar
+-- the clauses are those of a list of edges that has the property P, over the nodes of a grammar
 abbrev pub IsOver : Grammar → (List Edge → Type 0) → Clauses → Type 0
 IsOver g P clauses = (edges : List Edge) × (clauses ≡ clauses_of_edges edges (node_count g)) × P edges
 

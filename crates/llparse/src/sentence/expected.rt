@@ -43,10 +43,10 @@ fn next_if_any(grammar: &Grammar, node: &mut OpenProduction) -> Option<Item>
     None
 }
 
-/// Continues with the innermost open node and the nodes around it that wait, until `until` tokens
-/// of the sentence are taken or no node is open, and writes nothing. Returns the node that is then
-/// the innermost one, if any. Fails as `Parser::open` and `take_unwritten` do. After a fault the
-/// next token is the one where the parser stopped.
+/// Continues with the innermost open node and the nodes around it that wait, until a token is taken
+/// with which at least the first `until` tokens of the sentence are taken, or no node is open.
+/// Writes nothing. Returns the node that is then the innermost one, if any. Fails as `Parser::open`
+/// and `take_unwritten` do. After a fault the next token is the one where the parser stopped.
 fn continue_until(
     parser: &mut Parser<'_>,
     innermost: OpenProduction,
@@ -141,7 +141,8 @@ struct Position<'t> {
     innermost: Option<OpenProduction>,
 }
 
-/// Returns whether a look-ahead can follow the tokens before a position.
+/// Returns whether a look-ahead can follow the tokens before a position. Tries it with a second
+/// parser that has the position's stack and count. That parser's place in the tokens is not used.
 fn can_follow(
     alloc: Global,
     language: &Language<'_>,
@@ -275,6 +276,7 @@ pub fn expected_at<'t>(
     let position = match position_after(alloc, &language, sentence, index) {
         Ok(position) => position,
         Err(ParseFault::NoMemory) => return Err(NoMemory::NoMemory),
+        // does not happen: the first run took the same tokens without a fault
         Err(_) => {
             return Ok(StuckPlace {
                 index,

@@ -235,8 +235,9 @@ impl<'t> Parser<'t> {
         &self.texts[base..]
     }
 
-    /// Opens a node of the symbol that comes next in `outer`, which waits for it. Fails with P1 if
-    /// no production is predicted, with P2 or P3 if a limit is reached, and with NoMemory.
+    /// Opens a node of a symbol, which is the item that `outer` has just passed. `outer` waits
+    /// until this node ends. Fails with P1 if no production is predicted, with P2 or P3 if a limit
+    /// is reached, and with NoMemory.
     #[inline(always)]
     pub(crate) fn open(
         &mut self,

@@ -98,9 +98,9 @@ fn run<D: Device>(
 /// is then beyond the limit, and so is each tree with all tokens, of which there may be none. Fails
 /// with D1 Device if the device failed, and with NoMemory if memory is refused.
 ///
-/// After a fault an honest device has a prefix of a file of pass 0: of its header and frames of any
-/// bodies whose lengths are in range (after P1 no tree exists). The writer is broken after D1,
-/// and after no other fault.
+/// After a fault an honest device has a prefix of the header of pass 0 and frames of bodies, each
+/// of 3 to 285,212,675 bytes. The contract does not say that the bodies are records of a tree: after
+/// P1 there is none. The writer is broken after D1, and after no other fault.
 pub fn parse<D: Device>(
     alloc: Global,
     grammar: &Grammar,

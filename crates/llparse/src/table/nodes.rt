@@ -17,7 +17,8 @@ pub(crate) struct Sizes {
 }
 
 impl Sizes {
-    /// Returns the sizes of a grammar.
+    /// Returns the sizes of a grammar. The clause `accepted` states what holds of every `Grammar`,
+    /// for the callers' proofs.
     pub(crate) fn of(grammar: &Grammar) -> Sizes
         ensures symbols { result.symbols ≡ length grammar.now.symbols }
         ensures literals { result.literals ≡ length grammar.now.literals }

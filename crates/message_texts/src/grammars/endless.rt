@@ -5,7 +5,8 @@ use ag_value::NoMemory;
 use std::alloc::Global;
 use std::collections::HashSet;
 
-/// The greatest number of rounds over all productions in which the symbols that end are found.
+/// The greatest number of rounds over all productions in which the other symbols, those that end,
+/// are found.
 const MAX_ROUNDS: usize = 64;
 
 /// Returns the names of the symbols that never end, in declared order. None if finding them takes too many

@@ -49,7 +49,8 @@ pub fn has_production(raw: &RawGrammar, name: &str) -> bool {
     false
 }
 
-/// Returns the declaration with a name at this offset: the symbol's, or an attribute's.
+/// Returns the symbol whose declaration has its name, or that of an attribute, at this offset in
+/// bytes of the text.
 pub fn symbol_with(raw: &RawGrammar, at: usize) -> Option<&RawSymbol> {
     for symbol in raw.symbols.as_slice() {
         if symbol.name.at == at || attribute_at(symbol, at).is_some() {

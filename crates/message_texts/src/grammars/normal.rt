@@ -14,8 +14,9 @@ use message_parts::{Location, Parts};
 use normalform::NormalFault;
 use std::alloc::{AllocError, Global};
 
-/// Returns the location of the name, the occurrence or the production for which a grammar is refused, or
-/// `Whole` if the whole grammar exceeds a limit. `InFault` if memory for reading its text again was refused.
+/// Returns the location of the name, the occurrence or the production for which a grammar is
+/// refused, or `Whole` if the whole grammar exceeds a limit or the fault is NoMemory. `InFault` if
+/// memory for reading its text again was refused.
 pub fn locate_in_grammar(fault: &NormalFault, text: &GrammarText<'_>) -> Location {
     let Some(raw) = &text.raw else {
         return Location::InFault;
@@ -145,7 +146,8 @@ fn describe_undeclared(parts: &mut Parts, name: &str) -> Result<(), AllocError> 
     )
 }
 
-/// Writes what exists at the place of an occurrence, or the last place if nothing does.
+/// Writes the attributes that exist at the place of an occurrence. If no class and no
+/// declared symbol is there, writes the number of the production's last place.
 fn write_existing(
     out: &mut String,
     raw: &RawGrammar,
@@ -451,8 +453,9 @@ fn describe_unusable(
     parts.help.push_str("the expression that defines it")
 }
 
-/// Writes the occurrences that the rules of a production define or, unless `is_defined`, those that they can use: the
-/// first `MAX_NAMED`, and that there are more. Returns the number of all.
+/// Writes the occurrences that the rules of a production define if `is_defined`, and otherwise
+/// those that the rules can use: the first `MAX_NAMED`, and whether there are more. Returns the
+/// number of all.
 fn write_occurrences(
     out: &mut String,
     raw: &RawGrammar,

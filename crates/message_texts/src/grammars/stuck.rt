@@ -10,9 +10,11 @@ use std::alloc::AllocError;
 /// The greatest number of rules that a message names.
 const MAX_NAMED_RULES: usize = 8;
 
-/// Describes A1. The fault itself prints the attributes that no pass can compute; this names the rules that keep
-/// them out of the passes of one direction: the one with fewer such rules, or that of the first pass if both have
-/// as many. Nothing if memory for reading the text again is refused.
+/// Describes A1. The fault itself prints the attributes that no pass can compute. For each of these
+/// attributes and each direction of passes, `stuck` has a rule that keeps the attribute out (a
+/// strike). This names the rules of one direction that wait for no other: of the direction with
+/// fewer of them, or of that of the first pass if both have as many. Nothing if memory for reading
+/// the text again is refused.
 pub fn describe_stuck(
     parts: &mut Parts,
     stuck: &Stuck,
@@ -83,9 +85,10 @@ impl Obstacle<'_> {
     }
 }
 
-/// The strikes of the passes of a direction, and the grammar as it is written. A strike is an argument of a rule,
-/// because of which the rule's target can't have a pass of the direction. It waits for another strike if the pass
-/// reaches the argument in time, but another strike keeps the argument out of the pass.
+/// The strikes of the passes of a direction, and the grammar as it is written. A strike is a rule
+/// and an argument of it, because of which the rule's target can't have a pass of the direction.
+/// There is one for each attribute. It waits for another strike if the pass would compute the
+/// argument in time, but the other strike keeps the argument out.
 #[derive(Clone, Copy)]
 struct DirectionStrikes<'a> {
     direction: Direction,

@@ -88,7 +88,8 @@ fn describe_rule(
     Ok(())
 }
 
-/// Returns why what was found is not a literal or an occurrence, if it begins as one where one is expected.
+/// Returns why the token that was found is damaged: it begins as a literal where an item is
+/// expected, or as an occurrence where a rule is, but is neither. None otherwise.
 fn damaged_token(found: Option<&str>, expected: &[Expected]) -> Option<ExprFault> {
     let is_meant = begins_with(found, '"') && expected.contains(&Expected::Item)
         || begins_with(found, '$') && expected.contains(&Expected::Rule);

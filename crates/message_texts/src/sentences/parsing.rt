@@ -67,7 +67,8 @@ fn describe_unexpected(
     }
 }
 
-/// Describes what was found where a parse is stuck, and what was expected.
+/// Describes what was found where a parse is stuck, and what was expected. Nothing if no token is
+/// expected, as when `parse` does not fail with P1.
 fn describe_stuck(
     parts: &mut Parts,
     sentence: &ParsedSentence<'_>,

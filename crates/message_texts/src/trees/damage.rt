@@ -54,9 +54,9 @@ pub struct TreeFormat<'a> {
     pub grammar: &'a Grammar,
 }
 
-/// Describes R1 of a tree file at the offset `at` in bytes. If a record is damaged, and not the header, the file
-/// is read once more from its end. Takes memory for the records that the tree needs there. If that is refused, or
-/// a record can't be read, leaves out what was expected.
+/// Describes R1 of a tree file at the offset `at` in bytes. If a record is damaged, and not the
+/// header, the file is read once more from its end. Takes memory for the records that the tree
+/// needs there. If memory is refused, or a record can't be read, leaves out what was expected.
 pub fn describe_damage<D: Device>(
     alloc: Global,
     parts: &mut Parts,

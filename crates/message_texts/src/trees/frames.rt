@@ -47,9 +47,9 @@ pub fn frame_before<D: Device>(version: FileVersion, tree: &mut D, end: u64) -> 
     })
 }
 
-/// Returns the items whose records the tree still needs after those from the offset `at` to the end of its file
-/// have been read from the end. The item that is read next is the last one. None if a record can't be read or has
-/// an unknown production, or if memory is refused.
+/// Reads the records of a file from its end down to the offset `at`. Returns the items of the
+/// records that the tree still needs; the record that should end at `at` is that of the last item.
+/// None if a record can't be read or has an unknown production, or if memory is refused.
 pub fn expected_before<D: Device>(
     alloc: Global,
     version: FileVersion,

@@ -1,6 +1,7 @@
 -- The faults of a raw grammar, kind by kind, and their order (this project's; complete is Knuth's, 1968, and productive and
--- reached are the textbook's). Each kind but N4 and N5 is a list of checks, in the order of the text. The checks of N6 are by
--- production, place and attribute, and those of N10 in the order of the limits. N4 and N5 name the first wrong symbol.
+-- reached are the textbook's). Each kind but N4 and N5 is a list of checks. Those of N6 are by production, place and
+-- attribute, those of N10 in the order of `LimitKind`, and those of other kinds in the order of the raw grammar's lists. N4 and
+-- N5 name the first wrong symbol.
 use Rattle.std.specs.Prelude.{All, ℕ, zero, suc, cond, fold, ◌⊎◌, ◌+◌, ◌≡◌, ◌<◌, ◌≤◌, nat_eq, nat_le, not, Bool, true, false}
 use Rattle.std.specs.Prelude.{◌&&◌, List, [], ◌∷◌, ◌++◌, length, map, flat_map, find, Option, Some, None, bytes_eq, slice_get}
 use Rattle.std.specs.List.{list_any, list_all, range_with_len}
@@ -134,11 +135,11 @@ with_rule ss items ts r = with_target ts (target_of ss items r.target)
 abbrev pub targets_of : List Symbol → List Item → List RawRule → List Target
 targets_of ss items rules = fold (with_rule ss items) [] rules
 
--- the attribute has a rule
+-- the check that attribute a at a place of production p has a rule: it is one of the targets ts of the production's rules
 abbrev pub missing_check : List Target → ℕ → ℕ → ℕ → Check
 missing_check ts p place a = (fault.RuleMissing p place a, list_any (same_target (record { place = place; attr = a })) ts)
 
--- the checks of the attributes that rules define at a place of production p
+-- the checks of the attributes that rules must define at a place of production p
 abbrev pub missing_at : List Symbol → List Target → ℕ → ℕ → Item → List Check
 missing_at ss ts p place x = map (missing_check ts p place) (defined_at ss place x)
 
@@ -264,7 +265,7 @@ pub record HasNoFault (raw : RawGrammar) : Type 0 where
   pub rules : first_wrong (further_checks raw) ≡ None
 
 -- A literal or a class as it comes from a text: the literal is not empty and has no separator, or the class is
--- known. A name always is.
+-- known. A name is always readable.
 abbrev pub IsReadableItem : RawItem → Type 0
 IsReadableItem (raw_item.Name name) = Unit {0}
 IsReadableItem (raw_item.Literal text) = (1 ≤ length text) × Each (λ b. IsSeparator b → ⊥) text

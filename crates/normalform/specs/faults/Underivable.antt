@@ -3,7 +3,7 @@ use Rattle.std.specs.Prelude.{ℕ, ◌≡◌, ◌<◌, Bool, true, false, List, 
 use Rattle.closure.specs.Following.{Follows, is_marked}
 use Rattle.closure.specs.declared.clause.Clause.{Clause}
 
--- the first of a list that is not marked
+-- n is the index of the first mark that is false
 pub record IsFirstUnmarked (marks : List Bool) (n : ℕ) : Type 0 where
   pub within : n < length marks
   pub unmarked : is_marked marks n ≡ false

@@ -11,7 +11,8 @@ is_first text key = bytes_eq text key.0.now && nat_eq 0 key.1
 abbrev pub texts_of_keys : List (Bor (List ℕ) × ℕ) → List (List ℕ)
 texts_of_keys keys = map (λ key. key.0.now) keys
 
--- The key with 0 is that of the first of the same texts, and any other number is below the number of keys.
+-- The key with 0 is that of the first of the same texts, and any other number is below the number of keys. So a text with
+-- the number of keys is a new key.
 pub record AreNumbered (keys : List (Bor (List ℕ) × ℕ)) : Type 0 where
   pub first : (text : List ℕ) → position (is_first text) keys ≡ position (bytes_eq text) (texts_of_keys keys)
   pub below : (i : ℕ) (key : Bor (List ℕ) × ℕ) → slice_get keys i ≡ Some key → (key.1 ≡ 0) ⊎ (key.1 < length keys)

@@ -22,8 +22,8 @@ fn first_false(marks: &[bool]) -> Option<usize>
     None
 }
 
-/// Returns the first number that does not follow from clauses and seeds, if there is one. Fails
-/// with `NoMemory` if memory is refused.
+/// Returns the least number below the count of `clauses` that does not follow from clauses and
+/// seeds, if there is one. Fails with `NoMemory` if memory is refused.
 pub fn first_underivable(
     alloc: Global,
     clauses: &Clauses,

@@ -68,7 +68,8 @@ fn attributes<'t>(alloc: Global, symbols: &'t [RawSymbol]) -> Result<Vec<Names<'
     Ok(names)
 }
 
-/// The declared symbols. Contracts see the list of them.
+/// The declared symbols. Contracts see the list of them. Where a method takes `items`, these are
+/// the items at the places of the occurrence's production (`places_of`).
 #[derive(Drop)]
 pub struct Declared<'t> {
     symbols: &'t [RawSymbol],
@@ -111,7 +112,7 @@ impl<'t> Declared<'t> {
         })
     }
 
-    /// Returns the number of symbols.
+    /// Returns the number of symbols. Not called by this program.
     pub fn count(&self) -> usize
         ensures { result ≡ length self.now }
     {
@@ -132,8 +133,8 @@ impl<'t> Declared<'t> {
         self.names.has(name)
     }
 
-    /// Returns the number of an attribute of a symbol, or the count of its attributes if it has no
-    /// such attribute.
+    /// Returns the number of an attribute of the symbol with a number, or the count of its
+    /// attributes if it has no such attribute; 0 if no symbol has the number.
     fn attribute_of(&self, symbol: usize, name: &str) -> usize
         ensures { result ≡ number_in (attributes_of (slice_get self.now symbol)) name.now }
     {
@@ -143,7 +144,7 @@ impl<'t> Declared<'t> {
         }
     }
 
-    /// Returns whether a symbol has an attribute.
+    /// Returns whether the symbol with a number exists, and has an attribute of this name.
     fn has_attribute_of(&self, symbol: usize, name: &str) -> bool
         ensures { result
             ≡ list_any (bytes_eq name.now) (attributes_of (slice_get self.now symbol)) }

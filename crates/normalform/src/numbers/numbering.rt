@@ -223,14 +223,14 @@ fn has_class(production: &RawProduction, class: u16) -> bool
         .any(|item| is_class(item, class))
 }
 
-/// Returns whether a class is in use.
+/// Returns whether a right side of one of the productions has a token of the class.
 fn uses_class(productions: &[RawProduction], class: u16) -> bool
     ensures { result ≡ list_any (λ q. list_any (spec.is_class class) q.items) productions.now }
 {
     productions.iter().any(|q| has_class(q, class))
 }
 
-/// Returns those of some classes that are in use.
+/// Returns those classes of `known` that are in use.
 fn classes_among(
     alloc: Global,
     productions: &[RawProduction],

@@ -1,4 +1,5 @@
--- The computed layout of each production. All definitions are this project's.
+-- The computed layout of each production. Letters: c is a setting, q a production, p its number, x an item, u a rule, o an
+-- attribute at a place, and j a place. All definitions are this project's.
 use Rattle.std.specs.Prelude.{ℕ, zero, suc, ◌+◌, ◌<◌, List, [], ◌∷◌, Option, Some, None, map}
 use Rattle.ag_grammar.specs.declared.grammar.Item.{Item}
 use Rattle.ag_grammar.specs.declared.grammar.Item.TheVariants as item

@@ -1,4 +1,5 @@
--- The layout of a production in a pass. All definitions are this project's.
+-- The layout of a production in a pass. Letters: c is a setting, q a production, p its number, u a rule, r its number, and o an
+-- argument. All definitions are this project's.
 use Rattle.std.specs.Prelude.{ℕ, ◌≡◌, List, Some, slice_get}
 use Rattle.ag_grammar.specs.declared.grammar.Production.{Production}
 use Rattle.ag_grammar.specs.declared.grammar.Rule.{Rule}
@@ -30,7 +31,7 @@ pub record IsRowOf (c : Setting) (p : ℕ) (q : Production) (row : ProductionRow
 abbrev pub IsRowAt : Setting → ℕ → ProductionRow → Type 0
 IsRowAt c p row = (q : Production) → IsProduction c.grammar p q → IsRowOf c p q row
 
--- A list has such a row for each production, at the index of its number.
+-- A list has the layout of each production, at the index of the production's number.
 abbrev pub IsLayout : Setting → List ProductionRow → Type 0
 IsLayout c rows = (p : ℕ) (q : Production) → IsProduction c.grammar p q
     → (row : ProductionRow) × (slice_get rows p ≡ Some row) × IsRowOf c p q row

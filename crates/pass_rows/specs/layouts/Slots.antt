@@ -1,4 +1,6 @@
--- The slots of a node's values, counted from the first value of its row. All definitions are this project's.
+-- The slots of a node's values, counted from the first value of its row. Letters: c is a setting, q a production, x an item, j a
+-- place (in `copied_before` a number of items), a an attribute, and ps are passes of attributes. All definitions are this
+-- project's.
 use Rattle.std.specs.Prelude.{ℕ, zero, suc, ◌+◌, nat_le, List, [], ◌∷◌, if◌then◌else◌}
 use Rattle.ag_grammar.specs.declared.grammar.Item.{Item}
 use Rattle.ag_grammar.specs.declared.grammar.Production.{Production}

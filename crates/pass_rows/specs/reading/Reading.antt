@@ -1,4 +1,6 @@
--- Reading the body of a record. All definitions are this project's.
+-- Reading the body of a record. Letters: c is a setting, g a grammar, s a symbol, p the number of a production and q the
+-- production, x an item, d a class, w a value, a an attribute, e a table, and f and h are values by attribute. All definitions
+-- are this project's.
 use Rattle.std.specs.Prelude.{ℕ, ◌≡◌, ◌<◌, ◌^◌, ◌↔◌, Bool, IsTrue, nat_le, List, [], ◌∷◌, ◌++◌, if◌then◌else◌}
 use Rattle.std.specs.List.{flat_map}
 use Rattle.ag_value.specs.declared.value.Value.{Value, Text}
@@ -63,7 +65,7 @@ abbrev pub IsNoRow : ℕ → List ℕ → List ℕ → Type 0
 IsNoRow read passes bytes = (h : ℕ → Value) → ((a : ℕ) → IsWell (h a)) → bytes ≡ flat_map spelling_of (values_up_to read passes h)
     → ⊥
 
--- A body has the number of a production of symbol s, and these bytes after it. It determines both.
+-- A body has the number of a production of symbol s, and these bytes after it. The body determines the number and the bytes.
 pub record IsNodeBody (g : Grammar) (s p : ℕ) (spellings body : List ℕ) : Type 0 where
   pub production : Production
   pub there : IsProduction g p production
@@ -122,7 +124,8 @@ pub record IsTokenRead (d : ℕ) (body : List ℕ) (old new : List Value) : Type
 abbrev pub IsNoToken : ℕ → List ℕ → Type 0
 IsNoToken d body = (text : List ℕ) → IsTokenText text → body ≡ token_body d text → ⊥
 
--- The record of an item was read from a body. p is its number: that of the production, or that of the token's class.
+-- The record of an item was read from a body. p is the number in the record: that of the production, or that of the token's
+-- class.
 abbrev pub IsRead : Setting → Item → ℕ → List ℕ → List Value → List Value → Type 0
 IsRead c (item.Symbol s) p body old new = IsNodeRead c s p body old new
 IsRead c (item.Terminal (Class d)) p body old new = (p ≡ d) × IsTokenRead d body old new

@@ -122,7 +122,8 @@ pub fn copied_width(setting: &Setting<'_>, item: Item) -> usize
     row_length(copied_passes(setting, item), setting.pass)
 }
 
-/// Returns the number of these copies that are known: that the file of the previous pass has.
+/// Returns the number of known copies of the values at an item in the parent's row: of those that
+/// the file of the previous pass has.
 pub fn known_width(setting: &Setting<'_>, item: Item) -> usize
     requires { 1 ≤ setting.now.pass }
     ensures width { result ≡ known_width (pass_setting setting.now) item }
@@ -140,6 +141,7 @@ pub fn rank_of(setting: &Setting<'_>, item: Item, attr: u16) -> u16
 {
     match item {
         Item::Symbol(symbol) => rank(passes_at(setting.plan, symbol), setting.pass, attr),
+        // as `rank` of the list 0, the pass of a token's text
         Item::Terminal(Terminal::Class(_)) => if attr == 0 { 0 } else { 1 },
         Item::Terminal(Terminal::Literal(_)) => 0,
     }

@@ -18,10 +18,10 @@ use std::alloc::Global;
 /// The number of bytes of a body before its values.
 const HEAD_BYTES: u64 = 3;
 
-/// Takes the value of an attribute, and appends it to the values: from the beginning of the body if
-/// its pass is before k, and 0 as a placeholder if its pass is k. Appends nothing for a later pass.
-/// Returns the rest of the body, or `None` if the value can be read only from a copy of the body (or
-/// not at all). Fails with `NoMemory` if memory cannot be allocated.
+/// Takes the value of an attribute of pass `pass` in pass k, and appends it to the values: from the
+/// beginning of the body if `pass` is before k, and 0 as a placeholder if it is k. Appends nothing
+/// for a later pass. Returns the rest of the body, or `None` if the value can be read only from a
+/// copy of the body (or not at all). Fails with `NoMemory` if memory cannot be allocated.
 fn take_value<'b>(
     alloc: Global,
     pass: u16,
@@ -80,6 +80,7 @@ fn node_of<'b>(grammar: &Grammar, symbol: u16, body: Body<'b>) -> Option<(u16, B
 {
     let (head, rest) = body.cut(HEAD_BYTES, 0)?;
     let (number, spellings) = node_in(grammar, symbol, head.as_slice()?)?;
+    // never true: the head has only the kind and the number
     if !spellings.is_empty() {
         return None;
     }

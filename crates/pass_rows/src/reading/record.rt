@@ -87,9 +87,9 @@ fn read_beside(
     }
 }
 
-/// Takes the value of an attribute of a pass as `take_value` does, without allocating memory. If the
-/// value has to be read and the bytes do not begin with a number, returns `None` and leaves the values
-/// unchanged.
+/// Takes the value of an attribute as `take_value` (below) does, in pass k, without allocating
+/// memory. `pass` is the pass of the attribute. If the value has to be read and the bytes do not
+/// begin with a number, returns `None` and leaves the values unchanged.
 #[inline(always)]
 fn take_number<'b>(
     pass: u16,
@@ -253,6 +253,7 @@ pub fn node_in<'b>(grammar: &Grammar, symbol: u16, body: &'b [u8]) -> Option<(u1
     ensures some { IfSome result (λ found.
         IsNodeBody grammar.now symbol found.0 found.1.now body.now) }
     ensures none { result ≡ None → IsNoNodeBody grammar.now symbol body.now }
+    // The type `Grammar` contains only such grammars; `read_node` needs this fact.
     ensures few { length grammar.now.productions ≤ 65536 }
 {
     let productions = grammar.productions();
@@ -267,7 +268,7 @@ pub fn node_in<'b>(grammar: &Grammar, symbol: u16, body: &'b [u8]) -> Option<(u1
 }
 
 /// Reads the body of a node of a symbol from the file of pass k - 1, where k is the setting's pass, and
-/// appends its row to the values: first the node's own values, then the copies of its children's. For
+/// appends its row to the values: first the node's own values, then the copies of its children. For
 /// each attribute of pass k, the row has 0 as a placeholder. Returns the number of the node's production.
 ///
 /// Fails with `Damaged` if the body is not the record of a node of the symbol in the file of that

@@ -41,8 +41,8 @@ abbrev pub pending_of_child : Setting → Option Production → Table → (level
 pending_of_child c None e level others = others
 pending_of_child c (Some q) e level others = following c q e 0 level others
 
--- The pending list at an open node in a phase: the children of the child whose record was read last (in phase
--- Got), then the node's own that were not read, then the others.
+-- The pending list at an open node in a phase (`Phase` of passcode): the children of the child whose record was read last (in
+-- phase Got), then the node's own that were not read, then the others.
 abbrev pub pending : Setting → Production → Phase → (i child : ℕ) → Table → Table → (level : ℕ) → Pending → Pending
 pending c q Between i child e of_child level others = following c q e i level others
 pending c q Got i child e of_child level others =

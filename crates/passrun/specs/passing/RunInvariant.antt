@@ -1,5 +1,9 @@
--- The invariant of a running pass. All definitions are this project's. Keeping in memory only the nodes on
--- the path from the root to the current node is due to Jazayeri and Walter (1975).
+-- The invariant of a running pass. All definitions are this project's. Keeping in memory only the nodes on the path from the root
+-- to the current node is due to Jazayeri and Walter (1975). Letters: c is a setting, q a production, p the number of a production
+-- (of a token: of its class), s a symbol, i the number of visited children, f the values of a node by attribute, e a table, t a
+-- tree, ts are trees, w and ws their values, u is a rule, o an argument, x an open node, and xs are open nodes. In
+-- `IsEvaluatedTree` and `IsReady` x is an item, in `root_number` and `put_of` c is a class and x a text, and in `IsConsistent`
+-- and `ContinuesAs` t is a transcript.
 use Rattle.std.specs.Prelude.{ℕ, suc, ◌≡◌, ◌+◌, ◌<◌, ◌≤◌, List, [], ◌∷◌, ◌++◌, Some, slice_get, length}
 use Rattle.std.specs.List.{count_by}
 use Rattle.ag_value.specs.declared.value.Value.{Value}
@@ -228,7 +232,7 @@ pub record IsActive (c : Setting) (s : ℕ) (f : ℕ → Value) (level : ℕ) (x
   pub base : x.base ≡ length under
   pub todo_is : todo ≡ pending c production phase i x.child table of_child (suc level) others
 
--- The root's tree was read, and written except for the root's record, which has the remaining values. `evals` rules
+-- The root's tree was read, and written except for the root's record, which has the values in memory. `evals` rules
 -- were evaluated.
 pub record IsRootReady (c : Setting) (root : ℕ) (values : List Value) (new : Transcript) (evals : ℕ)
     (todo : Pending) : Type 0 where

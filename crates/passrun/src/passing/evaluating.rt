@@ -97,6 +97,8 @@ pub(crate) fn put_rule_value(
     ensures counted { meter.new ≡ meter.old + 1 }
 {
     let NodeRule { rule, slots, base } = *at;
+    // The faster ways come first: for a number literal, and for a value that is a number or an
+    // error. Each counts nothing if it returns `None`.
     if let Some(number) = eval_number(&rule.expr, meter) {
         put_scalar(values, base + slots.target as usize, Scalar::Number(number));
         return Ok(());

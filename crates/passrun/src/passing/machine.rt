@@ -1,4 +1,5 @@
-//! The steps of a pass, one for each kind of instruction.
+//! The steps of a pass, one for each kind of instruction. "Listings" in docs/FORMATS.md describes
+//! the instructions.
 
 ghost use Rattle.std.specs.Prelude.{◌≡◌, ◌+◌, ◌^◌, ◌<◌, ◌≤◌, ◌∷◌, ◌++◌, [], Some, IfErr, IfOk};
 ghost use Rattle.std.specs.Prelude.{IsErrOf, OnOk, length, reverse, slice_get};
@@ -39,8 +40,8 @@ pub(crate) struct Machine {
     /// The rows of all open nodes, the outermost first. After them the row of the child whose record
     /// was read last, if the pass has not entered that child yet.
     pub(crate) values: Vec<Carried>,
-    /// The open nodes without the innermost one, the outermost first. Each waits until the pass has run
-    /// in its child.
+    /// The open nodes without the innermost one, the outermost first. Each waits until the pass has
+    /// left the child that it entered from this node.
     pub(crate) waiting: Vec<OpenNode>,
     /// The number of the production in the root's record.
     pub(crate) root: u16,

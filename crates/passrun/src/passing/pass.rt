@@ -121,7 +121,7 @@ pub fn run_pass<D: Device, E: Device>(
     ensures counts { IfOk result (λ p. (p.read ≡ p.nodes) × (p.written ≡ p.nodes)) }
     // for any devices, honest or not
     ensures few { IfOk result (λ p. p.nodes ≤ max_nodes) }
-    // for any devices, honest or not
+    // for any devices, honest or not: there are at most 2^20 nodes, each with fewer than 2^16 rules
     ensures rises { meter.old ≤ meter.new }
     ensures meter { OnOk result (meter.new ≤ meter.old + 2 ^ 36) }
     ensures content { LeavesContent (D.is_honest from.new)

@@ -79,7 +79,7 @@ abbrev pub body_in : OldRecord → List ℕ
 body_in (old.Node p) = body_of Node p []
 body_in (old.Token d v) = body_of Token d (v ∷ [])
 
--- The children of a right side. Their records have no copies of values.
+-- The children of a right side. Their parent's record has no copies of their values.
 abbrev pub upcoming : Grammar → List Item → List Child
 upcoming g xs = children_with_copies false g no_passes 0 (stored_items xs) []
 
@@ -151,7 +151,7 @@ pub record IsConverted (g : Grammar) (content : List ℕ) (honest : Bool) (mid :
   pub to : WhenHonest honest (mid ≡ file version_two 1 (postfix RightToLeft (first_bodies version_two tree)))
 
 -- The number of children of a production's node, which is the number of items that are children; 0 for a
--- token.
+-- token. None if no production has the number.
 abbrev pub stored_count : Grammar → Kind → ℕ → Option ℕ
 stored_count g Node p = option_map (λ (q : Production). length (stored_items q.items)) (slice_get g.productions p)
 stored_count g Token d = Some 0

@@ -27,8 +27,8 @@ is_honest_of device = (replay device.events).is_honest
 abbrev pub taken : {F : Type 0} → (F → Option (List ℕ)) → FileDeviceState F → Option (List ℕ)
 taken contents device = append_known (contents device.file) device.buffered
 
--- A device over a file that was just opened at this path: no bytes are buffered, no call has failed, and the record of calls
--- continues the given one.
+-- A device with this access over a file that was just opened at this path: no bytes are buffered, no call has failed, and the
+-- record of calls is the given one and then the call that opened the file.
 pub record IsNew {F : Type 0} (use_of_file : Access) (path : List ℕ) (before : List Event)
     (device : FileDeviceState F) : Type 0 where
   pub access : device.access ≡ use_of_file
