@@ -43,7 +43,7 @@ pub fn explain_plan<R: Files + Input + Print>(
     }
 }
 
-/// Returns the attribute of a name; none if there is no name. Fails if no attribute has the name.
+/// Returns the attribute of a name; `None` if `name` is `None`. Fails if no attribute has the name.
 fn find_attribute(
     alloc: Global,
     grammar: &Grammar,
