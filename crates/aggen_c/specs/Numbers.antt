@@ -1,4 +1,4 @@
--- The number and the offset of each fault, as its printed line has them. This project's.
+-- The number of each fault, and its offset in the input in bytes, from 0. This project's.
 use Rattle.std.specs.Prelude.{ℕ}
 use Rattle.ag_expr.specs.declared.fault.ExprFault.{ExprFault}
 use Rattle.ag_expr.specs.declared.fault.ExprFault.TheVariants as expr
@@ -20,7 +20,7 @@ use Rattle.ag_fault.specs.declared.fault.Fault.{Fault}
 use Rattle.ag_fault.specs.declared.fault.Fault.TheVariants as fault
 use Rattle.aggen_c.specs.declared.number.Number.{Number}
 
--- the number with a letter, given by its ASCII code, and what follows the letter
+-- a number: the ASCII code of its letter, and the index that follows the letter
 abbrev pub numbered : ℕ → ℕ → Number
 numbered letter index = record { letter = letter; index = index }
 
@@ -156,7 +156,7 @@ scan_offset (scan.LongToken at) = at
 scan_offset scan.TooLong = no_offset
 scan_offset scan.NoMemory = no_offset
 
--- the offset of a fault in bytes
+-- the offset of a fault, in bytes from 0
 abbrev pub offset_of : Fault → ℕ
 offset_of (fault.Expr e) = expr_offset e
 offset_of (fault.Text e) = text_offset e

@@ -60,7 +60,8 @@ fn answer_of(
 }
 
 /// Writes an answer to the caller's memory, and returns its status: 0 for a result, which is copied
-/// to `out`, or that of a refusal.
+/// to `out`, or that of a refusal. Sets `length` to the number of all bytes of the result, or to 0
+/// for a refusal, and `fields` to those of the refusal, or of a call that was not refused.
 pub fn write_answer(
     answer: Result<Vec<u8>, Refusal>,
     out: &mut [u8],

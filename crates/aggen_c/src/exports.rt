@@ -7,7 +7,8 @@
 //! of a call with an argument `out` is copied there as far as there is room, and `length` gets the
 //! number of all bytes of the result. On failure `out` is as before, and `length` is 0. Then
 //! `refusal` gets the number, the offset, the line and the column of the fault, if it has them, and
-//! `message` gets the message, as far as there is room.
+//! `message` gets the message, as far as there is room. After success `refusal` has no number, no
+//! offset, no line, no column, and 0 as the length of the message.
 
 ghost use Rattle.std.specs.Prelude.{◌≡◌, None};
 ghost use Rattle.aggen_c.specs.Answers.{Answers, HasMessage, IsBuilt};

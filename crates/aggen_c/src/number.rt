@@ -31,7 +31,7 @@ const NONE: Number = Number {
     index: 0,
 };
 
-/// Returns the number of a fault, with which its message begins; `NONE` if it has none.
+/// Returns the number of a fault, or `NONE` if the fault has none.
 pub fn number_of(fault: &Fault) -> Number
     ensures { result ≡ number_of fault.now }
 {
@@ -188,7 +188,7 @@ fn job_number(fault: JobFault) -> Number
     }
 }
 
-/// Returns the offset of a fault in bytes, or `NO_OFFSET`.
+/// Returns the offset of a fault, in bytes from 0, or `NO_OFFSET` if the fault has none.
 pub fn offset_of(fault: &Fault) -> u64
     ensures { result ≡ offset_of fault.now }
 {

@@ -28,7 +28,7 @@ pub struct RefusalFields {
     pub line: usize,
     /// The column in characters, from 1; 0 if there is none.
     pub column: usize,
-    /// The number of bytes of the message.
+    /// The number of bytes of the whole message. The caller's buffer may have only a prefix of it.
     pub message_length: usize,
 }
 
@@ -91,7 +91,7 @@ impl Refusal {
     }
 
     /// Returns the refusal with the line, the column and the message of a report. Takes memory; if
-    /// that is refused, the message is left out.
+    /// that is refused, the message is left out. `write` sets the message's length.
     pub fn with_report(self, alloc: Global, report: &FaultReport) -> Refusal
         ensures { numbers result.status result.fields ≡ numbers self.status self.fields }
     {

@@ -9,7 +9,8 @@ use ag_value::{Value, copy, is_well, show, weight};
 use rows::words::{Mistake, first_word, printed, shown_bytes};
 use std::alloc::Global;
 
-/// Calls the named method on the current value as a `Carried`, and returns its result as text.
+/// Makes the call that the first word of `rest` names on the current value as a `Carried`, and
+/// returns its result as text.
 pub fn carried_answer(alloc: Global, rest: &str, value: &Value) -> Result<String, Mistake> {
     let (call, other) = first_word(rest);
     let carried = carried_of(alloc, value)?;

@@ -160,8 +160,9 @@ fn put_result(put: Result<(), DeviceFault>) -> Result<(), Mistake> {
     put.map_err(|_| Mistake::NoMemory)
 }
 
-/// Writes the bytes of a body as they are. Fails with `Unfit` if there are fewer than 3 or more than 16,777,219, the
-/// limits of the format, or if the writer can count no further record.
+/// Writes the bytes of a body as they are. Fails with `Unfit` if there are fewer than 3, or more
+/// than 16,777,219 (the limit of version 1; version 2 allows more), or if the writer can count no
+/// further record.
 fn put_bytes(writer: &mut Writer, device: &mut MemDevice, body: &[u8]) -> Result<(), Mistake> {
     if writer.written() == u64::MAX || body.len() < 3 || body.len() > 16_777_219 {
         return Err(Mistake::Unfit);
@@ -210,7 +211,7 @@ fn put_numbers(
     }
 }
 
-/// Returns the numbers of a text.
+/// Returns the numbers of a text. Fails with `Misspelt` if a word isn't a `u32`.
 fn numbers(alloc: Global, text: &str) -> Result<Vec<i64>, Mistake> {
     let mut numbers = Vec::new(alloc);
     for word in text.split_whitespace() {

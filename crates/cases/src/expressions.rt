@@ -12,7 +12,7 @@ use rows::current_texts::CurrentTexts;
 use rows::words::{Mistake, first_word, halves, number, printed};
 use std::alloc::{AllocError, Global};
 
-/// The greatest number of occurrences of an expression that is evaluated.
+/// The greatest number of different occurrences in an expression that is evaluated.
 const MAX_OCCURRENCES: usize = 65_536;
 
 /// An environment that returns the same value for each occurrence.
@@ -123,7 +123,8 @@ pub fn value_answer(alloc: Global, text: &str, lent: &Value) -> Result<String, M
     }
 }
 
-/// Evaluates an expression and returns the meter's count, and whether the meter is full.
+/// Evaluates an expression, whose value is not used, and returns the meter's count, and whether the
+/// meter is full.
 #[tactic(auto, using(ag_eval::proofs::Values::are_well))]
 fn meter_text(alloc: Global, expr: &Expr, lent: &Value) -> Result<String, Mistake> {
     if !is_well(lent) || occurrences(expr).len() > MAX_OCCURRENCES {
@@ -167,7 +168,7 @@ pub fn alike_answer(alloc: Global, texts: &str) -> Result<String, Mistake> {
     Ok(format!(in alloc; "{}", first.as_str() == second.as_str())?)
 }
 
-/// Returns the number of occurrences in an expression, and each of them.
+/// Returns the number of different occurrences in an expression, and each of them once.
 fn occurrences_text(alloc: Global, expr: &Expr) -> Result<String, Mistake> {
     let mut answer = format!(in alloc; "{} occurrences", occurrences(expr).len())?;
     show_occurrences(&mut answer, expr)?;
@@ -191,7 +192,7 @@ pub fn occurrences_answer(alloc: Global, text: &str) -> Result<String, Mistake> 
     }
 }
 
-/// Returns the number of occurrences in an expression.
+/// Returns the number of different occurrences in an expression.
 fn count_text(alloc: Global, expr: &Expr) -> Result<String, Mistake> {
     Ok(occurrences(expr).len().to_string(alloc)?)
 }

@@ -101,7 +101,8 @@ pub fn could_answer(alloc: Global, text: &str) -> Result<String, Mistake> {
     }
 }
 
-/// Returns the raw grammar of a text. Fails with `Unfit` if the text isn't a grammar.
+/// Returns the raw grammar of a text. Fails with `Unfit` if the text isn't a grammar, or if
+/// `is_readable` rejects what it reads as.
 pub fn raw_grammar(alloc: Global, text: &str) -> Result<RawGrammar, Mistake>
     ensures { IfOk result (λ raw. IsReadable raw) }
 {

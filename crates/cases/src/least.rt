@@ -42,7 +42,7 @@ fn show_list(out: &mut String, strikes: &[Strike]) -> Result<(), AllocError> {
     Ok(())
 }
 
-/// Returns the lists of strikes that a row spells, between `|`; `none` spells no list.
+/// Returns the lists of strikes that a row spells, separated by `|`; `none` spells no list.
 fn lists_of(alloc: Global, text: &str) -> Result<Items<Items<Strike>>, Mistake> {
     let mut lists = Vec::new(alloc);
     if text != "none" {
@@ -53,8 +53,9 @@ fn lists_of(alloc: Global, text: &str) -> Result<Items<Items<Strike>>, Mistake> 
     Ok(Items::from_vec(lists))
 }
 
-/// Returns whether a row's strikes show that its assignment is the least one of the grammar. A row spells the
-/// assignment, ` : ` and the lists of strikes.
+/// Returns whether `check_least` accepts a row's assignment and strikes. Then no legal assignment
+/// gives an attribute an earlier pass, so the assignment is the least one if it is legal too. A row
+/// spells the assignment, ` : ` and the lists of strikes.
 pub fn least_answer(alloc: Global, grammar: &Grammar, spelled: &str) -> Result<String, Mistake> {
     let (rows, lists) = halves(spelled, " : ")?;
     let assignment = assignment(alloc, rows)?;

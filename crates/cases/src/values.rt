@@ -36,7 +36,7 @@ fn entry(alloc: Global, key: &str, value: &Value) -> Result<(Text, Value), Mista
     Ok((Text::from_str(alloc, key)?, copy(alloc, value)?))
 }
 
-/// Returns a table that has a key twice.
+/// Returns a table that has a key twice, each time with a copy of a value.
 fn doubled(alloc: Global, key: &str, value: &Value) -> Result<Value, Mistake> {
     let mut pairs = Vec::new(alloc);
     for _ in 0..2 {

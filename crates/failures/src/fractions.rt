@@ -36,8 +36,8 @@ pub const FRACTION_TREE: &[u8] = b"AGT2\0\0\
     \0\0\x03\0\0\0\x03\0\0\x06\0\0\0\x03\0\0\x07\0\0\0\x03\0\0\x04\0\0\0\x03\
     \0\0\x05\0\0\0\x03\0\0\x03\0\0\0\x03\0\0\x02\0\0\0\x03\0\0\0\0\0\0\x03";
 
-/// Returns the file of the same tree in version 1. The tree has no tokens, so only the version's
-/// number differs: the fourth byte is `1` in place of `2`.
+/// Returns the file of the same tree in version 1. The file has no records of tokens, so only the
+/// version's number differs: the fourth byte is `1` in place of `2`.
 pub fn old_tree(alloc: Global) -> Result<Vec<u8>, Mistake> {
     let mut bytes = FRACTION_TREE.to_vec(alloc)?;
     if let Some(version) = bytes.get_mut(3) {

@@ -19,9 +19,9 @@ use treefile::{Device, DeviceFault, Kind, MemDevice};
 enum Lie {
     /// Its length is 2^63.
     Long,
-    /// Its length is smaller in each call.
+    /// `len` returns the length less the number of calls so far, or 0 if that is negative.
     Shrinking,
-    /// Its length is greater in each call.
+    /// `len` returns the length plus the number of calls so far.
     Growing,
     /// A read at an offset above 0 adds the number of calls so far, modulo 5, to each byte. So two
     /// reads of the same bytes can differ.
@@ -33,6 +33,7 @@ enum Lie {
 struct LyingDevice {
     file: MemDevice,
     lie: Lie,
+    /// The number of calls of `len` and `read_at` so far, with the current one.
     calls: u64,
 }
 
@@ -136,7 +137,8 @@ fn evaluation(alloc: Global, translator: &Translator, lie: Lie) -> Result<String
     evaluated(alloc, translator, &mut tree, &mut a, &mut b)
 }
 
-/// Runs the first pass, and then all passes, over devices that lie.
+/// Runs the first pass, and then all passes, over devices that lie. Runs none if the plan has no
+/// pass. The results are not used: the test is that the calls return.
 fn run_passes(alloc: Global, translator: &Translator, a: &mut LyingDevice, b: &mut LyingDevice) {
     let (grammar, plan) = (translator.grammar(), translator.plan());
     if plan.assignment().passes() == 0 {
@@ -156,7 +158,8 @@ fn run_lying_passes(alloc: Global, translator: &Translator, lie: Lie) -> Result<
     Ok(())
 }
 
-/// Upgrades the old tree over devices that lie.
+/// Upgrades the old tree over devices that lie. The result is not used: the test is that the call
+/// returns.
 fn upgrade_lying(alloc: Global, translator: &Translator, lie: Lie) -> Result<(), Mistake> {
     let bytes = old_tree(alloc)?;
     let mut old = lying_device(alloc, bytes.as_slice(), lie)?;
@@ -186,7 +189,8 @@ pub fn lie_answer(alloc: Global, word: &str) -> Result<String, Mistake> {
     Ok(format!(in alloc; "{is_clean}")?)
 }
 
-/// Reverses a file over devices that lie.
+/// Reverses a file over devices that lie. The result is not used: the test is that the call
+/// returns.
 fn reverse_lying(alloc: Global, lie: Lie) -> Result<(), Mistake> {
     let mut from = lying_device(alloc, FRACTION_TREE, lie)?;
     let mut to = empty_lying_device(alloc, lie);

@@ -1,4 +1,4 @@
-//! Translations by a translator that has rejected a sentence.
+//! Translations before and after a sentence that the same translator rejects.
 
 use crate::fractions::{FRACTION_SENTENCE, FRACTIONS, translated, translator};
 use aggen::Translator;
@@ -6,8 +6,8 @@ use rows::words::Mistake;
 use std::alloc::Global;
 use treefile::MemDevice;
 
-/// Translates three sentences over the same devices, of which the second is rejected. Returns how
-/// each call ends.
+/// Translates three sentences over the same two devices. The second sentence is rejected. Returns
+/// how each call ends, and what it wrote.
 fn three_answer(
     alloc: Global,
     translator: &Translator,

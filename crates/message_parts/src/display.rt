@@ -2,16 +2,18 @@
 
 use std::fmt;
 
-/// How a message names the end of a text or a sentence.
+/// How a message names the end of a text, also of a sentence.
 pub const END: &str = "the end of the text";
 
-/// The greatest number of names in most lists of a message: of terminals, symbols or occurrences.
+/// The greatest number of names in a list of terminals, symbols or occurrences in a message. Lists
+/// of other things have other limits, or none.
 pub const MAX_NAMED: usize = 12;
 
 /// The greatest number of characters of a token or a value that a message shows.
 const MAX_SHOWN: usize = 24;
 
-/// A number that prints in groups of three digits, as in `1,048,576`, with at most two commas.
+/// A number that prints in groups of three digits, as in `1,048,576`. It prints with at most two
+/// commas: above 999,999,999 the first group has more digits.
 #[derive(Clone, Copy)]
 pub struct GroupedNumber(pub usize);
 

@@ -2,8 +2,9 @@
 //! positions in texts and their files, how numbers and texts print, the names of classes of tokens,
 //! and attributes by their names. `message_texts` has the texts for each kind of fault.
 //!
-//! The functions that write to a `String` fail if memory is refused. Characters that control a
-//! terminal are written as escapes, such as `\u{1b}`.
+//! The functions that write to a `String` fail if memory is refused. The types `PlainText`,
+//! `QuotedText` and `FoundText` print characters that control a terminal as escapes, such as
+//! `\u{1b}`.
 #![tactic(auto)]
 
 pub mod classes;

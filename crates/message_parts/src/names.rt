@@ -20,9 +20,10 @@ pub type Attribute = (u16, u16);
 pub enum NameFault<'a> {
     /// The text has no dot.
     NoDot,
-    /// The grammar has no symbol of this name.
+    /// The grammar has no symbol of this name, which is the text before the first dot.
     NoSymbol(&'a str),
-    /// The symbol of this number has no attribute of this name.
+    /// The symbol of this number has no attribute of this name, which is the text after the first
+    /// dot.
     NoAttribute(u16, &'a str),
 }
 
@@ -80,9 +81,9 @@ fn attribute_number(symbol: &Symbol, name: &str) -> Option<u16>
 }
 
 impl NameFault<'_> {
-    /// Writes the fault of `name` into a message. If `name` has a dot, also writes the names that
-    /// exist: of the grammar's symbols (at most `MAX_NAMED`), or of the attributes of the symbol.
-    /// Fails if memory is refused.
+    /// Writes the fault of `name` into a message. For `NoSymbol` it also writes the names of the
+    /// grammar's symbols (at most `MAX_NAMED`), and for `NoAttribute` those of the symbol's
+    /// attributes. Fails if memory is refused.
     pub fn describe(
         &self,
         parts: &mut Parts,

@@ -7,9 +7,11 @@ use std::alloc::{AllocError, Global};
 /// Where a fault is.
 #[derive(Clone, Copy)]
 pub enum Location {
-    /// In the whole of a text or a file: the message prints no position, and no colon before its parts.
+    /// In the whole of a text or a file. The message prints no position, and a space before its
+    /// parts.
     Whole,
-    /// Where the fault itself says, if it does: it prints an offset or names after its number.
+    /// At an offset or names that the fault itself prints after its number, or not known. The
+    /// message prints no position, and a colon and a space before its parts.
     InFault,
     /// At a line and a column, which the message prints with its file, if it has one.
     At(Position),
@@ -43,13 +45,13 @@ impl Parts {
         self.help.clear();
     }
 
-    /// Appends texts to what was found, and to what to do.
+    /// Appends one text to `found`, and one to `help`.
     pub fn add(&mut self, found: &str, help: &str) -> Result<(), AllocError> {
         self.found.push_str(found)?;
         self.help.push_str(help)
     }
 
-    /// Appends that something has more bytes than it may have, and what to do.
+    /// Appends to `found` that `subject` has more than `bytes` bytes, and `help` to what to do.
     pub fn add_size_limit(
         &mut self,
         subject: &str,
@@ -61,7 +63,8 @@ impl Parts {
         self.help.push_str(help)
     }
 
-    /// Appends that a sentence or a file has no tree within a limit, and what to do.
+    /// Appends to `found` that `subject`, a sentence or a file, has no tree within a limit, and
+    /// `help` to what to do. The unit of the limit is levels or nodes.
     pub fn add_tree_limit(
         &mut self,
         limit: usize,

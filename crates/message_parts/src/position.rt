@@ -6,7 +6,8 @@ use std::fmt;
 /// The name of standard input instead of a file's name.
 const STANDARD_INPUT: &str = "-";
 
-/// A line of a file, and a column in characters, both from 1.
+/// A line of a text, or of the file that contains the text, and a column in characters. Both count
+/// from 1.
 #[derive(Clone, Copy)]
 pub struct Position {
     pub line: usize,
@@ -14,7 +15,8 @@ pub struct Position {
 }
 
 impl Position {
-    /// Returns the position of an offset in bytes; of the end of the text if the offset is not in it.
+    /// Returns the position in a text of an offset in bytes. For an offset inside of a character
+    /// this is the position of the next character, and for one beyond the text that of its end.
     pub fn of(text: &str, at: usize) -> Position {
         let mut line = 1usize;
         let mut column = 1usize;
@@ -66,8 +68,8 @@ impl<'a> Source<'a> {
         }
     }
 
-    /// Returns the grammar and the sentence of a job on standard input. The sentence begins in the line
-    /// after the separator, which is the first line after the grammar.
+    /// Returns the grammar and the sentence of a job on standard input. The grammar ends with the
+    /// line break before the line `%%`, or is empty. The line `%%` comes next, then the sentence.
     pub fn of_job(grammar: &'a [u8], sentence: &'a [u8]) -> (Source<'a>, Source<'a>) {
         let breaks = grammar.iter().filter(|byte| **byte == b'\n').count();
         let grammar = Source::new(STANDARD_INPUT, grammar);
@@ -84,7 +86,8 @@ impl<'a> Source<'a> {
         utf8_prefix(self.bytes)
     }
 
-    /// Returns the position of an offset in bytes, with the line in the file.
+    /// Returns the position of an offset in bytes, with the line in the file. If the offset is
+    /// beyond the longest prefix that is UTF-8, this is the position of the prefix's end.
     pub fn position(&self, at: usize) -> Position {
         let position = Position::of(self.text(), at);
         Position {

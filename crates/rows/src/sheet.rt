@@ -39,8 +39,9 @@ pub fn try_rows<R: Input + Print, Q: Questions>(
     println!(rt; "{} answers are right", sheet.right)
 }
 
-/// Runs the lines on standard input. Prints each wrong line with its number, from 1. Fails as
-/// `try_rows` does.
+/// Runs the lines on standard input. Prints each wrong line with its number, from 1. If lines of an
+/// answer are not compared, prints the number of the next line that isn't an answer, or of the last
+/// line. Fails as `try_rows` does.
 fn take_lines<R: Input + Print, Q: Questions>(
     rt: &R,
     alloc: Global,
@@ -100,8 +101,8 @@ impl Sheet {
         }
     }
 
-    /// Returns a message if no line was compared with some lines of the last answer, and forgets
-    /// these lines.
+    /// Returns a message with the lines of the last answer that were not compared yet, if there are
+    /// any, and forgets these lines.
     fn uncompared(&mut self, alloc: Global) -> Result<Option<String>, AllocError> {
         match self.answer.take() {
             Some(answer) => Ok(Some(format!(in alloc; "no line has the answer {answer}")?)),

@@ -54,8 +54,8 @@ fn write_before(alloc: Global, text: &mut String, rest: &str) -> Result<(), Allo
     text.push_str(so_far.as_str())
 }
 
-/// Appends copies of a text: as many as the number in the first word of `rest`. In each copy, `#` becomes the copy's
-/// number from 0, `@` its number from 1, and `~` a space.
+/// Appends copies of the text after the first word of `rest`: as many as this word spells. In each
+/// copy, `#` becomes the copy's number from 0, `@` its number from 1, and `~` a space.
 fn write_times(alloc: Global, text: &mut String, rest: &str) -> Result<(), Mistake> {
     let (count, piece) = first_word(rest);
     let count = number(count)?;
@@ -68,7 +68,7 @@ fn write_times(alloc: Global, text: &mut String, rest: &str) -> Result<(), Mista
     Ok(())
 }
 
-/// Appends `count` equal copies of a text.
+/// Appends `count` copies of a text without `#` and `@`. In each copy, `~` becomes a space.
 fn write_alike(
     alloc: Global,
     text: &mut String,

@@ -27,8 +27,8 @@ pub fn printed<T: Debug>(alloc: Global, value: &T) -> Result<String, Mistake> {
     Ok(format!(in alloc; "{value:?}")?)
 }
 
-/// Returns the first word of a text, and the text after the space that ends it: nothing if there is
-/// no space.
+/// Returns the first word of a text, and the text after the space that ends it. If there is
+/// no space, the whole text is the word, and the second text is empty.
 pub fn first_word(text: &str) -> (&str, &str) {
     text.split_once(' ').unwrap_or((text, ""))
 }
@@ -48,8 +48,8 @@ pub fn short_number(word: &str) -> Result<u16, Mistake> {
     word.parse::<u16>().map_err(|_| Mistake::Misspelt)
 }
 
-/// Returns the parts of a text between separators, or no part for the text `-`. Fails if memory is
-/// refused.
+/// Returns the parts of a text between separators, or no part for the text `-`. An empty text has
+/// one empty part. Fails if memory is refused.
 pub fn parts<'a>(
     alloc: Global,
     text: &'a str,

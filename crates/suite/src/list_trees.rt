@@ -18,7 +18,7 @@ fn single(alloc: Global, number: u16) -> Result<ListTree, ValueFault> {
     }
 }
 
-/// Joins two lists. Fails with Malformed if they are too heavy together.
+/// Joins two lists. Fails with Malformed if the joined list would be too heavy for a value.
 fn joined(alloc: Global, left: &ListTree, right: &ListTree) -> Result<ListTree, ValueFault> {
     match ListTree::join(alloc, left, right)? {
         Some(list) => Ok(list),

@@ -42,7 +42,8 @@ impl Device for LyingDevice {
     }
 }
 
-/// Returns the bodies of a tree file, from the last to the first.
+/// Returns the bodies of a tree file, from the last to the first. The contract claims nothing of
+/// a device that is not honest.
 fn bodies_back<D: Device>(alloc: Global, device: &mut D) -> Result<Vec<Vec<u8>>, Fail>
     ensures { WhenHonest (D.is_honest device.new)
         (IfOk result (λ found. ReadsBack version_two (D.content device.old)

@@ -56,7 +56,7 @@ pub struct CountingDevice<'a> {
     pub bytes: u64,
     /// The counts of the current file.
     reading: Reading,
-    /// The least number of reads of a file, of the files read before.
+    /// The least number of reads of a file, of the files read before; `u64::MAX` if there is none.
     fewest_reads: u64,
     /// The least number of appends between two reads, of the files read before.
     least_gap: u64,

@@ -10,7 +10,8 @@ use rows::sheet::Questions;
 use rows::words::Mistake;
 use std::alloc::Global;
 
-/// Answers questions about the translator of the current grammar.
+/// Answers questions about the translator of the current grammar, and about jobs, files, faults and
+/// blocks, which don't use that grammar.
 #[derive(Drop)]
 pub struct Translations {}
 

@@ -99,8 +99,8 @@ fn run<D: Device>(
 /// with D1 Device if the device failed, and with NoMemory if memory is refused.
 ///
 /// After a fault an honest device has a prefix of the header of pass 0 and frames of bodies, each
-/// of 3 to 285,212,675 bytes. The contract does not say that the bodies are records of a tree: after
-/// P1 there is none. The writer is broken after D1, and after no other fault.
+/// of 3 to 285,212,675 bytes. The contract does not say that the bodies are records of a tree:
+/// after P1 there is none. The writer is broken after D1, and after no other fault.
 pub fn parse<D: Device>(
     alloc: Global,
     grammar: &Grammar,
