@@ -101,8 +101,8 @@ pub fn could_answer(alloc: Global, text: &str) -> Result<String, Mistake> {
     }
 }
 
-/// Returns the raw grammar of a text. Fails with `Unfit` if the text isn't a grammar, or if
-/// `is_readable` rejects what it reads as.
+/// Returns the raw grammar of a text. Fails with `Unfit` if the text isn't a grammar. The
+/// test `is_readable` is there only for the contract: it accepts each grammar read from a text.
 pub fn raw_grammar(alloc: Global, text: &str) -> Result<RawGrammar, Mistake>
     ensures { IfOk result (λ raw. IsReadable raw) }
 {

@@ -47,8 +47,8 @@ fn devices(alloc: Global, word: &str, call: u64) -> Result<(SharedFuse, SharedFu
 
 /// Translates the sentence twice over the same two devices, of which one fails at one call. Returns
 /// whether that call is one of the second translation. Fails with `Unfit` unless exactly one of the
-/// translations fails, with D1 and without output, and each device got a call of
-/// `append_parts` in one of the translations.
+/// translations fails, with D1 and without output, and each device got a record
+/// with shared values, by `append_parts`, in one of the translations.
 fn fails_later(
     alloc: Global,
     translator: &Translator,

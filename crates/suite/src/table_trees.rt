@@ -8,8 +8,8 @@ use table_tree::{PutFault, TableTree};
 /// Puts the number 7 at the key that spells `key` with at least four hexadecimal digits.
 fn with_number(alloc: Global, table: &TableTree, key: u32) -> Result<TableTree, PutFault> {
     let key = format!(in alloc; "{key:04x}")?;
-    // never true, and only for the prover: `put` requires a short key, and the contract of `format!`
-    // says nothing of the length
+    // never true, and only for the prover: `put` requires a short key, and the contract of
+    // `format!` says nothing of the length
     if key.len() > 100 {
         return Err(PutFault::TooHeavy);
     }

@@ -77,6 +77,7 @@ fn translated(alloc: Global, translator: &Translator) -> Result<String, Mistake>
     let answer = translate(alloc, translator, &mut a, &mut b)?;
     // the parser appends a header and each node, and the pass appends a header
     let frames = frames_answer(alloc, a.bytes, puts.get(), NODES + 2)?;
+    // the one pass reads the file on `a` and writes that on `b`
     let by_blocks = is_by_blocks(&a);
     Ok(format!(in alloc; "{answer}; {frames}; by blocks: {by_blocks}")?)
 }

@@ -1,5 +1,5 @@
 //! The declared symbols, with their names and those of their attributes looked up by hash.
-ghost use Rattle.std.specs.Prelude.{◌≡◌, ◌++◌, length, map, bytes_eq, IfOk, OnOk, IfSome};
+ghost use Rattle.std.specs.Prelude.{◌≡◌, ◌++◌, map, bytes_eq, IfOk, OnOk, IfSome};
 ghost use Rattle.std.specs.Prelude.{ℕ, List, Some, None};
 ghost use Rattle.std.specs.Prelude.{slice_get, [], ◌∷◌, ◌≤◌, ◌-◌};
 ghost use Rattle.std.specs.List.{list_any, range_with_len};
@@ -110,13 +110,6 @@ impl<'t> Declared<'t> {
             names,
             attributes,
         })
-    }
-
-    /// Returns the number of symbols. Not called by this program.
-    pub fn count(&self) -> usize
-        ensures { result ≡ length self.now }
-    {
-        self.symbols.len()
     }
 
     /// Returns the number of a symbol, or the count of declared symbols if it is not declared.
