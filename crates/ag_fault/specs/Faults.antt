@@ -28,7 +28,7 @@ use Rattle.ag_fault.specs.declared.build_fault.BuildFault.TheVariants as build
 use Rattle.ag_fault.specs.declared.fault.Fault.{Fault}
 use Rattle.ag_fault.specs.declared.fault.Fault.TheVariants as fault
 
--- refused memory is always `NoMemory`, and never inside another fault
+-- Of the faults of an expression, a sentence and a job, `NoMemory` becomes `NoMemory`, and any other fault is put into a variant.
 abbrev pub expr_fault_of : ExprFault → Fault
 expr_fault_of expr.NoMemory = fault.NoMemory
 expr_fault_of e = fault.Expr e
@@ -47,7 +47,7 @@ parse_fault_of parse.Device = fault.Device
 parse_fault_of parse.NoMemory = fault.NoMemory
 parse_fault_of e = fault.Parse e
 
--- the faults of running passes; a failed device and refused memory as for the parser
+-- the faults of running passes; a failed device and refused memory as in `parse_fault_of`
 abbrev pub run_fault_of : RunFault → Fault
 run_fault_of run.Device = fault.Device
 run_fault_of run.NoMemory = fault.NoMemory
@@ -83,7 +83,7 @@ build_fault_of (build.Table e) = fault.Table e
 build_fault_of (build.Assign e) = fault.Assign e
 build_fault_of build.NoMemory = fault.NoMemory
 
--- the faults of a device, and of reading a tree file
+-- the faults of a device, and below them those of reading a tree file
 abbrev pub device_fault_of : DeviceFault → Fault
 device_fault_of device.Failed = fault.Device
 device_fault_of device.NoMemory = fault.NoMemory

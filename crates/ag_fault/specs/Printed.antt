@@ -1,4 +1,4 @@
--- How the program's faults are printed: each line begins with the fault's number, or with `usage` or `NoMemory`. This project's.
+-- How the program's faults are printed: each text begins with the fault's number, or with `usage` or `NoMemory`. This project's.
 use Rattle.std.specs.Prelude.{ℕ, List, [], ◌++◌, Option, Some, None, codes, decimal, flat_map, slice_get}
 use Rattle.ag_expr.specs.Printed.{printed as printed_expr}
 use Rattle.ag_grammar.specs.declared.grammar.Symbol.{Symbol}
@@ -25,7 +25,7 @@ name_at (Some symbol) attribute = name_of_attribute symbol (slice_get (attribute
 abbrev pub qualified_name : Grammar → ℕ → ℕ → List ℕ
 qualified_name g symbol attribute = name_at (slice_get g.symbols symbol) attribute
 
--- this name with a space before it; x has the number of the symbol and that of its attribute
+-- an attribute as `qualified_name` has it, after a space; x has the number of the symbol and that of its attribute
 abbrev pub attribute_text : Grammar → ℕ × ℕ → List ℕ
 attribute_text g x = codes " " ++ qualified_name g x.0 x.1
 
@@ -33,7 +33,7 @@ attribute_text g x = codes " " ++ qualified_name g x.0 x.1
 abbrev pub printed_stuck : StuckGrammar → List ℕ
 printed_stuck s = codes "A1" ++ flat_map (attribute_text s.grammar) s.stuck.set
 
--- the line of a fault; a fault that contains one of another crate is printed as that one
+-- the text of a fault; a fault that contains one of another crate is printed as that one
 abbrev pub printed : Fault → List ℕ
 printed fault.Usage = codes "usage: the arguments of the command line can't be read"
 printed fault.File = codes "F1 the file can't be opened, read or created"

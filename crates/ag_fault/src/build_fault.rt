@@ -11,8 +11,8 @@ use ag_value::NoMemory;
 use llparse::TableFault;
 use normalform::NormalFault;
 
-/// Why a translator can't be built from a text. Calls return refused memory only as `NoMemory`, never
-/// inside another variant.
+/// Why a translator can't be built from a text. Calls of `aggen` return refused memory only as
+/// `NoMemory`, never inside another variant.
 #[derive(Debug, Drop)]
 pub enum BuildFault {
     /// G1 to G4: the text can't be read as a grammar.

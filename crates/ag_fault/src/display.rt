@@ -56,7 +56,8 @@ impl fmt::Display for StuckGrammar {
     }
 }
 
-/// Writes the attributes with a space before each.
+/// Writes attributes with a space before each. Each has the number of a symbol and that of the
+/// attribute.
 fn write_attributes<W: fmt::Write>(
     f: &mut fmt::Formatter<W>,
     grammar: &Grammar,

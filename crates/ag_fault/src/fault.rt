@@ -24,7 +24,7 @@ use treefile::{DeviceFault, FileFault, FrameFault};
 
 /// Why the program, or a call of its library, failed. Each fault except `Usage` and `NoMemory` has a
 /// number such as D1, which is printed first. Where a variant is said never to contain NoMemory, this
-/// holds for the faults that calls return.
+/// holds for the faults that calls of `aggen` return.
 #[derive(Debug, Drop)]
 pub enum Fault {
     /// The command line is wrong.
@@ -56,7 +56,8 @@ pub enum Fault {
     NoText(Value),
     /// B1: a device does not contain a tree file.
     NotATreeFile,
-    /// B2: no frame ends at this offset in bytes, or one does and its body is not the expected one.
+    /// B2: no frame ends at this offset in bytes, or one does and its body is not the record that
+    /// the reader expects there.
     Damaged(u64),
     /// D1: a call of a device failed.
     Device,

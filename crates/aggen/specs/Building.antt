@@ -27,8 +27,8 @@ IsConflictOf t (table.Conflict symbol first second ahead) =
     (g : Grammar) × IsGrammarOf t g × IsLeastConflict g symbol first second ahead
 IsConflictOf t table.NoMemory = ⊥
 
--- A1: the text is an accepted grammar without a conflict. It has no legal assignment, as the certificate
--- shows.
+-- A1: the text is an accepted grammar without a conflict. The grammar has no legal assignment, as the
+-- certificate `s.stuck` shows.
 pub record IsStuckOf (t : List ℕ) (s : StuckGrammar) : Type 0 where
   pub grammar : IsGrammarOf t s.grammar
   pub free : HasNoConflict s.grammar
@@ -41,7 +41,7 @@ pub record IsLeastPlan (g : Grammar) (rows : List (List ℕ)) (code : Lists) : T
   pub least : IsLeast g (passes_of rows)
   pub lists : AreGeneratedLists g (passes_of rows) code
 
--- G and N: the meaning of rejecting a text as an accepted grammar; NoMemory has none
+-- the meaning of a fault of `grammar_of`: G and N are true of the text, NoMemory has no meaning, L and A are impossible
 abbrev pub IsGrammarFault : List ℕ → BuildFault → Type 0
 IsGrammarFault t (build.Text f) = IsTextFaultOf t f
 IsGrammarFault t (build.Normal f) = IsNormalFaultOf t f
@@ -49,7 +49,7 @@ IsGrammarFault t (build.Table f) = ⊥
 IsGrammarFault t (build.Assign f) = ⊥
 IsGrammarFault t build.NoMemory = Unit {0}
 
--- G, N, L and A: the meaning of rejecting a text
+-- the meaning of a fault of `Translator::build`: G, N, L and A are true of the text, NoMemory has no meaning
 abbrev pub IsBuildFault : List ℕ → BuildFault → Type 0
 IsBuildFault t (build.Text f) = IsTextFaultOf t f
 IsBuildFault t (build.Normal f) = IsNormalFaultOf t f

@@ -53,13 +53,13 @@ IsCheckFault text (fault.Normal f) = IsNormalFaultOf text f
 IsCheckFault text fault.NoMemory = Unit {0}
 IsCheckFault text _ = ⊥
 
--- the line of the numbers of the text's grammar was written
+-- the line with the numbers of symbols and productions of the text's grammar was written
 pub record PrintsCounts (text : List ℕ) (old new : Option (List ℕ)) : Type 0 where
   pub grammar : Grammar
   pub is : IsGrammarOf text grammar
   pub line : Appends old new (counts_line grammar)
 
--- a prefix of the line of the numbers of the text's grammar was written
+-- a prefix of the line with the numbers of symbols and productions of the text's grammar was written
 pub record BeginsCounts (text : List ℕ) (old new : Option (List ℕ)) : Type 0 where
   pub grammar : Grammar
   pub is : IsGrammarOf text grammar

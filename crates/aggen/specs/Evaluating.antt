@@ -36,8 +36,8 @@ pub record AreLeftOfTree (g : Grammar) (m : Passes) (content a b : List ℕ) (re
       (before_last report.passes report.last content a b)
   pub report_is : IsReport g report.passes tree report
 
--- The report has the greatest pass of an assignment, and if the devices are honest all its passes ran over
--- the tree of a content.
+-- The report has the greatest pass of an assignment, and if the devices are honest all passes of this assignment ran
+-- over the one tree whose file of pass 0 a content is.
 pub record LeavesFilesOfTree (g : Grammar) (rows : List (List ℕ)) (honest_tree honest_a honest_b : Bool) (content a b : List ℕ)
     (report : Report) : Type 0 where
   pub greatest : IsGreatest report.passes rows
@@ -53,9 +53,9 @@ pub record LeavesLastFilesOfTree (g : Grammar) (honest_tree honest_a honest_b : 
   pub report : Report
   pub files : LeavesFilesOfTree g rows honest_tree honest_a honest_b content a b report
 
--- Pass 1 of a plan finds this fault in a content that should be the file of pass 0 of a tree of the grammar,
--- or finds that this limit is exceeded, before any other fault. Records of pass 0 have no values of
--- rules, so all plans find the same.
+-- Pass 1 of a plan whose passes are numbered from 1 finds this fault in a content that should be the file of pass 0
+-- of a tree of the grammar, or finds that this limit is exceeded, before any other fault. Records of pass 0 have no
+-- values of rules, so all plans find the same.
 abbrev pub ShowsInFile : Grammar → List ℕ → RunFault → Type 0
 ShowsInFile g content f =
     (plan : List (List ℕ) × Lists) × AreFromOne (passes_of plan.0) × Shows (source (setting_of g plan 1)) content f
@@ -72,8 +72,8 @@ IsTreeFileFault g content run.TooManyNodes =
 IsTreeFileFault g content run.Device = Unit {0}
 IsTreeFileFault g content run.NoMemory = Unit {0}
 
--- The meaning of a fault of `run_tree`, before the text of the root is read: R1, P2 and P3 are true of the content.
--- A device failure and NoMemory have no meaning, and no other fault is possible.
+-- The meaning of a fault of `run_tree`, before the text of the root is read: if the devices are honest, R1, P2 and P3 are true of
+-- the content. A device failure and NoMemory have no meaning, and no other fault is possible.
 abbrev pub IsTreeFaultBeforeText : Grammar → (honest_tree honest_a honest_b : Bool) → List ℕ → Fault → Type 0
 IsTreeFaultBeforeText g ht ha hb content (fault.Run f) =
     WhenHonest ht (WhenHonest ha (WhenHonest hb (IsTreeFileFault g content f)))
@@ -81,10 +81,9 @@ IsTreeFaultBeforeText g ht ha hb content fault.Device = Unit {0}
 IsTreeFaultBeforeText g ht ha hb content fault.NoMemory = Unit {0}
 IsTreeFaultBeforeText g ht ha hb content _ = ⊥
 
--- The meaning of a fault of the evaluation of a tree: R1, with its offset, P2 and P3 are true of the content
--- of the tree's file, and O1 of its one tree; B1 and B2 are impossible on honest devices; after O2 a prefix
--- of the translation was written. A device failure and NoMemory have no meaning, and no other fault is
--- possible.
+-- The meaning of a fault of `evaluate_tree`. If the devices are honest, R1, with its offset, P2 and P3 are true of the content of
+-- the tree's file, and O1 of its one tree; B1 and B2 are impossible; and after O2 a prefix of the translation was written.
+-- A device failure and NoMemory have no meaning, and no other fault is possible.
 abbrev pub IsEvaluationFault : Grammar → (honest_tree honest_a honest_b : Bool) → List ℕ → (old new : Option (List ℕ)) → Fault
     → Type 0
 IsEvaluationFault g ht ha hb content old new (fault.Run f) =

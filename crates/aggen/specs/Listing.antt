@@ -26,7 +26,7 @@ PrintsPlan text old new = HoldsOfPlan text (λ g rows code. AppendsPlan g rows o
 abbrev pub BeginsPlan : List ℕ → Option (List ℕ) → Option (List ℕ) → Type 0
 BeginsPlan text old new = HoldsOfPlan text (λ g rows code. AppendsPlanBeginning g rows old new)
 
--- the lines of the code of this plan were written; for `BeginsCode`, a prefix of them
+-- the lines of the code of the text's least plan were written; for `BeginsCode`, a prefix of them
 abbrev pub PrintsCode : List ℕ → Option (List ℕ) → Option (List ℕ) → Type 0
 PrintsCode text old new = HoldsOfPlan text (λ g rows code. Appends old new (code_text g code))
 

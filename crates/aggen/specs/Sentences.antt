@@ -36,7 +36,8 @@ pub record HasNoTreeFrom (g : Grammar) (sentence : List ℕ) (at : ℕ) : Type 0
   pub offset : IsUnexpectedAt g tokens at
   pub none : HasNoTree g sentence
 
--- P2 and P3: the sentence can be cut into tokens, and their words leave only trees beyond a limit
+-- P2 and P3: the sentence can be cut into tokens, and `Leaves` holds of their words (each has a literal or a class, and a text):
+-- they leave only trees beyond a limit
 pub record LeavesOnlyTrees (g : Grammar) (sentence : List ℕ) (Leaves : List Lexeme → Type 0) : Type 0 where
   pub tokens : List Token
   pub cut : AreTokensOf (vocabulary_of g) sentence tokens

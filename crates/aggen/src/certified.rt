@@ -1,4 +1,5 @@
-//! A grammar's least assignment of passes, with strikes that show that it is the least one.
+//! A grammar's least assignment of passes, with strikes that show that it is the least one. A
+//! strike is a reason why a pass can't compute an attribute.
 
 ghost use Rattle.std.specs.Prelude.{ℕ, ◌≡◌, List, IfErr, IfOk};
 ghost use Rattle.llparse.specs.Ahead.{HasNoConflict};
@@ -23,8 +24,9 @@ pub struct CertifiedPlan {
     pub grammar: Grammar,
     /// The pass of each attribute.
     pub assignment: Assignment,
-    /// For each pass, the attributes that it strikes: those that have a later pass, each with a rule
-    /// for it and an argument of this rule that is not computed before the rule is evaluated.
+    /// For each pass, a list with one strike of each attribute that has a later pass. A strike
+    /// names a rule for the attribute, and an argument of this rule that the pass would need before
+    /// the argument has a value.
     pub strikes: Strikes,
 }
 

@@ -1,8 +1,11 @@
 //! Translators from attribute grammars. A translator is built from a grammar's text. It parses a
 //! sentence into the file of its one tree, translates sentences and such files, and converts tree
-//! files of version 1. A job has a grammar and a sentence in one text. The crate also prints the
-//! counts of a grammar, its plan and its code, returns its least assignment with strikes, and
-//! evaluates expressions by way of a tree file.
+//! files of version 1. `run_job` translates a job: a grammar and a sentence in one text.
+//!
+//! The crate also prints the counts of a grammar, its plan and the plan's code, and evaluates
+//! expressions by way of a tree file. `certify_plan` returns the least assignment of passes with
+//! strikes, which show that it is the least one. `source_of` and `bytes_of` read a file and a
+//! reader into memory.
 //!
 //! Every call that allocates memory can also fail with NoMemory. Some comments do not mention it.
 #![tactic(auto)]

@@ -44,9 +44,9 @@ use std::marker::Model;
 use tree_upgrade::upgrade;
 use treefile::{Device, Writer};
 
-/// A grammar with its look-ahead tables and its plan. An invariant is that the tables fit the
-/// grammar, and that the plan is its least one. Contracts see the grammar in place of a translator.
-/// A translator keeps the allocator that it was built with.
+/// A grammar with its look-ahead tables, its plan, and the allocator of its calls. The invariant:
+/// the grammar is accepted, the tables have exactly its predictions, and the plan is its least one.
+/// Contracts see the grammar in place of a translator.
 #[derive(Drop)]
 pub struct Translator {
     grammar: Grammar,
@@ -131,7 +131,7 @@ impl Translator {
     }
 
     /// Clears the device, and writes the file of pass 0 of the sentence's one tree to it. Returns
-    /// the number of its nodes.
+    /// the number of the tree's nodes.
     ///
     /// Fails with S1 to S4, before the device is used, if the sentence is too long, is not UTF-8 or
     /// can't be cut into tokens; with P2 or P3 if its tokens have a tree beyond a limit; with P1 if
@@ -186,13 +186,13 @@ impl Translator {
     /// `parse_tree` does. Fails with O1 NoText if the translation is not a text, with O2 Write if a
     /// write failed or took no byte, with D1 Device if a call of a device failed, and with NoMemory
     /// if memory is refused. R1, B1, B2, and P2 or P3 of a tree file, are possible only on a device
-    /// that does not return the bytes that were written. After every fault except O2 the writer is
+    /// that does not return the bytes that were written. After every fault except O2 `out` is
     /// unchanged.
     ///
     /// After O1 and O2 the devices have the last two tree files. After P `a` has a prefix of a file
     /// of pass 0, and after D1 and NoMemory each device has its old content, or a prefix of a file
     /// of some pass. Such a file is a header and frames of bodies of any allowed length. It need
-    /// not encode a tree, since after P1 there is none. The next call can use the devices in any
+    /// not encode a tree: after P1 the sentence has none. The next call can use the devices in any
     /// state. Claims on contents hold if the devices return the bytes that were written to them.
     #[tactic(auto, using(crate::proofs::Begun::begun))]
     pub fn translate<D: Device, W: Write>(
@@ -219,8 +219,8 @@ impl Translator {
             BeginsText (W.contents out.old) (W.contents out.new) }
         ensures untouched { IfErr result (λ e. IsScanFault e → a.new ≡ a.old) }
         ensures b_untouched { IfErr result (λ e. IsRefusedSentence e → b.new ≡ b.old) }
-        // An honest device has its old content, or a prefix of a tree file, whatever the other
-        // device is.
+        // An honest device has its old content, or a prefix of a tree file, even if the other one
+        // is not honest.
         ensures a_left { WhenHonest (D.is_honest a.new)
             (LeavesSomeFile (D.content a.old) (D.content a.new)) }
         ensures b_left { WhenHonest (D.is_honest b.new)
@@ -250,7 +250,7 @@ impl Translator {
     /// only one pass: then `tree` has that file.
     ///
     /// Fails with R1 only if the content of `tree` is the file of pass 0 of no tree of the grammar.
-    /// If a limit is reached first, when the content is read from its end, fails with P2 or P3
+    /// If a limit is exceeded first, when the content is read from its end, fails with P2 or P3
     /// instead: the content is then the file of no tree of at most `MAX_DEPTH` levels (65,536; P2),
     /// or of none of at most `MAX_NODES` nodes (1,048,576; P3), and may be the file of no tree at
     /// all. Fails with O1 NoText if the translation is not a text, with O2 Write if a write failed
@@ -258,9 +258,10 @@ impl Translator {
     /// refused. B1, B2, or R1, P2 or P3 of a later pass's file are possible only on a device that
     /// does not return the bytes that were written.
     ///
-    /// After every fault except O2 the writer is unchanged. After O1 and O2 the last two tree files
-    /// are where they are after success. After each other fault each of `a` and `b` has its old
-    /// content, or a prefix of a file of some pass, as with `translate`.
+    /// After every fault except O2 `out` is unchanged. After O1 and O2 the last two tree files are
+    /// where they are after success. After each other fault each of `a` and `b` has its old
+    /// content, or a prefix of a file of some pass, as with `translate`. Claims on contents hold if
+    /// the devices return the bytes that were written to them.
     #[tactic(auto, using(crate::proofs::Begun::begun))]
     pub fn evaluate_tree<T: Device, D: Device, W: Write>(
         &self,
@@ -285,8 +286,8 @@ impl Translator {
             BeginsText (W.contents out.old) (W.contents out.new) }
         ensures content { LeavesContent (T.is_honest tree.new)
             (T.content tree.old) (T.content tree.new) }
-        // An honest device has its old content, or a prefix of a tree file, whatever the others
-        // are.
+        // An honest device has its old content, or a prefix of a tree file, even if the others
+        // are not honest.
         ensures a_left { WhenHonest (D.is_honest a.new)
             (LeavesSomeFile (D.content a.old) (D.content a.new)) }
         ensures b_left { WhenHonest (D.is_honest b.new)
@@ -310,10 +311,11 @@ impl Translator {
     /// Converts an old tree file: reads the file of version 1 and pass 0 of a tree of the grammar
     /// from `old`, and writes to `to` the file of version 2 and pass 0 of the same tree, the one
     /// that `parse_tree` writes for a sentence with this tree. `mid` then has the records of that
-    /// file in the order from right to left, and `old` is only read. Returns the number of nodes.
+    /// file in another order: those of a node's children from right to left, and then the node's.
+    /// `old` is only read. Returns the number of nodes.
     ///
     /// Fails with R1 only if the content of `old` is the file of version 1 and pass 0 of no tree of
-    /// the grammar. If a limit is reached first, when the content is read from its end, fails with
+    /// the grammar. If a limit is exceeded first, when the content is read from its end, fails with
     /// P2 or P3 instead: the content is then the file of no tree of at most `MAX_REVERSED_DEPTH`
     /// levels (256; P2), or of none of at most `MAX_REVERSED_NODES` nodes (65,536; P3), and may be
     /// the file of no tree at all. Fails with D1 if a call of a device failed, and with NoMemory if
@@ -321,7 +323,8 @@ impl Translator {
     /// `mid` does not return the bytes that were written.
     ///
     /// After a fault `mid` has its old content or a prefix of a file with the pass number 1, and
-    /// `to` has its old content or a prefix of a file of pass 0.
+    /// `to` has its old content or a prefix of a file of pass 0. Claims on contents hold if the
+    /// devices return the bytes that were written to them.
     pub fn upgrade<D: Device, E: Device, F: Device>(
         &self,
         old: &mut D,
@@ -335,11 +338,10 @@ impl Translator {
         // Err: the fault is true of the old content.
         ensures refused { IfErr result (λ e. IsOldFileFault self.now
             (D.is_honest old.new) (E.is_honest mid.new) (D.content old.old) e) }
-        // The old content of the third device, or a prefix of a file of pass 0
+        // `to` has its old content, or a prefix of a file of pass 0.
         ensures left { OnErr result (WhenHonest (F.is_honest to.new)
             (LeavesBeginning 0 (F.content to.old) (F.content to.new))) }
-        // The old content of the second device, or a prefix of a file with the pass number 1, also
-        // after Ok
+        // `mid` has its old content, or a prefix of a file with the pass number 1, also after Ok.
         ensures mid_left { WhenHonest (E.is_honest mid.new)
             (LeavesBeginning 1 (E.content mid.old) (E.content mid.new)) }
         ensures content { LeavesContent (D.is_honest old.new)
@@ -354,7 +356,7 @@ impl Translator {
     }
 }
 
-/// Returns the plan with the least assignment of a grammar and the code for it.
+/// Returns the plan of a grammar's least assignment, with the code that `generate` returns for it.
 #[tactic(auto, using(planchecker::proofs::Taken::made_is_accepted, crate::proofs::Building::least_plan))]
 fn plan_of(alloc: Global, grammar: &Grammar, assignment: Assignment) -> Result<Plan, NoMemory>
     requires least { IsLeast grammar.now (passes_of assignment) }

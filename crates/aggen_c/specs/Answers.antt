@@ -9,7 +9,7 @@ use Rattle.ag_fault.specs.declared.fault.Fault.{Fault}
 use Rattle.aggen_c.specs.Refusals.{HasReason, no_fields, numbers}
 use Rattle.aggen_c.specs.declared.refusal.RefusalFields.{RefusalFields}
 
--- a buffer begins with as many of the first bytes as it has room for, and the rest of it is as before
+-- a buffer, which had the content `old`, begins with as many of the first of `bytes` as it has room for; the rest is as before
 abbrev pub IsCopied : (bytes old new : List ℕ) → Type 0
 IsCopied bytes old new = new ≡ take (min (length bytes) (length old)) bytes ++ drop (min (length bytes) (length old)) old
 
@@ -31,13 +31,13 @@ pub record IsWritten (bytes old new : List ℕ) (count status : ℕ) (fields : R
 abbrev pub IsUnwritten : (old new : List ℕ) → (count : ℕ) → Type 0
 IsUnwritten old new count = (new ≡ old) × (count ≡ 0)
 
--- The result of a call was copied to a buffer.
+-- The result of a call, bytes with the property `Is`, was copied to a buffer, with status 0.
 pub record IsAnswered (Is : List ℕ → Type 0) (old new : List ℕ) (count status : ℕ) (fields : RefusalFields) : Type 0 where
   pub bytes : List ℕ
   pub is : Is bytes
   pub written : IsWritten bytes old new count status fields
 
--- A call was refused for a true reason, and its buffer is as before.
+-- A call was refused for a true reason, a fault with the property `IsTrue`, and its buffer is as before.
 pub record IsRefused (IsTrue : Fault → Type 0) (old new : List ℕ) (count status : ℕ) (fields : RefusalFields) : Type 0 where
   pub reason : HasReason IsTrue status fields
   pub unwritten : IsUnwritten old new count
@@ -56,8 +56,8 @@ pub record IsTranslatorOf (text : List ℕ) (g : Grammar) : Type 0 where
   pub free : HasNoConflict g
   pub alternating : IsAlternating g
 
--- The text of a grammar was read: the handle has its translator, and the status is 0; or the handle has none, and the
--- refusal has a true reason.
+-- What a handle has after `aggen_build_unchecked` with a text: the text's translator, and the status is 0; or none, and the
+-- refusal has a true reason. The second argument is the grammar of the handle's translator, if it has one.
 abbrev pub IsBuilt : (text : List ℕ) → Option Grammar → (status : ℕ) → RefusalFields → Type 0
 IsBuilt text (Some g) status fields = IsTranslatorOf text g × (status ≡ 0) × (fields ≡ no_fields)
 IsBuilt text None status fields = HasReason (IsTranslatorFault text) status fields

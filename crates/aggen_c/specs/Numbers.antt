@@ -24,7 +24,7 @@ use Rattle.aggen_c.specs.declared.number.Number.{Number}
 abbrev pub numbered : ℕ → ℕ → Number
 numbered letter index = record { letter = letter; index = index }
 
--- NoMemory has no number
+-- the number of a fault that has none: NoMemory, or a misused command line
 abbrev pub unnumbered : Number
 unnumbered = numbered 0 0
 

@@ -17,7 +17,7 @@ numbers status fields = (status, fields.letter, fields.index, fields.offset)
 abbrev pub numbers_of : Fault → ℕ × ℕ × ℕ × ℕ
 numbers_of e = (status_of e, (number_of e).letter, (number_of e).index, offset_of e)
 
--- A refusal has a true reason, whose status, number and offset it has.
+-- A refusal has the status, the number and the offset of a true reason: of a fault with the property `IsTrue`.
 pub record HasReason (IsTrue : Fault → Type 0) (status : ℕ) (fields : RefusalFields) : Type 0 where
   pub reason : Fault
   pub is_true : IsTrue reason

@@ -20,7 +20,8 @@ use Rattle.ag_fault.specs.declared.fault.Fault.{Fault}
 use Rattle.ag_fault.specs.declared.fault.Fault.TheVariants as fault
 
 -- There is exactly one tree with the property `IsTree`, and it is within the limits. The values meet every equation of the
--- grammar at every node of this tree, no other values do, and the text is the value of the root's `out`.
+-- grammar at every node of this tree, no other values do, and the text is the value of the root's `out`. `IsTheSolution` speaks
+-- only of attributes that `assignment` gives a pass: this is a least plan's assignment, and gives one to every attribute.
 pub record HasTranslation (IsTree : Tree → Type 0) (g : Grammar) (text : List ℕ) : Type 0 where
   pub tree : Tree
   pub one : IsOneTree IsTree tree
@@ -45,7 +46,7 @@ pub record IsTreeFileOf (g : Grammar) (sentence file : List ℕ) : Type 0 where
   pub one : IsOneTree (IsTreeOfSentence g sentence) tree
   pub is : IsFirstFile version_two g tree file
 
--- The text is the listing of the grammar's least plan.
+-- The text is the listing of the grammar's least plan: `rows` is its assignment of passes, and `code` its instructions.
 pub record IsPlanTextOf (g : Grammar) (text : List ℕ) : Type 0 where
   pub rows : List (List ℕ)
   pub code : Lists

@@ -12,8 +12,8 @@ use crate::refusal::{Refusal, RefusalFields};
 use aggen::Translator;
 use std::alloc::Global;
 
-/// Returns the result of an operation on the translator of a handle, which the handle keeps. Fails
-/// with status 1 if the handle has none, and else as the operation does.
+/// Returns the result of an operation on the translator of a handle. The handle keeps the
+/// translator. Fails with status 1 if the handle has none, and else as the operation does.
 pub fn answer_by_handle(
     alloc: Global,
     handle: &mut Handle,
@@ -61,7 +61,8 @@ fn answer_of(
 
 /// Writes an answer to the caller's memory, and returns its status: 0 for a result, which is copied
 /// to `out`, or that of a refusal. Sets `length` to the number of all bytes of the result, or to 0
-/// for a refusal, and `fields` to those of the refusal, or of a call that was not refused.
+/// for a refusal, and `fields` to those of the refusal, or of a call that was not refused. Copies
+/// the message of a refusal to `message`, which otherwise stays as it is.
 pub fn write_answer(
     answer: Result<Vec<u8>, Refusal>,
     out: &mut [u8],

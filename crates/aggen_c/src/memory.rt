@@ -100,9 +100,9 @@ fn copy_of(alloc: Global, bytes: &[u8]) -> Result<Vec<u8>, Fault>
     }
 }
 
-/// Returns the fault of a call that worked in memory alone: NoMemory in place of D1 and O2, and any
-/// other fault as it is. A write to a vector fails only if memory is refused, and a device in
-/// memory never returns D1.
+/// Returns the fault of a call that worked in memory alone: NoMemory in place of `Fault::Device`
+/// and `Fault::Write` (O2), and any other fault as it is. A write to a vector fails only if memory
+/// is refused, and a device in memory never returns D1.
 fn memory_fault(fault: Fault) -> Fault
     ensures same { (result ≡ fault) ⊎ (result ≡ Fault.NoMemory) }
     ensures device { result ≢ Fault.Device }

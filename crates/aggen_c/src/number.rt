@@ -144,7 +144,7 @@ fn scan_number(fault: ScanFault) -> Number
     }
 }
 
-/// Returns the number of a fault of a sentence's tree, or D1 for that of a device.
+/// Returns the number of a fault of a sentence's tree: P1 to P3, or D1 if a device failed.
 fn parse_number(fault: ParseFault) -> Number
     ensures { result ≡ parse_number fault }
 {
@@ -158,7 +158,7 @@ fn parse_number(fault: ParseFault) -> Number
     Number { letter, index }
 }
 
-/// Returns the number of a fault of a tree file, or D1 for that of a device.
+/// Returns the number of a fault of a tree file: R1, P2 or P3, or D1 if a device failed.
 fn run_number(fault: RunFault) -> Number
     ensures { result ≡ run_number fault }
 {
@@ -188,7 +188,8 @@ fn job_number(fault: JobFault) -> Number
     }
 }
 
-/// Returns the offset of a fault, in bytes from 0, or `NO_OFFSET` if the fault has none.
+/// Returns the offset of a fault in the input, in bytes from 0, or `NO_OFFSET` if the fault has
+/// none.
 pub fn offset_of(fault: &Fault) -> u64
     ensures { result ≡ offset_of fault.now }
 {

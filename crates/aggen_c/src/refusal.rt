@@ -53,7 +53,8 @@ impl RefusalFields {
 pub struct Refusal {
     pub status: u8,
     pub fields: RefusalFields,
-    /// The message, unless memory for it was refused.
+    /// The message. `None` if memory for it was refused, if the handle has no translator, and
+    /// before `with_report`.
     message: Option<String>,
 }
 
@@ -134,7 +135,7 @@ impl Refusal {
 }
 
 /// Copies as many of the first bytes of a message as a buffer has room for. Returns the number of
-/// all bytes.
+/// all bytes of the message. No message counts as an empty one.
 fn copy_message(message: &Option<String>, buffer: &mut [u8]) -> usize
     ensures { HasMessage buffer.old buffer.new result }
 {

@@ -1,4 +1,4 @@
--- The content of the file of a device, by the calls made on it. This project's.
+-- The content of the file of a device, by the calls made on the file. This project's.
 use Rattle.std.specs.Prelude.{◌≡◌, ℕ, List}
 use Rattle.noted_file.specs.Calls.{replay}
 use Rattle.treefile.specs.devices.Device.{WhenHonest}
@@ -8,6 +8,7 @@ use Rattle.treefile.specs.devices.Files.{FileDeviceState, content_of, is_honest_
 abbrev pub stored_of : {F : Type 0} → FileDeviceState F → List ℕ
 stored_of device = (replay device.events).stored
 
--- If the file is honest, it has after a call (`new`) the whole content that its device had before (`old`), with buffered bytes.
+-- If the file is honest, it has after a call (`new`) the whole content that its device had before (`old`), including the bytes
+-- that were buffered.
 abbrev pub StoresContent : {F : Type 0} → FileDeviceState F → FileDeviceState F → Type 0
 StoresContent old new = WhenHonest (is_honest_of new) (stored_of new ≡ content_of old)

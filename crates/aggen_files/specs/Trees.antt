@@ -23,8 +23,8 @@ EvaluatesFile g honest content old new report = (a b : List ℕ) × EvaluatesTre
 abbrev pub IsFileEvaluationFault : Grammar → (honest_tree : Bool) → List ℕ → (old new : Option (List ℕ)) → Fault → Type 0
 IsFileEvaluationFault g honest content old new e = IsEvaluationFault g honest true true content old new e
 
--- If the old file is honest, the new one has its tree, with this number of nodes. `between` is the content of the device in
--- memory that the conversion uses.
+-- If the old file is honest, it has exactly one tree, with this number of nodes; the new file, if honest, has the same tree.
+-- `between` is the content of the device in memory that the conversion uses.
 abbrev pub UpgradesFile : Grammar → (honest_old : Bool) → List ℕ → (honest_tree : Bool) → List ℕ → ℕ → Type 0
 UpgradesFile g honest_old content honest_tree tree count =
     WhenHonest honest_old ((between : List ℕ) × IsUpgraded g content between honest_tree tree count)
@@ -48,8 +48,8 @@ abbrev pub IsParsingFault : Grammar → List ℕ → Fault → Type 0
 IsParsingFault g sentence fault.Write = Unit {0}
 IsParsingFault g sentence e = IsSentenceFault g sentence e
 
--- R1, P2 and P3 are true of the old content. O2, a failed device and NoMemory say nothing of this content. No other fault is
--- possible.
+-- If the old file is honest, R1, P2 and P3 are true of its content. O2, a failed device and NoMemory say nothing of this content.
+-- No other fault is possible.
 abbrev pub IsConversionFault : Grammar → (honest_old : Bool) → List ℕ → Fault → Type 0
 IsConversionFault g honest content fault.Write = Unit {0}
 IsConversionFault g honest content e = IsOldFileFault g honest true content e

@@ -118,9 +118,9 @@ pub fn evaluate_file<F: Read + Write + Seek + OpenFile, W: Write>(
 /// same by the record of its own calls.
 ///
 /// Fails with D1 if the new file can't be written out, also if the conversion failed, and otherwise
-/// as `Translator::upgrade` and `print_count` do. After O2 the new file has the tree, and a prefix
-/// of the line was printed. After another failure the device `tree` has the content that it had, a
-/// prefix of a file of pass 0, or the whole converted file.
+/// as `Translator::upgrade` and `print_count` do. After O2 the new file is the converted one, and a
+/// prefix of the line was printed. After another failure the device `tree` has the content that it
+/// had, a prefix of a file of pass 0, or the whole converted file.
 pub fn upgrade_file<F: Read + Write + Seek + OpenFile, W: Write>(
     alloc: Global,
     translator: &Translator,

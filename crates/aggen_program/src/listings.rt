@@ -1,4 +1,5 @@
-//! The commands that print a part of a grammar, and the value of an expression.
+//! The commands `check`, `plan` and `code`, which print something about a grammar, and `value`,
+//! which prints the value of an expression.
 
 use aggen::{Fault, print_code, print_counts, print_plan, show_value};
 use command_line::InputPath;
@@ -9,7 +10,7 @@ use std::io;
 use std::rt::Files;
 use treefile::MemDevice;
 
-/// What is printed of a grammar.
+/// What a command prints about a grammar.
 #[derive(Clone, Copy)]
 pub enum Part {
     /// The numbers of symbols and productions.
@@ -20,8 +21,8 @@ pub enum Part {
     Code,
 }
 
-/// Reads a grammar, and prints a part of it. Fails if the grammar can't be read or is refused, with O2 if the output
-/// fails, and if memory is refused.
+/// Reads a grammar, and prints what `part` selects. Fails if the grammar can't be read or is
+/// refused, with O2 if the output fails, and if memory is refused.
 pub fn print_part<R: Files + Input + Print>(
     rt: &R,
     alloc: Global,
@@ -36,7 +37,7 @@ pub fn print_part<R: Files + Input + Print>(
     }
 }
 
-/// Prints a part of the grammar in a text.
+/// Prints what `part` selects about the grammar in a text.
 fn write_part<R: Print>(rt: &R, alloc: Global, text: &[u8], part: Part) -> Result<(), Fault> {
     let mut out = io::writer(rt);
     match part {

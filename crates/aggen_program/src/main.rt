@@ -1,13 +1,14 @@
 //! `aggen`: translators from attribute grammars.
 //!
-//! `run G S` translates the sentence in a file by the grammar in a file, and prints the translation;
-//! `eval G TREE` does that with the tree in a tree file. With no word the program translates the job
-//! on standard input. `check G` reads and checks a grammar; `plan G` and `code G` print its passes
-//! and what they do, and `why G` or `why G SYMBOL.attribute` why they are needed; `parse G S TREE`
-//! parses a sentence, and writes its tree's file; `upgrade G OLD TREE` converts a tree file of
-//! version 1 to version 2; `show G TREE` prints the tree in a tree file, and `explain G TREE` where its
-//! values come from; `value EXPR` evaluates an expression, writes its value to a tree file in memory,
-//! and prints the value that it reads back.
+//! `run G S` translates the sentence in a file by the grammar in a file, and prints the
+//! translation; `eval G TREE` translates the tree in a tree file. With no word the program
+//! translates the job on standard input. `check G` checks a grammar, and prints its numbers of
+//! symbols and productions; `plan G` and `code G` print its passes and what they do; `why G` prints
+//! why the passes are needed, and `why G SYMBOL.attribute` why no earlier pass can compute the
+//! attribute; `parse G S TREE` parses a sentence, and writes its tree's file; `upgrade G OLD TREE`
+//! converts a tree file of version 1 to version 2; `show G TREE` prints the tree in a tree file,
+//! and `explain G TREE` where its values come from; `value EXPR` evaluates an expression, writes
+//! its value to a tree file in memory, and prints the value that it reads back.
 #![tactic(auto)]
 
 ghost use Rattle.aggen.specs.Status.{IsCommandFault};
@@ -38,8 +39,8 @@ const FOLDER: &str = "/";
 /// Runs the program.
 ///
 /// If a standard stream is closed, the system gives its number to the file that is opened next. So
-/// folders are opened first, and kept open while the program runs. Reading from a closed stream, or
-/// printing to one, then fails, and doesn't read or write a tree file.
+/// the folder `/` is opened three times first, and kept open while the program runs. Reading from a
+/// closed stream, or printing to one, then fails, and doesn't read or write a tree file.
 fn main(rt: HostRuntime) -> ExitCode {
     let _input = fs::open(&rt, FOLDER);
     let _output = fs::open(&rt, FOLDER);
@@ -94,8 +95,9 @@ fn fault_of(fault: CommandLineFault) -> Fault
     }
 }
 
-/// Runs the command of a request. Returns the status: 0 or, for `run` with several sentences, that of the first one
-/// that failed; the messages of those that failed were printed.
+/// Runs the command of a request. Returns the status 0. But for `run` with `--out-dir`, returns the
+/// status of the first sentence that failed, if one did; the messages of all that failed were
+/// printed. Any other failure is returned as its report.
 fn perform<R: Files + Input + Print + Eprint + Clock>(
     rt: &R,
     alloc: Global,

@@ -43,7 +43,8 @@ pub fn explain_plan<R: Files + Input + Print>(
     }
 }
 
-/// Returns the attribute of a name; `None` if `name` is `None`. Fails if no attribute has the name.
+/// Returns the attribute of a name; `None` if `name` is `None`. Fails with `Fault::Usage` if no
+/// attribute has the name.
 fn find_attribute(
     alloc: Global,
     grammar: &Grammar,
@@ -90,7 +91,8 @@ fn text_of_plan(
     Ok(text)
 }
 
-/// Returns why no pass computes some attributes of a grammar, or one of them.
+/// Returns why no pass computes some attributes of a grammar or, if an attribute is given, why no
+/// pass computes this one. If it is not one of those attributes, the text says so.
 fn text_of_stuck(
     alloc: Global,
     source: Source<'_>,

@@ -87,7 +87,8 @@ fn bodies_answer<D: Device>(alloc: Global, device: &mut D) -> Result<String, Mis
     Err(Mistake::Unfit)
 }
 
-/// Reverses a content into the file of a pass, and returns that file or the fault.
+/// Reverses a content into the file of a pass, and returns that file with its number of records, or
+/// the fault. The content is read as a tree of binary fractions (`Fractions`).
 pub fn turn_answer(alloc: Global, pass: u16, bytes: Vec<u8>) -> Result<String, Mistake> {
     let mut from = MemDevice::from_bytes(bytes);
     let mut to = used_device(alloc)?;
@@ -170,7 +171,8 @@ fn put_bytes(writer: &mut Writer, device: &mut MemDevice, body: &[u8]) -> Result
     put_result(writer.put_body(device, body))
 }
 
-/// Writes a record with its number and its values, which are zero, one or three numbers.
+/// Writes a record with its number and its values, which are zero, one or three numbers. Fails with
+/// `Misspelt` if a word isn't such a number, and as `put_numbers` does.
 fn put_values(
     alloc: Global,
     writer: &mut Writer,
@@ -189,7 +191,8 @@ fn put_values(
     )
 }
 
-/// Writes a record with zero, one or three numbers.
+/// Writes a record with zero, one or three numbers. Fails with `Misspelt` if there is another
+/// number of them, and with `Unfit` if the writer can count no further record.
 fn put_numbers(
     writer: &mut Writer,
     device: &mut MemDevice,

@@ -1,4 +1,5 @@
-//! Answers questions about the texts of expressions.
+//! Answers questions about the texts of expressions. An occurrence in an expression is an attribute
+//! at a place, as `$1.v`.
 
 ghost use Rattle.std.specs.Prelude.{IfOk};
 ghost use Rattle.ag_value.specs.Well.{IsWell};
@@ -86,7 +87,8 @@ fn carry(alloc: Global, expr: &Expr, lent: &Carried) -> Result<Carried, Mistake>
     Ok(eval_carried(alloc, expr, &SameCarried { value: lent }, &mut meter)?)
 }
 
-/// Evaluates an expression `count` times, each time with the previous value as that of all occurrences.
+/// Evaluates an expression `count` times. In the first evaluation all occurrences have the value
+/// `first`, and in each later one the result of the previous evaluation.
 fn grown(alloc: Global, count: u32, expr: &Expr, first: Carried) -> Result<Carried, Mistake>
     requires { IsWell first }
     ensures { IfOk result (λ c. IsWell c) }
@@ -184,7 +186,8 @@ fn show_occurrences(answer: &mut String, expr: &Expr) -> Result<(), AllocError> 
     Ok(())
 }
 
-/// Returns the number of occurrences in a text, and each of them, or the fault of the text.
+/// Returns the number of different occurrences in a text, and each of them, or the fault of the
+/// text.
 pub fn occurrences_answer(alloc: Global, text: &str) -> Result<String, Mistake> {
     match read_expr(alloc, text) {
         Ok(expr) => occurrences_text(alloc, &expr),
@@ -197,7 +200,7 @@ fn count_text(alloc: Global, expr: &Expr) -> Result<String, Mistake> {
     Ok(occurrences(expr).len().to_string(alloc)?)
 }
 
-/// Returns the number of occurrences in a text, or the fault of the text.
+/// Returns the number of different occurrences in a text, or the fault of the text.
 pub fn count_answer(alloc: Global, text: &str) -> Result<String, Mistake> {
     match read_expr(alloc, text) {
         Ok(expr) => count_text(alloc, &expr),

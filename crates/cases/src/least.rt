@@ -9,7 +9,8 @@ use planchecker::check_least;
 use rows::words::{Mistake, halves, parts};
 use std::alloc::{AllocError, Global};
 
-/// Returns the strikes of the passes of a grammar's least assignment, as in a row.
+/// Returns the strikes of the passes of a grammar's least assignment, as in a row. Fails with
+/// `Unfit` if the grammar has no legal assignment.
 pub fn strikes_answer(alloc: Global, grammar: &Grammar) -> Result<String, Mistake> {
     match assign_with_strikes(alloc, grammar) {
         Ok((_, strikes)) => lists_text(alloc, strikes.lists.as_slice()),

@@ -66,7 +66,8 @@ impl Question<'_> {
         self.texts.text_or(self.rest)
     }
 
-    /// Answers a question about the current grammar, or about texts and the current value.
+    /// Answers a question. Fails with `Unfit` if it needs an accepted grammar and the current
+    /// grammar is rejected.
     fn answer(&self, given: &Value) -> Result<String, Mistake> {
         if !self.is_of_grammar() {
             return self.of_texts(given);
@@ -75,7 +76,8 @@ impl Question<'_> {
         self.of_plans(&grammar)
     }
 
-    /// Returns whether the question needs the current grammar, which must be accepted.
+    /// Returns whether the question needs a current grammar that is accepted. The question `check`
+    /// is about a current grammar that may be rejected.
     fn is_of_grammar(&self) -> bool {
         match self.verb {
             "parts" | "listing" | "assign" | "plan" | "stuck" => true,

@@ -1,5 +1,5 @@
-//! Answers a question about a raw grammar with more symbols than a text in a row could declare: whether it is
-//! accepted.
+//! Answers the question whether a raw grammar with a chain of symbols is accepted. The chain is
+//! appended to the raw grammar of a text, so it can have any length.
 
 use crate::grammars::{raw_grammar, verdict};
 use ag_grammar::{Named, RawGrammar, RawItem, RawProduction, RawSymbol};
@@ -71,7 +71,8 @@ fn more_productions(
     Ok(Items::from_vec(productions))
 }
 
-/// Appends `last` symbols to a raw grammar, each of which has the next one on its right side.
+/// Appends `last` symbols to a raw grammar. Each of them, except the last one, has the next one on
+/// its right side.
 fn chain(alloc: Global, raw: RawGrammar, last: u32) -> Result<RawGrammar, Mistake> {
     Ok(RawGrammar {
         start: raw.start,
@@ -81,6 +82,8 @@ fn chain(alloc: Global, raw: RawGrammar, last: u32) -> Result<RawGrammar, Mistak
 }
 
 /// Checks the grammar of S and a chain of `last` symbols. Returns `accepted`, or the first fault.
+/// The test `is_readable` is there only for the contract of `verdict`: it accepts each of these
+/// grammars.
 pub fn chain_answer(alloc: Global, last: u32) -> Result<String, Mistake> {
     let bare = raw_grammar(alloc, "start S; symbol S syn out; S = s1 { $0.out = 0; }")?;
     let raw = chain(alloc, bare, last)?;

@@ -39,7 +39,9 @@ pub fn root_bytes_answer(
     text_answer(alloc, grammar, &plan, &mut file)
 }
 
-/// Runs a pass of a plan and returns its output file.
+/// Runs a pass of a plan and returns its output file. Fails with `Unfit` if the pass fails. The
+/// test of its number is there only for the contract of `run_pass`: the caller runs passes of the
+/// plan.
 fn next_file(
     alloc: Global,
     grammar: &Grammar,

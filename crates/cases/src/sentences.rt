@@ -149,7 +149,8 @@ pub fn parse_answer(alloc: Global, grammar: &Grammar, sentence: &str) -> Result<
     }
 }
 
-/// Parses a sentence over a device whose given call fails. Returns the result and the number of bytes on the device.
+/// Parses a sentence over a device. The row's first word is the number, from 1, of the device's
+/// call that fails. Returns the result and the number of bytes on the device.
 pub fn parse_failing_answer(
     alloc: Global,
     grammar: &Grammar,
@@ -172,14 +173,16 @@ pub fn tree_of(alloc: Global, grammar: &Grammar, sentence: &str) -> Result<MemDe
     }
 }
 
-/// Returns the number of tokens before the one at which a sentence is rejected, and what is expected there.
+/// Returns the number of tokens before the place at which the parser stops, and what is expected
+/// there. If `parse` doesn't fail with P1, nothing is expected.
 pub fn stand_answer(alloc: Global, grammar: &Grammar, sentence: &str) -> Result<String, Mistake> {
     let tokens = tokens_of(alloc, grammar, sentence)?;
     let tables = tables_of(alloc, grammar)?;
     stuck_place_answer(alloc, grammar, &tables, &tokens)
 }
 
-/// Returns the number of tokens before the one at which a parse fails, and what is expected there.
+/// Returns the number of tokens before the place at which a parse stops, and what is expected
+/// there.
 fn stuck_place_answer(
     alloc: Global,
     grammar: &Grammar,

@@ -1,4 +1,7 @@
-//! Answers questions about least assignments, and about certificates that there is none.
+//! Answers questions about least assignments, and about certificates that a grammar has no legal
+//! assignment. A certificate has attributes and strikes. A strike is a reason why a pass of some
+//! direction can't compute an attribute: a rule for this attribute, and an argument of this rule
+//! that is not computed before.
 
 use ag_grammar::Grammar;
 use ag_value::Items;
@@ -32,7 +35,7 @@ fn show_parts(answer: &mut String, stuck: &Stuck) -> Result<(), AllocError> {
     show_strikes(answer, stuck.even.as_slice())
 }
 
-/// Writes a `|`, and after it the strikes of one direction.
+/// Writes a `|`, and after it the strikes for odd passes, or those for even passes.
 fn show_strikes(answer: &mut String, strikes: &[Strike]) -> Result<(), AllocError> {
     answer.push_str(" |")?;
     for strike in strikes {
@@ -58,7 +61,8 @@ fn attribute(word: &str) -> Result<(u16, u16), Mistake> {
     Ok((short_number(symbol)?, short_number(attr)?))
 }
 
-/// Returns the attributes of a certificate, written as `1.0` and separated by spaces.
+/// Returns the attributes of a certificate, written as `1.0` and separated by spaces; `-` alone is
+/// none.
 fn attributes(alloc: Global, text: &str) -> Result<Items<(u16, u16)>, Mistake> {
     let mut set = Vec::new(alloc);
     for word in parts(alloc, text, " ")?.as_slice() {
@@ -92,7 +96,8 @@ pub fn strikes(alloc: Global, text: &str) -> Result<Items<Strike>, Mistake> {
     Ok(Items::from_vec(strikes))
 }
 
-/// Returns the certificate of a text: its attributes, its odd strikes and its even strikes, separated by `|`.
+/// Returns the certificate of a text: its attributes, its strikes for odd passes, and its strikes
+/// for even ones, separated by `|`.
 fn stuck(alloc: Global, spelled: &str) -> Result<Stuck, Mistake> {
     let (set, rest) = halves(spelled, " | ")?;
     let (odd, even) = halves(rest, " | ")?;

@@ -1,4 +1,6 @@
-//! Answers questions about the current value, and about encodings of values.
+//! Answers questions about the current value, and about encodings of values. A value is well if it
+//! is within the limits of depth and weight, its tables have keys in strictly rising order, and no
+//! error is in a list or table.
 
 use crate::expressions::value_of;
 use ag_value::{Items, Text, Value, copy, decode, depth, encode, is_well, same, show, weight};

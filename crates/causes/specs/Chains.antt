@@ -25,8 +25,7 @@ pub record IsNumberFor (rules : List Rule) (target : Target) (number : ℕ) : Ty
   pub there : slice_get rules number ≡ Some rule
   pub gives : rule.target ≡ target
 
--- A rule for a target passes on the error of an argument: with other errors in place of those among the arguments before this
--- one, the rule has the same error; with another error in place of this argument's as well, the rule does not have that error.
+-- A rule for a target passes on the error of an argument, as `IsSource` of `origins` defines it.
 pub record PassesOn (rules : List Rule) (e : Table) (target argument : Target) : Type 0 where
   pub number : ℕ
   pub rule : Rule
@@ -49,7 +48,7 @@ HasNoError rules e target = (number : ℕ) (rule : Rule) → number < 65536 → 
     → rule.target ≡ target
     → fault_of (value_of rule.expr.0 (environment rule e)) ≡ None
 
--- and at a node of the production of a number, with the values of its record
+-- the same at a node of production number p, with the values vs of the node's record
 abbrev pub HasNoErrorAt : Grammar → ℕ → List Value → Target → Type 0
 HasNoErrorAt g p vs target = (q : Production) → IsProduction g p q → HasNoError q.rules (table_of g q vs) target
 
@@ -58,17 +57,18 @@ abbrev pub DoesNext : List Rule → Table → Target → Next → Type 0
 DoesNext rules e target (rule_does.Passes argument) = PassesOn rules e target argument
 DoesNext rules e target (rule_does.Arises number) = Arises rules e target number
 
--- and at a node of the production of a number, with the values of its record
+-- the same at a node of production number p, with the values vs of the node's record
 pub record DoesNextAt (g : Grammar) (p : ℕ) (vs : List Value) (target : Target) (does : Next) : Type 0 where
   pub production : Production
   pub there : IsProduction g p production
   pub next : DoesNext production.rules (table_of g production vs) target does
 
--- What is read at the end of some places from the root: what the rule for a target does at the node there.
+-- A reading: a relation of what the rule for a target does at the node at the end of some places from the root. Contents and
+-- trees have one.
 abbrev pub Reading : Type 1
 Reading = List ℕ → Target → Next → Type 0
 
--- A record of a content, which is that of a node, says what the rule for a target does there.
+-- A content has a record of a node. With the values of this record, the rule for a target of the node's production does this.
 pub record IsInRecord (g : Grammar) (content : List ℕ) (target : Target) (does : Next) : Type 0 where
   pub end : ℕ
   pub body : List ℕ
@@ -78,7 +78,7 @@ pub record IsInRecord (g : Grammar) (content : List ℕ) (target : Target) (does
   pub is_node : IsNode g body production values
   pub next : DoesNextAt g production values target does
 
--- What is read in a content: which of its records is the one of the node at the end of the places is not said.
+-- The reading of a content. It doesn't say which of the content's records is that of the node at the end of the places.
 abbrev pub in_content : Grammar → List ℕ → Reading
 in_content g content places target does = IsInRecord g content target does
 
@@ -107,7 +107,8 @@ Follows R places target there (step.To from) = IsPassedFrom R places target ther
 Follows R places target there (step.Arises number) = (there ≡ places) × R places target (rule_does.Arises number)
 Follows R places target there step.Nothing = Unit {0}
 
--- A chain of n rules that passed an error on, from the rule for a target at a node back to the rule whose error it was.
+-- A chain of n rules that passed an error on. It begins with the rule for a target at a node, and leads to the rule from which
+-- the last of them has the error; if n is 0, this is the first rule itself.
 pub data IsChain (R : Reading) (places : List ℕ) (target : Target) : List ℕ → Target → ℕ → Type 0 where
   itself : IsChain R places target places target 0
   longer : (there : List ℕ) (from : Target) (n : ℕ) (beyond : List ℕ) (next : Target) → IsChain R places target there from n

@@ -1,4 +1,5 @@
--- What is read along the nodes of the index of a file: what the tree has there. All of this is this project's.
+-- What a chain that is followed along the nodes of an index shows of the tree whose file has this index. All of this is this
+-- project's.
 use Rattle.std.specs.Prelude.{ℕ, suc, ◌≡◌, ◌^◌, ◌<◌, ◌≤◌, ◌⊎◌, List, [], ◌∷◌, ◌++◌, map, reverse, Some, None, Ok}
 use Rattle.ag_value.specs.declared.value.Value.{Value}
 use Rattle.ag_grammar.specs.declared.direction.Direction.{Direction}
@@ -30,7 +31,7 @@ pub record IsAtPlaces (d : Direction) (t : Tree) (v : Valuation) (places : List 
   pub there : tree_at (Some t) path ≡ Some tree
   pub occurs : IsSubtreeAt d (nodes_of d t v) number tree (values_at v path)
 
--- so it is in each tree of the grammar that the index has
+-- `IsAtPlaces` holds of each tree of the grammar that the index has
 abbrev pub IsNumberAt : Grammar → TreeIndex → List ℕ → ℕ → Type 0
 IsNumberAt g index places number = (k : ℕ) (t : Tree) (v : Valuation) → HasNodes k t v index → IsTreeOf g t
     → IsAtPlaces (back_from k) t v places number
@@ -55,24 +56,25 @@ AreLed g index (n ∷ ns) = IsNumberAt g index (way (n ∷ ns)) n.node × AreLed
 abbrev pub Leads : Grammar → TreeIndex → List PathNode → Type 0
 Leads g index nodes = AreLed g index (reverse nodes)
 
--- Something is true of each tree and values whose file of the last pass a content is.
+-- P holds of each tree of the grammar and its values, if the content is their file of the last pass of a legal assignment, and
+-- the number of this pass is below 2^16.
 abbrev pub OfEachLast : (Tree → Valuation → Type 0) → Grammar → List ℕ → Type 0
 OfEachLast P g content = (m : Passes) (k : ℕ) (t : Tree) (v : Valuation) → k < 2 ^ 16 → IsLegal g m → IsLastPass k m
     → IsTreeOf g t → IsFileOfTree version_two g m k t v content → P t v
 
--- What is read in a content with an index: a record of the content says what the rule does and, if the index is that of the
--- content, so does each tree whose file the content is.
+-- The reading of a content with an index: the rule does this with the values of a record of the content and, if the index is
+-- that of the content, with those of each tree whose file the content is.
 abbrev pub in_file : Grammar → TreeIndex → List ℕ → Reading
 in_file g index content places target does = IsInRecord g content target does
     × (IsIndexIn g content index → OfEachLast (λ t v. IsInTree g t v places target does) g content)
 
--- A cause that is found along the nodes of a tree: the error of what the first rule computes has it.
+-- A cause is found along the nodes of a tree, and the error of the attribute that the first rule computes has a cause.
 pub record IsCauseOf (g : Grammar) (places : List ℕ) (target : Target) (there : List ℕ) (number n : ℕ) (t : Tree) (v : Valuation)
     : Type 0 where
   pub found : IsCause (in_tree g t v) places target there number n
   pub caused : (path : List ℕ) → places ≡ map suc path → HasCause g t v (place_path path target.place) target.attr
 
--- so it is in each tree whose file a content is, if the index is that of the content
+-- `IsCauseOf` holds of each tree whose file a content is, if the index is that of the content
 abbrev pub IsCauseIn : Grammar → TreeIndex → List ℕ → List ℕ → Target → List ℕ → ℕ → ℕ → Type 0
 IsCauseIn g index content places target there number n = IsIndexIn g content index
     → OfEachLast (IsCauseOf g places target there number n) g content
@@ -89,7 +91,8 @@ pub record IsWithoutRecord (g : Grammar) (index : TreeIndex) (places : List ℕ)
   pub numbered : IsNumberAt g index places number
   pub none : HasNoRecord g index number
 
--- The node has a record there, and with the values in it no rule for a target has an error as its value.
+-- A record of the content ends at the offset that the index has for the node at the end of some places. With the values of this
+-- record no rule for the target has an error as its value.
 pub record IsWithoutError (g : Grammar) (index : TreeIndex) (content places : List ℕ) (target : Target) : Type 0 where
   pub end : ℕ
   pub ends : IsEndAt g index places end
@@ -113,7 +116,7 @@ abbrev pub GoesNowhere : Grammar → TreeIndex → List ℕ → Target → Type 
 GoesNowhere g index places argument = ((argument.place ≡ 0) × (places ≡ []))
     ⊎ ((0 < argument.place) × HasNoChildAt g index places argument.place)
 
--- A rule passes on the error of such an argument.
+-- The rule for a target passes on the error of an argument for which no node has a rule.
 pub record IsPassedFromNowhere (g : Grammar) (index : TreeIndex) (content places : List ℕ) (target : Target) : Type 0 where
   pub argument : Target
   pub passes : in_file g index content places target (rule_does.Passes argument)

@@ -10,8 +10,7 @@ use Rattle.origins.specs.Causes.{HasCause, place_path, tree_at, values_at}
 use Rattle.causes.specs.declared.next_rule.Next.{Next}
 use Rattle.causes.specs.Chains.{DoesNext, IsCause, Reading}
 
--- The node of a tree at the end of some places, which count from 1, says what the rule for a target does there, with the tree's
--- values.
+-- At the node of a tree at the end of some places, which count from 1, the rule for a target does this with the tree's values.
 pub record IsInTree (g : Grammar) (t : Tree) (v : Valuation) (places : List ℕ) (target : Target) (does : Next) : Type 0 where
   pub path : List ℕ
   pub counted : places ≡ map suc path
@@ -22,11 +21,11 @@ pub record IsInTree (g : Grammar) (t : Tree) (v : Valuation) (places : List ℕ)
   pub is : IsProduction g production of
   pub next : DoesNext of.rules (at (values_at v path)) target does
 
--- what is read in a tree with its values
+-- the reading of a tree with its values
 abbrev pub in_tree : Grammar → Tree → Valuation → Reading
 in_tree g t v places target does = IsInTree g t v places target does
 
--- A cause that is found along the nodes of a tree is one: the error of the attribute that the first rule computes has it.
+-- If a cause is found along the nodes of a tree, the error of the attribute that the first rule computes has a cause.
 abbrev pub FoundIsCause : Type 0
 FoundIsCause = (g : Grammar) (t : Tree) (v : Valuation) (path : List ℕ) (target : Target) (there : List ℕ) (number n : ℕ)
     → IsCause (in_tree g t v) (map suc path) target there number n → HasCause g t v (place_path path target.place) target.attr

@@ -34,7 +34,7 @@ abbrev pub ComputesNoError : Grammar → List ℕ → Target → Tree → Valuat
 ComputesNoError g places target t v = node_count t ≤ max_nodes → Solves AnyRule g t v → (path : List ℕ) → places ≡ map suc path
     → HasRule g t path target → fault_of (values_at v (place_path path target.place) [] target.attr) ≡ None
 
--- so it is in each tree whose file a content is, if the grammar is accepted and the index is that of the content
+-- `ComputesNoError` holds of each tree whose file a content is, if the grammar is accepted and the index is that of the content
 abbrev pub ComputesNoErrorIn : Grammar → TreeIndex → List ℕ → List ℕ → Target → Type 0
 ComputesNoErrorIn g index content places target = IsAccepted g → IsIndexIn g content index
     → OfEachLast (ComputesNoError g places target) g content

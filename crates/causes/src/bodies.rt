@@ -9,8 +9,7 @@ use std::alloc::Global;
 use treefile::{Device, FrameFault, read_body};
 
 /// Returns the body of the frame that ends at an offset of a file of version 2. Takes memory for
-/// the body. The `body_before` of `tree_index` does the same, but no clause of it says which body
-/// is returned.
+/// the body. `tree_index` has a `body_before` too, but no clause of it says which body it returns.
 ///
 /// Fails with B2 and the offset if no frame ends there, with D1 if a call of the device fails, and if
 /// memory is refused.
@@ -31,6 +30,7 @@ pub(crate) fn body_before<D: Device>(
         body.append_to(&mut copy)?;
         return Ok(copy);
     }
+    // `read_body` requires an offset within the content
     if device.len()? < end {
         return Err(FrameFault::Damaged(end));
     }

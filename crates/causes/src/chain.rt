@@ -18,7 +18,7 @@ use std::alloc::Global;
 use tree_index::{NodeKind, TreeFault, TreeIndex};
 use treefile::Device;
 
-/// The greatest number of rules in a chain: 16 attributes for each node.
+/// The greatest number of rules of a chain that are followed: 16 attributes for each node.
 const MAX_STEPS: u32 = 16 * MAX_NODES;
 
 /// The cause of an error.
@@ -57,8 +57,9 @@ pub(crate) enum Step {
     To(Target),
     /// The error arises in the rule of this number, at the node at which the chain is.
     Arises(u16),
-    /// The target has no rule, the rule's value is not an error, the argument that passes its error
-    /// on has no rule, or the index has no end of a record of the node.
+    /// The target has no rule, the rule's value is not an error, or the argument that passes its
+    /// error on has no rule. Or the node is a token, is of a production that the grammar does not
+    /// have, or has no end of its record in the index.
     Nothing,
 }
 
@@ -67,14 +68,15 @@ pub(crate) enum Step {
 struct Chain<'a> {
     grammar: &'a Grammar,
     index: &'a TreeIndex,
-    /// The nodes below the root, down to that of the last rule; none if it is a rule of the root.
+    /// The nodes on the way from the root, without the root, to the node at which the chain is.
+    /// Empty if the chain is at the root.
     nodes: Vec<PathNode>,
 }
 
 impl<'a> Chain<'a> {
     /// Reads the record of the node at which the chain is, and returns what the rule for a target does there.
-    /// Returns `None` if the index has no such record, if the node has no such rule, or if the rule's value is
-    /// not an error. Fails with R1 if the record is damaged.
+    /// Returns `None` if `record` does, if the node has no such rule, or if the rule's value is not
+    /// an error. Fails with R1 if the record is damaged, with D1, and with NoMemory.
     fn read_next<D: Device>(
         &self,
         alloc: Global,
@@ -120,8 +122,9 @@ impl<'a> Chain<'a> {
         }
     }
 
-    /// Returns the end of the record of the node at which the chain is, and its item. Returns `None` if it is not
-    /// a node of a production of the grammar, or if the index has no end of its record.
+    /// Returns the end of the record of the node at which the chain is, and the symbol of which the
+    /// node is. Returns `None` if the node is a token or of a production that the grammar does not
+    /// have, or if the index has no end of its record.
     fn record(&self) -> Option<(u64, Item)>
         requires leads { Leads self.now.grammar.now self.now.index.now self.now.nodes.items }
         ensures end { IfSome result (λ parts. IsEndAt self.now.grammar.now self.now.index.now
@@ -219,7 +222,8 @@ impl<'a> Chain<'a> {
         Ok(Some(Target { place: 0, attr }))
     }
 
-    /// Goes to the parent, and returns the target of the rule there for an inherited attribute of the node.
+    /// Goes to the parent, and returns the target of the rule there for an attribute of the node.
+    /// Returns `None` at the root.
     fn go_up(&mut self, attr: u16) -> Option<Target>
         requires leads { Leads self.old.grammar.now self.old.index.now self.old.nodes.items }
         ensures goes { IfSome result (λ target. (target.attr ≡ attr) × (places_of self.old.nodes.items
@@ -287,12 +291,13 @@ impl<'a> Chain<'a> {
 /// on. `device` contains the file of the last pass, and `index` is its index.
 ///
 /// Returns `None` if the places lead to no node, the target has no rule there, or the rule's value
-/// is not an error; and if the chain stops without a cause, or has 16,777,216 rules, 16 for each of
-/// `MAX_NODES` nodes. The last two cases do not occur for the index of the file, in an accepted
-/// grammar, if the file is that of a tree of at most `MAX_NODES` nodes whose values are a solution.
+/// is not an error. Also returns `None` if the chain stops later without a cause, or if 16,777,216
+/// rules passed the error on, 16 for each of `MAX_NODES` nodes. The last two cases do not occur for
+/// the index of the file, in an accepted grammar, if the file is that of a tree of at most
+/// `MAX_NODES` nodes whose values are a solution.
 ///
-/// Fails with R1 if a record on it is damaged, with D1 if a call of the device fails, and if memory is
-/// refused. Reads a record for each rule in the chain.
+/// Fails with R1 if the record of a rule of the chain is damaged, with D1 if a call of the device
+/// fails, and with NoMemory if memory is refused. Reads a record for each rule in the chain.
 pub fn find_cause<D: Device>(
     alloc: Global,
     grammar: &Grammar,
@@ -304,21 +309,22 @@ pub fn find_cause<D: Device>(
     ensures found { IfOk result (λ cause. IfSome cause (λ cause. WhenHonest (D.is_honest device.new)
         (IsCause (in_content grammar.now (D.content device.old)) start.now.places.now
         start.now.target cause.places.items cause.rule cause.steps))) }
-    // If the index is that of the file, each rule is one of the node there, with the values of the tree; so
-    // the error of what the first rule computes has a cause
+    // If the index is that of the content, each rule of the chain is one of its node's production
+    // in each tree of the file, and does the same with the tree's values. So the error of the
+    // attribute that the first rule computes has a cause
     ensures in_tree { IfOk result (λ cause. IfSome cause (λ cause. WhenHonest (D.is_honest device.new)
         (IsCauseIn grammar.now index.now (D.content device.old) start.now.places.now
         start.now.target cause.places.items cause.rule cause.steps))) }
     ensures node { IfOk result (λ cause. IfSome cause (λ cause.
         IsNumberAt grammar.now index.now cause.places.items cause.node)) }
-    // If there is none, the places lead to no node, or the chain of rules that passed an error on from one to the
-    // next stops before a rule in which it arises, or has the greatest number of rules
+    // If no cause is found, the places lead to no node, the chain stops without a rule in which the
+    // error arises, or 16 * MAX_NODES rules passed the error on
     ensures none { IfOk result (λ cause. IfNone cause (WhenHonest (D.is_honest device.new)
         (LeadsNowhere grammar.now index.now start.now.places.now ⊎ StopsAfter grammar.now index.now
         (D.content device.old) start.now.places.now start.now.target (16 * MAX_NODES)))) }
-    // So if the index is that of the content, and the content is the file of a tree of at most
-    // MAX_NODES nodes with values that are a solution, the rule for the target at those places, if
-    // there is one, computes no error
+    // So if the grammar is accepted, the index is that of the content, and the content is the file
+    // of a tree of at most MAX_NODES nodes with values that are a solution, the rule for the target
+    // at the given places, if there is one, computes no error
     ensures complete { IfOk result (λ cause. IfNone cause (WhenHonest (D.is_honest device.new)
         (ComputesNoErrorIn grammar.now index.now (D.content device.old) start.now.places.now
         start.now.target))) }

@@ -64,8 +64,9 @@ fn next_in(alloc: Global, row: &Row<'_>, target: Target) -> Result<Option<Next>,
     Ok(None)
 }
 
-/// Returns what the rule for a target does at a node of the production of a number, with the values of its
-/// record. Returns `None` as `next_in` does, and if the grammar has no such production.
+/// Returns what the rule for a target does at a node of the production `number`, with the values of
+/// the node's record. Returns `None` as `next_in` does, and if the grammar has no such production
+/// (`record_of`, from which the caller has the number, excludes that).
 pub(crate) fn next_at(
     alloc: Global,
     grammar: &Grammar,

@@ -3,7 +3,7 @@
 use ag_grammar::{Direction, Grammar, Item, Production, Terminal};
 use tree_index::{NodeKind, TokenCounts, TreeIndex};
 
-/// Returns the number of literals of a production before a place, which counts from 1.
+/// Returns the number of literals of a production before the child at a place, which counts from 1.
 fn literals_before(production: &Production, place: u16) -> u32 {
     let mut literals = 0u32;
     let mut places = 0u16;
@@ -19,8 +19,9 @@ fn literals_before(production: &Production, place: u16) -> u32 {
     literals
 }
 
-/// Returns the number of tokens of the sentence before the subtree at the end of a path of places; `None` if
-/// no node is there.
+/// Returns the number of tokens of the sentence before the subtree at the end of a path of places.
+/// Returns `None` if no node is there. `grammar` and `counts` have to be those of the index:
+/// otherwise the result may be `None` or a wrong number.
 pub fn tokens_before(
     grammar: &Grammar,
     index: &TreeIndex,
@@ -45,7 +46,8 @@ pub fn tokens_before(
 /// Returns the number of tokens of the subtrees of the children of `node` that come before its child `child` in
 /// the sentence.
 fn tokens_between(index: &TreeIndex, counts: &TokenCounts, node: u32, child: u32) -> Option<u32> {
-    // from its end, the file of an odd pass is read from left to right
+    // the index numbers nodes from the end of the file on: in the file of an odd pass, the numbers
+    // of a node's children rise from left to right
     match Direction::of_pass(index.pass()).turned() {
         Direction::LeftToRight => counts.between(node.checked_add(1)?, child),
         Direction::RightToLeft => counts.between(end_of(index, child)?, end_of(index, node)?),

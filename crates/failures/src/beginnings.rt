@@ -38,7 +38,7 @@ fn value_ending(alloc: Global, out: &mut NarrowWriter) -> Ending {
     Ending::of(show_value(alloc, "14", &mut device, out))
 }
 
-/// Builds a translator, translates the sentence and returns how the call ends.
+/// Builds the translator of binary fractions, translates 1101.01 and returns how the call ends.
 fn translation_ending(alloc: Global, out: &mut NarrowWriter) -> Result<Ending, Mistake> {
     let translator = translator(alloc, FRACTIONS)?;
     Ok(ending_of_translation(alloc, &translator, out))

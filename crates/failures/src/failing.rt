@@ -1,6 +1,7 @@
 //! Devices of which one call fails: first call 1, then call 2, and so on, until a run makes too few
-//! calls to reach the failing one. A run with a failed call must write no
-//! translation, and the next run with the same translator and devices must succeed.
+//! calls to reach the failing one. A run is a call of `translate`, `evaluate_tree` or `upgrade`. A
+//! run with a failed call must write no translation, and the next run with the same translator and
+//! devices must succeed.
 
 use crate::endings::Ending;
 use crate::fractions::{
@@ -35,9 +36,11 @@ enum RunDevice {
     To,
 }
 
-/// Returns whether the first of two runs succeeds. Then the failing call must be one of the second
-/// run. If the first run fails, it must have written nothing, and the second run must succeed.
-/// Fails with `Unfit` in all other cases.
+/// Returns whether the first of two runs succeeds. `first` and `second` are their answers, as
+/// `Ending::answer` returns them. If the first run succeeds, the second one must fail, since the
+/// failing call of the device is then one of its calls. If the first run fails, the second one must
+/// succeed. A run that fails must fail with D1 and write nothing. Fails with `Unfit` in all other
+/// cases.
 fn first_succeeds(first: &str, second: &str) -> Result<bool, Mistake> {
     match (first, second) {
         ("Done \"868352\"", "Device \"\"") => Ok(true),
@@ -110,9 +113,10 @@ fn evaluates_without(
     evaluates_twice(alloc, translator, &mut tree, &mut a, &mut b)
 }
 
-/// Upgrades the old tree twice and returns whether the first run succeeds. Then the second one must
-/// fail. If the first run fails, the second one must succeed. Fails with `Unfit` otherwise, or if
-/// the old tree's device has changed.
+/// Upgrades the old tree twice and returns whether the first run succeeds. One of the two runs must
+/// fail with D1. The other must succeed, and write the same tree in version 2. `kept` is the file
+/// of the old tree. Fails with `Unfit` in all other cases, and if the content of the device `old`
+/// has changed.
 fn upgrades_twice(
     translator: &Translator,
     kept: &[u8],

@@ -1,4 +1,5 @@
-//! Binary fractions: their grammar, a sentence with its tree, and translations over any devices.
+//! Binary fractions: their grammar, and a sentence with its tree. Also functions that build a
+//! translator, translate, evaluate and parse, over devices that the caller chooses.
 
 use crate::endings::Ending;
 use aggen::Translator;
@@ -59,7 +60,8 @@ pub fn translated<D: Device>(
     Ok(ending.answer(alloc, out.as_slice())?)
 }
 
-/// Evaluates a tree over two other devices. Returns how the call ends, and what was written.
+/// Evaluates the tree on the device `tree`, over the devices `a` and `b`. Returns how the call
+/// ends, and what was written.
 pub fn evaluated<D: Device>(
     alloc: Global,
     translator: &Translator,

@@ -33,7 +33,7 @@ enum Lie {
 struct LyingDevice {
     file: MemDevice,
     lie: Lie,
-    /// The number of calls of `len` and `read_at` so far, with the current one.
+    /// The number of calls of `len` and `read_at` so far, including the current one.
     calls: u64,
 }
 
@@ -137,8 +137,9 @@ fn evaluation(alloc: Global, translator: &Translator, lie: Lie) -> Result<String
     evaluated(alloc, translator, &mut tree, &mut a, &mut b)
 }
 
-/// Runs the first pass, and then all passes, over devices that lie. Runs none if the plan has no
-/// pass. The results are not used: the test is that the calls return.
+/// Runs the first pass, and then all passes, over devices that lie. The results are not used: the
+/// test is that the calls return. The `if` is there only for the contracts of the two calls: the
+/// plan of binary fractions has passes.
 fn run_passes(alloc: Global, translator: &Translator, a: &mut LyingDevice, b: &mut LyingDevice) {
     let (grammar, plan) = (translator.grammar(), translator.plan());
     if plan.assignment().passes() == 0 {
@@ -169,8 +170,8 @@ fn upgrade_lying(alloc: Global, translator: &Translator, lie: Lie) -> Result<(),
     Ok(())
 }
 
-/// Makes all calls of a translator over devices that lie. Returns whether the translation and the
-/// evaluation wrote nothing, unless they succeeded or their writer failed.
+/// Runs passes, `upgrade`, `translate` and `evaluate_tree` over devices that lie. Returns whether
+/// the translation and the evaluation wrote nothing, unless they succeeded or their writer failed.
 fn leave_no_output(alloc: Global, translator: &Translator, lie: Lie) -> Result<bool, Mistake> {
     run_lying_passes(alloc, translator, lie)?;
     upgrade_lying(alloc, translator, lie)?;
@@ -206,7 +207,7 @@ pub fn lie_turn_answer(alloc: Global, word: &str) -> Result<String, Mistake> {
 }
 
 /// Returns the number of bodies that a `Back`, which reads a file from its end, returns in at most
-/// 1,000 calls. Fails with `Unfit` if it rejects the device at once.
+/// 1,000 calls. Fails with `Unfit` if `Back::start` rejects the device.
 fn count_bodies(alloc: Global, device: &mut LyingDevice) -> Result<u64, Mistake> {
     let Ok(mut back) = Back::start(alloc, device) else {
         return Err(Mistake::Unfit);
@@ -219,8 +220,10 @@ fn count_bodies(alloc: Global, device: &mut LyingDevice) -> Result<u64, Mistake>
     Ok(back.records())
 }
 
-/// Returns whether a `Back` returns at most 16 bodies, which is the number of frames in the 118
-/// bytes of the file. Fails with `Misspelt` if the word names no lie.
+/// Reads the tree's file from its end with a `Back`, over a device with the lie that a word names.
+/// Returns whether the `Back` returns at most 16 bodies, which is the number of frames in the 118
+/// bytes of the file. Fails with `Misspelt` if the word names no lie, and with `Unfit` as
+/// `count_bodies` does.
 pub fn lie_back_answer(alloc: Global, word: &str) -> Result<String, Mistake> {
     let mut device = lying_device(alloc, FRACTION_TREE, lie_named(word)?)?;
     let lent = count_bodies(alloc, &mut device)?;

@@ -5,7 +5,8 @@ use ag_text::Expected;
 use message_parts::display::END;
 use std::alloc::AllocError;
 
-/// Returns the separator after an item of a list, by the number of items that remain.
+/// Returns the separator between an item of a list and the next item. `remaining` is the number of
+/// items from the next one on. If it is 0, the separator is empty.
 pub fn separator_before(remaining: usize) -> &'static str {
     match remaining {
         0 => "",

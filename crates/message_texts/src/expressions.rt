@@ -14,7 +14,8 @@ use std::alloc::{AllocError, Global};
 /// What is wrong with a name where an operand is expected.
 const UNBOUND: &str = ", a name that no `let` binds here";
 
-/// What is wrong with an occurrence in an expression that is not in a grammar.
+/// What is wrong with an occurrence (an attribute such as `$1.sum`) in an expression that is not in
+/// a grammar.
 const NO_VALUE: &str = ", but attributes have values only in a grammar";
 
 /// Returns the location of a fault of an expression: a line and a column if its text has several lines, and
@@ -62,7 +63,7 @@ pub fn offset_in(fault: ExprFault) -> Option<usize> {
     }
 }
 
-/// Describes a fault of an expression that could go on with `expected`.
+/// Describes a fault of an expression. `expected` is what could be at its offset.
 pub fn describe_fault(
     parts: &mut Parts,
     fault: ExprFault,
@@ -112,8 +113,9 @@ fn describe_depth(parts: &mut Parts) -> Result<(), AllocError> {
         .push_str("compute a part of it in another attribute")
 }
 
-/// Describes a token that an expression does not go on with, and what it could go on with, or what is
-/// wrong with the name or the occurrence.
+/// Describes X2: the token that was found, what could be there instead (`expected`), and a hint.
+/// For a name that no `let` binds, and for an occurrence outside a grammar, describes what is wrong
+/// with it in place of what could be there.
 fn describe_unexpected(
     parts: &mut Parts,
     context: &Context<'_>,
@@ -124,8 +126,8 @@ fn describe_unexpected(
     parts.help.push_str(context.expression_hint(expected))
 }
 
-/// Describes what an expression could go on with, or what is wrong with the name or the occurrence that was
-/// found there.
+/// Describes what could be in place of the token that was found. If that token is a name that no
+/// `let` binds, or an occurrence outside a grammar, describes instead what is wrong with it.
 fn describe_expected(
     parts: &mut Parts,
     context: &Context<'_>,

@@ -2,9 +2,9 @@
 
 use ag_expr::{Cursor, ExprFault, refusal};
 
-/// Returns the token at an offset in bytes. If no token begins there, returns what looks like a number or an
-/// occurrence, such as a number that is too large, or else the characters up to the next separator, at least one.
-/// None at the text's end.
+/// Returns the token at an offset in bytes. If no token begins there, returns what looks like a
+/// number or an occurrence (an attribute such as `$1.sum`), for example a number that is too large,
+/// or else the characters up to the next separator, at least one. None at the text's end.
 pub fn found_at(text: &str, at: usize) -> Option<&str> {
     let rest = text.get(at..)?;
     let mut cursor = Cursor::new(rest);
@@ -18,8 +18,8 @@ pub fn found_at(text: &str, at: usize) -> Option<&str> {
     Some(rest.get(..cursor.offset()).unwrap_or(rest).trim_end())
 }
 
-/// Returns the digits with which a text begins; if it begins with a `$`, returns that with the letters, digits, `.` and
-/// `_` after it. None if there is no digit among these.
+/// Returns the digits with which a text begins; if it begins with a `$`, returns the `$` with the
+/// letters, digits, `.` and `_` after it. None if there is no digit among these.
 fn leading_number(text: &str) -> Option<&str> {
     let is_occurrence = text.starts_with('$');
     let mut has_digits = false;

@@ -1,4 +1,5 @@
-//! A grammar's text, read again for a message: a fault has offsets and numbers, and its message names.
+//! A grammar's text, read again for a message: the message prints names, and most faults have only
+//! offsets and numbers.
 
 use ag_grammar::{Grammar, RawGrammar};
 use ag_text::read_grammar;
@@ -13,9 +14,10 @@ pub struct GrammarText<'a> {
     pub alloc: Global,
     /// The text, and its file.
     pub source: Source<'a>,
-    /// The longest prefix of it that is UTF-8.
+    /// The longest prefix of the source's bytes that is UTF-8.
     pub text: &'a str,
-    /// The grammar that the text reads as. None if it reads as none, or memory is refused.
+    /// The grammar that the text reads as. None if the text reads as no grammar, or memory is
+    /// refused.
     pub raw: Option<RawGrammar>,
 }
 
@@ -39,6 +41,8 @@ impl<'a> GrammarText<'a> {
     /// no accepted grammar, or memory is refused.
     pub fn numbered(&self) -> Option<Grammar> {
         let raw = read_grammar(self.alloc, self.source.bytes).ok()?;
+        // Every grammar that was read from a text is readable. The test is for the `requires` of
+        // `check`.
         if !is_readable(&raw) {
             return None;
         }

@@ -35,7 +35,7 @@ const SIGN: &str = "`-a` is written `(0 - a)`";
 /// What helps at a quote that begins no text.
 const TEXT: &str = "a text ends with a quote and has only the escapes \\\" \\\\ \\n \\t \\r";
 
-/// What helps at a `$` that begins no occurrence.
+/// What helps at a `$` that begins no occurrence (an attribute such as `$1.sum`).
 const OCCURRENCE: &str =
     "an attribute is written `$`, place, `.`, name, without spaces, as in `$1.s`";
 

@@ -37,7 +37,7 @@ pub fn write_aheads(
     write_rest(out, remaining)
 }
 
-/// Writes the number of terminals that are not named, if there are any.
+/// Writes the number of items of a list that are not named, if there are any.
 fn write_rest(out: &mut String, remaining: usize) -> Result<(), AllocError> {
     match remaining {
         0 => Ok(()),

@@ -22,7 +22,7 @@ location_text location.Whole file = []
 location_text location.InFault file = []
 location_text (location.At position) file = place_text file position
 
--- the separator before the first part: a colon, left out for a fault in the whole of its input
+-- the separator before the first part: a colon and a space, or only a space for a fault in the whole of its input
 abbrev pub first_separator : Location → List ℕ
 first_separator location.Whole = codes " "
 first_separator location.InFault = codes ": "
@@ -32,7 +32,8 @@ first_separator (location.At position) = codes ": "
 abbrev pub part_text : List ℕ → List ℕ → List ℕ
 part_text separator part = if length part == 0 then [] else separator ++ part
 
--- the separator before the next part, from the one before `part`: if `part` is empty, the next part has its separator
+-- The separator before the part that comes after `part`: a comma and a space. If `part` is empty, it isn't printed, and the
+-- result is `separator`, the one before `part`.
 abbrev pub next_separator : List ℕ → List ℕ → List ℕ
 next_separator separator part = if length part == 0 then separator else codes ", "
 
@@ -43,7 +44,7 @@ three_parts separator first second third =
     ++ part_text (next_separator separator first) second
     ++ part_text (next_separator (next_separator separator first) second) third
 
--- what was expected, what was found, and what to do
+-- the parts that are not empty: what was expected, what was found, and what to do; `separator` is before the first of them
 abbrev pub parts_text : List ℕ → Parts → List ℕ
 parts_text separator parts =
     three_parts separator (string_bytes parts.expected) (string_bytes parts.found) (string_bytes parts.help)

@@ -101,8 +101,8 @@ fn write_part<W: fmt::Write>(f: &mut fmt::Formatter<W>, separator: &str, part: &
     write!(f, "{separator}{part}")
 }
 
-/// Returns the separator before the next part, from the one before `part`: if `part` is empty, it
-/// is left out, and the next part has its separator.
+/// Returns the separator before the part that comes after `part`: a comma and a space. If `part` is
+/// empty, it isn't printed, and the result is `separator`, the one before `part`.
 fn next_separator<'a>(separator: &'a str, part: &str) -> &'a str
     ensures { result.now ≡ next_separator separator.now part.now }
 {

@@ -4,8 +4,8 @@
 //! Each kind of input has a call that makes the report of a fault: `of_expression`, `of_grammar`,
 //! `of_sentence`, `of_tree`, `of_old_tree`. `of_file` makes the report of a fault of a file or of
 //! its content, and `new` that of a fault alone. All but `new` take memory. If memory is refused,
-//! the report leaves out what needs it. Control characters, invisible characters and unusual spaces
-//! are written as escapes, such as `\u{1b}`.
+//! the report leaves out what needs it. Control characters, white space other than the plain space,
+//! and some invisible characters are written as escapes, such as `\u{1b}`.
 #![tactic(auto)]
 
 mod display;

@@ -21,7 +21,7 @@ use pass_rows::RunFault;
 use std::alloc::{AllocError, Global};
 use treefile::{Device, FileVersion};
 
-/// The names of an old tree file and of the file that it is converted to.
+/// The names of an old tree file (one of version 1) and of the file that it is converted to.
 #[derive(Clone, Copy)]
 pub struct ConvertedPaths<'a> {
     pub old: &'a str,
@@ -29,8 +29,8 @@ pub struct ConvertedPaths<'a> {
 }
 
 impl FaultReport {
-    /// Returns the report of a fault of the file at `path`, or of its content. It names the file if the fault is
-    /// F1 or D1, or one of the tree in it: R1, P2 or P3.
+    /// Returns the report of a fault of the file at `path`, or of its content. The report names the
+    /// file if the fault is F1 or D1, or one of the tree in the file: R1, P2 or P3.
     pub fn of_file(alloc: Global, fault: Fault, path: &str) -> FaultReport {
         let is_named = matches!(fault, Fault::File | Fault::Device | Fault::Run(_));
         let report = FaultReport::new(alloc, fault);
@@ -54,7 +54,8 @@ impl FaultReport {
         report.or_bare(written)
     }
 
-    /// Returns the report of a fault of the text of a grammar, which is read again.
+    /// Returns the report of a fault of the text of a grammar. Reads the text again, for the names
+    /// and positions in the message.
     pub fn of_grammar(alloc: Global, fault: Fault, source: Source<'_>) -> FaultReport {
         let text = GrammarText::new(alloc, source);
         let location = locate_fault_of_grammar(&fault, &text);
@@ -63,8 +64,8 @@ impl FaultReport {
         report.or_bare(written)
     }
 
-    /// Returns the report of a fault of a sentence, which is scanned again, or of its translation. `tables` are
-    /// the parse tables of the grammar.
+    /// Returns the report of a fault of a sentence, or of its translation. Scans the sentence again
+    /// if the fault is P1. `tables` are the look-ahead tables of the grammar.
     pub fn of_sentence(
         alloc: Global,
         fault: Fault,
@@ -92,8 +93,8 @@ impl FaultReport {
         report.or_bare(written)
     }
 
-    /// Returns the report of a fault of the tree in the file of this name, which is read again, or of its
-    /// translation.
+    /// Returns the report of a fault of the tree in the file of this name, or of the translation of
+    /// this tree. Reads the file again, from the device `tree`, if a record is damaged (R1).
     pub fn of_tree<D: Device>(
         alloc: Global,
         fault: Fault,
@@ -103,7 +104,7 @@ impl FaultReport {
     ) -> FaultReport
         ensures content { LeavesContent (D.is_honest tree.new)
             (D.content tree.old) (D.content tree.new) }
-        // the last argument is ⊥, since a report does not say whether a call of the device failed
+        // the last argument, `failed`, is ⊥: a report does not say that a call of the device failed
         ensures persists { Persists (D.is_honest tree.old) (D.is_honest tree.new)
             (D.failures tree.old) (D.failures tree.new) ⊥ }
     {
@@ -114,10 +115,10 @@ impl FaultReport {
         FaultReport::of_file(alloc, fault, path).with_tree(alloc, format, tree)
     }
 
-    /// Returns the report of a fault of converting the tree in an old file, which is read again. It
-    /// names the old file if that one is damaged or its tree exceeds a limit, or if the fault is D1
-    /// and the old file's device fails again. It names the new file after F1, and after any other
-    /// D1.
+    /// Returns the report of a fault of converting the tree in an old file. Reads the old file
+    /// again, from the device `old`, if a record is damaged (R1). The report names the old file if
+    /// that one is damaged or its tree exceeds a limit, or if the fault is D1 and a call of `len`
+    /// on `old` fails. It names the new file after F1, and after any other D1.
     pub fn of_old_tree<D: Device>(
         alloc: Global,
         fault: Fault,
@@ -127,7 +128,7 @@ impl FaultReport {
     ) -> FaultReport
         ensures content { LeavesContent (D.is_honest old.new)
             (D.content old.old) (D.content old.new) }
-        // the last argument is ⊥, since a report does not say whether a call of the device failed
+        // the last argument, `failed`, is ⊥: a report does not say that a call of the device failed
         ensures persists { Persists (D.is_honest old.old) (D.is_honest old.new)
             (D.failures old.old) (D.failures old.new) ⊥ }
     {
@@ -144,7 +145,8 @@ impl FaultReport {
         FaultReport::of_file(alloc, fault, path).with_tree(alloc, format, old)
     }
 
-    /// Returns the report with what is wrong with the tree in a file, or with its translation.
+    /// Returns the report with parts that say what is wrong with the tree in a file, or with the
+    /// translation of this tree. After P2 and P3 of the file, the location is the whole file.
     fn with_tree<D: Device>(
         mut self,
         alloc: Global,

@@ -37,7 +37,7 @@ impl FaultReport {
     }
 
     /// Returns the report with its location in a text, and with the name of the file if the location is a
-    /// position. Takes memory; if that is refused, the name is left out.
+    /// position. Takes memory for the name; if that is refused, the name is left out.
     pub fn with_location(mut self, alloc: Global, location: Location, name: &str) -> FaultReport {
         self.location = location;
         match location {

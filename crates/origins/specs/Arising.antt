@@ -37,12 +37,13 @@ is_same_error (Some c) (Some d) = nat_eq (number_of c) (number_of d)
 unfoldable pub arises : Node → (ℕ → Value) → Bool
 arises e env = is_same_error (fault_of (value_of e env)) (fault_of (value_of e (λ k. exchanged (env k))))
 
--- the value of what an occurrence stands for; if it stands for nothing, the number 0, which doesn't matter
+-- The value of the argument that an occurrence refers to. An occurrence without an argument has the number 0; a rule of an
+-- accepted grammar has no such occurrence.
 abbrev pub value_at : Table → Option Target → Value
 value_at e None = Num (pos 0)
 value_at e (Some o) = e o.place o.attr
 
--- an environment that gives each occurrence of a rule the value of what it stands for
+-- the environment in which each occurrence of a rule has the value of the argument that it refers to
 abbrev pub environment : Rule → Table → ℕ → Value
 environment r e k = value_at e (slice_get r.args k)
 

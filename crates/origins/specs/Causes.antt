@@ -22,23 +22,24 @@ abbrev pub place_path : List ℕ → ℕ → List ℕ
 place_path path zero = path
 place_path path (suc i) = path ++ i ∷ []
 
--- the values with other errors in place of those among the first n arguments
+-- the values of a rule's arguments, with the errors among the first n exchanged
 abbrev pub exchanged_below : ℕ → (ℕ → Value) → ℕ → Value
 exchanged_below n env k = if nat_lt k n then exchanged (env k) else env k
 
--- a rule has the same error with other errors in the place of those among its first n arguments
+-- a rule has the same error with the errors among its first n arguments exchanged
 unfoldable pub is_still : Rule → Table → ℕ → Bool
 is_still r e n =
     is_same_error (fault_of (value_of r.expr.0 (environment r e)))
     (fault_of (value_of r.expr.0 (exchanged_below n (environment r e))))
 
--- Argument k (counted from 0) passes its error on to a rule. If the errors among the arguments before k are replaced by others,
--- the rule has the same error. If the error of argument k is replaced as well, the rule does not have this error.
+-- Argument k (counted from 0) passes its error on to a rule. With the errors among the arguments before k exchanged, the rule
+-- has the same error. With the error of argument k exchanged as well, the rule does not have this error.
 pub record IsSource (r : Rule) (e : Table) (k : ℕ) : Type 0 where
   pub before : is_still r e k ≡ true
   pub after : is_still r e (suc k) ≡ false
 
--- The source of a rule's error: the argument that passes it on; none if the rule has no error, or one arises in it.
+-- `Some`: this argument passes its error on to the rule. `None`: the rule's value is not an error, or an error arises in the
+-- rule.
 abbrev pub AnswersSource : Rule → Table → Option Target → Type 0
 AnswersSource r e None = (fault_of (value_of r.expr.0 (environment r e)) ≡ None) ⊎ (is_arising e r ≡ true)
 AnswersSource r e (Some o) = (k : ℕ) × (slice_get r.args k ≡ Some o) × IsSource r e k

@@ -1,4 +1,4 @@
--- Which fault follows from the fault of a part. This project's.
+-- The fault of this crate for each fault of a function that it calls. This project's.
 use Rattle.ag_value.specs.declared.fault.ValueFault.{ValueFault}
 use Rattle.ag_value.specs.declared.fault.ValueFault.TheVariants as value_fault
 use Rattle.treefile.specs.declared.reading.FrameFault.{FrameFault}

@@ -62,7 +62,7 @@ Spells v known.Nothing = Unit {0}
 pub record IsKnown (base : ℕ → Value) (e : Node) (r : Known) : Type 0 where
   pub holds : (env : ℕ → Value) (bound : List Value) → AreAlike base env → Holds env r (value_in e env bound)
 
--- What is known of a chain follows from what is known of its value before some operands.
+-- In a chain of operators, if a is known of the value of the operands before `others`, then r is known of the chain's value.
 pub record Continues (base : ℕ → Value) (a : Known) (others : List (Operator × Node)) (r : Known) : Type 0 where
   pub holds : (env : ℕ → Value) (bound : List Value) (v : Value) → AreAlike base env → Holds env a v
       → Holds env r (chain_value env bound v (map (λ p. (p.0, value_in p.1)) others))

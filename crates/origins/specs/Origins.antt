@@ -56,12 +56,13 @@ IsFirst g t v None = (path : List ℕ) → HasOrigin g path (Some t) v → ⊥
 IsFirst g t v (Some path) =
     HasOrigin g path (Some t) v × ((other : List ℕ) → HasOrigin g other (Some t) v → is_before other path ≡ false)
 
--- the origins of a tree
+-- the first origin of a tree, if there is one, and the number of rules of the tree in which an error arises
 pub record AreOrigins (g : Grammar) (t : Tree) (v : Valuation) (first : Option (List ℕ)) (count : ℕ) : Type 0 where
   pub leads : IsFirst g t v first
   pub counted : count ≡ origin_count g t v
 
--- the origins in a content: those of each tree and values whose file of the last pass it is
+-- The same of each tree and its values, if the content is their file of the last pass of a legal assignment, and the number of
+-- this pass is below 2^16.
 abbrev pub AreOriginsIn : Grammar → List ℕ → Option (List ℕ) → ℕ → Type 0
 AreOriginsIn g content first count = (m : Passes) (k : ℕ) (t : Tree) (v : Valuation) → k < 2 ^ 16 → IsLegal g m → IsLastPass k m
     → IsTreeOf g t → IsFileOfTree version_two g m k t v content → AreOrigins g t v first count

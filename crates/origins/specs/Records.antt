@@ -1,4 +1,4 @@
--- What the body of a record of the last file is. All of this is this project's.
+-- What the body of a record of the file of the last pass is. All of this is this project's.
 use Rattle.std.specs.Prelude.{ℕ, ◌≡◌, List, All}
 use Rattle.ag_value.specs.declared.value.Value.{Value}
 use Rattle.ag_value.specs.Well.{IsWell}
@@ -16,7 +16,7 @@ pub record IsNode (g : Grammar) (body : List ℕ) (p : ℕ) (vs : List Value) : 
   pub well : All IsWell vs
   pub same : body ≡ body_of Node p vs
 
--- and that of a token
+-- a body is the record of a token, of any class and with any bytes as its text
 pub record IsTokenBody (body : List ℕ) : Type 0 where
   pub class : ℕ
   pub spelling : List ℕ

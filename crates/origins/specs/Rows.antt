@@ -47,8 +47,8 @@ abbrev pub argument : Grammar → Production → List Value → Value → Option
 argument g q vs spare None = spare
 argument g q vs spare (Some o) = get_or vs (slot g q o) spare
 
--- The values at the places of a node that a rule may use, by its record: those of the left side, and the synthesized ones of
--- the children. An inherited attribute of a child, which no rule of the node may use, has some value here. If the list is too
--- short, the value is 0.
+-- The values at the places of a node that a rule may use, by the values of the node's record: those of the left side, and the
+-- synthesized ones of the children. An inherited attribute of a child, which no rule of the node may use, has some value here.
+-- If the list is too short, the value is 0.
 abbrev pub table_of : Grammar → Production → List Value → Table
 table_of g q vs j a = get_or vs (start g q j + a) (Num (pos 0))

@@ -1,4 +1,4 @@
--- A walk over the file of the last pass from its end: what was met, and what is still to come. All of this is this project's.
+-- A walk over the file of the last pass from its end: what was read, and what is still to come. All of this is this project's.
 use Rattle.std.specs.Prelude.{ℕ, zero, suc, ◌≡◌, ◌+◌, ◌-◌, ◌^◌, ◌<◌, ◌≤◌, ◌⊎◌, Bool, false, List, [], ◌∷◌, ◌++◌, Option, Some}
 use Rattle.std.specs.Prelude.{None, Ok, drop, reverse, length, if◌then◌else◌}
 use Rattle.std.specs.List.{flat_map}
@@ -55,12 +55,12 @@ upcoming d o f = drop o.visited (in_order d (kids 0 f.trees f.values))
 abbrev pub last_of : Direction → Open → ℕ
 last_of d o = nth d o.children (o.visited - 1)
 
--- the path of the node that is read below open nodes, the innermost of which comes first
+-- The path from the root to the child that was visited last of the innermost open node. The list begins with the innermost one.
 abbrev pub way : Direction → List Open → List ℕ
 way d [] = []
 way d (o ∷ os) = way d os ++ last_of d o ∷ []
 
--- the records of a child's tree, and those that are to come below open nodes
+-- the bodies of records, in the order of the walk: of a child's tree, and of the unvisited children of all open nodes
 abbrev pub bodies_of_kid : Grammar → Passes → ℕ → Direction → Kid → List (List ℕ)
 bodies_of_kid g m k d kid = prefix d (bodies_of version_two g m k kid.tree kid.values)
 
@@ -74,6 +74,7 @@ abbrev pub count_in : Grammar → List Kid → ℕ
 count_in g [] = 0
 count_in g (kid ∷ others) = origin_count g kid.tree kid.values + count_in g others
 
+-- the same number, for the unvisited children of all open nodes
 abbrev pub pending_count : Grammar → Direction → List Open → List Family → ℕ
 pending_count g d [] fs = 0
 pending_count g d (o ∷ os) [] = 0
@@ -92,7 +93,8 @@ ArePending g d (o ∷ os) [] path = ⊥
 ArePending g d (o ∷ os) (f ∷ fs) path =
     ((deeper : List ℕ) × (path ≡ way d os ++ deeper) × OccursIn g (upcoming d o f) deeper) ⊎ ArePending g d os fs path
 
--- Open nodes are of their productions, and their children are trees of the items.
+-- Each open node is of its production, and its children are trees of the items. Their leaves have their texts, and the
+-- values of their attributes up to pass k are well.
 abbrev pub AreOpen : Grammar → Passes → ℕ → List Open → List Family → Type 0
 AreOpen g m k [] [] = Unit {0}
 AreOpen g m k [] (f ∷ fs) = ⊥
@@ -102,14 +104,15 @@ AreOpen g m k (o ∷ os) (f ∷ fs) =
     × SolvesAll NoRule g f.trees f.values × AtEachNodeOf (WellAt (λ p. p ≤ k)) g m f.trees f.values f.values
     × (o.children ≡ length (stored_items q.items)) × AreOpen g m k os fs
 
--- An origin was found, and `path` does not come before the first one that was found, the argument of type `Option`
+-- The argument is `Some` of the path of an origin, and `path` does not come before it.
 abbrev pub IsNotBefore : Option (List ℕ) → List ℕ → Type 0
 IsNotBefore None path = ⊥
 IsNotBefore (Some first) path = is_before path first ≡ false
 
--- The walk over a tree has come so far. The rules that were counted and those to come are all rules of the tree in which an error
--- arises. The first origin that was found, and those to come, are origins of the tree. Each origin of the tree is to come, or
--- does not come before the first one that was found.
+-- What is true between two steps of the walk over a tree. Left to read are the records of the subtrees of all unvisited children
+-- of open nodes. The rules that were counted and those to come are all rules of the tree in which an error arises. The first
+-- origin that was found, and those to come, are origins of the tree. Each origin of the tree is to come, or does not come before
+-- the first one that was found.
 pub record IsSoFar (g : Grammar) (m : Passes) (k : ℕ) (d : Direction) (t : Tree) (v : Valuation) (content : List ℕ) (at : ℕ)
     (open_nodes : List Open) (first : Option (List ℕ)) (count : ℕ) : Type 0 where
   pub families : List Family
@@ -120,7 +123,7 @@ pub record IsSoFar (g : Grammar) (m : Passes) (k : ℕ) (d : Direction) (t : Tre
   pub pending : (path : List ℕ) → ArePending g d open_nodes families path → HasOrigin g path (Some t) v
   pub all : (path : List ℕ) → HasOrigin g path (Some t) v → ArePending g d open_nodes families path ⊎ IsNotBefore first path
 
--- The walk comes to the tree of an item next, below open nodes.
+-- The tree of an item is read next, below open nodes. The other facts are as in `IsSoFar`.
 pub record IsPending (g : Grammar) (m : Passes) (k : ℕ) (d : Direction) (t : Tree) (v : Valuation) (content : List ℕ) (at : ℕ)
     (x : Item) (open_nodes : List Open) (first : Option (List ℕ)) (count : ℕ) : Type 0 where
   pub tree : Tree
@@ -144,10 +147,12 @@ abbrev pub OfEach : (Passes → ℕ → Tree → Valuation → Type 0) → Gramm
 OfEach P g content = (m : Passes) (k : ℕ) (t : Tree) (v : Valuation) → k < 2 ^ 16 → IsLegal g m → IsLastPass k m → IsTreeOf g t
     → IsFileOfTree version_two g m k t v content → P m k t v
 
+-- `IsSoFar` for each tree whose file of the last pass the content is
 abbrev pub HasComeTo : Grammar → Direction → List ℕ → ℕ → List Open → Option (List ℕ) → ℕ → Type 0
 HasComeTo g d content at open_nodes first count =
     OfEach (λ m k t v. IsSoFar g m k d t v content at open_nodes first count) g content
 
+-- `IsPending` for each such tree
 abbrev pub IsNextRecord : Grammar → Direction → List ℕ → ℕ → Item → List Open → Option (List ℕ) → ℕ → Type 0
 IsNextRecord g d content at x open_nodes first count =
     OfEach (λ m k t v. IsPending g m k d t v content at x open_nodes first count) g content
@@ -165,7 +170,7 @@ pub record HasFetched (g : Grammar) (honest : Bool) (content : List ℕ) (old ne
   pub is : IsRecord g body r
   pub now : new.progress.at ≡ before_frame old.progress.at body
 
--- of two paths, the one that comes first; the second one if the first one is `None`
+-- the one of two paths whose node comes before the other's in the order of the sentence; `path` if the option is `None`
 abbrev pub earlier : Option (List ℕ) → List ℕ → List ℕ
 earlier None path = path
 earlier (Some first) path = if is_before path first then path else first

@@ -92,10 +92,11 @@ impl<'a> Row<'a> {
     }
 
     /// Returns whether an error arises in a rule at the node: the rule's value is an error, and
-    /// is the same error with every error among the rule's arguments exchanged: divide in place of
-    /// overflow, and overflow in place of every other error.
-    /// Evaluates the rule, and a second time if its value is an error; a rule that only copies an
-    /// argument is not evaluated. Requires an argument for each occurrence of the rule's
+    /// is the same error with every error among the rule's arguments exchanged (divide in place of
+    /// overflow, and overflow in place of every other error).
+    ///
+    /// Evaluates the rule, and a second time if its value is an error. A rule that only copies an
+    /// argument is not evaluated. Requires an argument for each different occurrence of the rule's
     /// expression. Fails with NoMemory if memory is refused.
     pub fn is_arising(&self, alloc: Global, rule: &Rule) -> Result<bool, NoMemory>
         requires arguments { length rule.now.args ≡ length rule.now.expr.1 }
@@ -193,7 +194,7 @@ impl<'a> Row<'a> {
     }
 
     /// Returns the argument with this number, from 0, whose error is known to be the value of the
-    /// rule. Returns `None` if the rule has no such argument.
+    /// rule. The rule has such an argument, so `None` is never returned.
     fn known_source(&self, rule: &Rule, number: usize) -> Option<Target>
         requires { IsKnown (environment rule.now (table_of self.now.grammar.now
             self.now.production.now self.now.values.now)) rule.now.expr.0 (Known.ErrorOf number) }
@@ -208,8 +209,8 @@ impl<'a> Row<'a> {
     }
 
     /// Returns the argument that passes its error on to a rule. Returns `None` if the rule's value
-    /// is not an error, or the error arises in the rule. Requires an argument for each occurrence
-    /// of the rule's expression. Fails with NoMemory if memory is refused.
+    /// is not an error, or the error arises in the rule. Requires an argument for each different
+    /// occurrence of the rule's expression. Fails with NoMemory if memory is refused.
     ///
     /// Evaluates nothing if the result is known without an evaluation: for example if the rule
     /// copies an argument, or adds an argument that is an error to a number. Otherwise evaluates

@@ -11,7 +11,7 @@ use treefile::FrameFault;
 /// Why a record was not read.
 #[derive(Clone, Copy, Debug, PartialEq, Eq)]
 pub enum DecodeFault {
-    /// The body is not a record of the expected item.
+    /// The body is not a record of the item that `record_of` got.
     Damaged,
     /// Memory was refused.
     NoMemory,

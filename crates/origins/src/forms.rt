@@ -100,7 +100,7 @@ impl<'a> Row<'a> {
         unary_known(UnaryCall::Number, self.known_of(rule, part))
     }
 
-    /// Returns what is known of the argument of an index.
+    /// Returns what is known of the argument with this index, from 0.
     #[tactic(auto, using(crate::proofs::Knowing::operands))]
     fn argument_known(&self, rule: &Rule, number: usize) -> Known
         ensures { IsKnown (environment rule.now (table_of self.now.grammar.now
@@ -112,7 +112,7 @@ impl<'a> Row<'a> {
         }
     }
 
-    /// Returns the number that the argument of an index spells, if the argument is a text that
+    /// Returns the number that the argument with this index spells, if the argument is a text that
     /// spells one, and otherwise that nothing is known.
     #[tactic(auto, using(crate::proofs::Knowing::known_parsed))]
     fn argument_parsed(&self, rule: &Rule, number: usize) -> Known
@@ -125,7 +125,8 @@ impl<'a> Row<'a> {
         }
     }
 
-    /// Lends the value of the argument of an index. Returns `None` if the record does not have it.
+    /// Lends the value of the argument with this index. Returns `None` if the rule does not have
+    /// the argument, or the record does not have its value.
     fn lend_argument(&self, rule: &Rule, number: usize) -> Option<&Value>
         ensures { IfSome result (λ value. value.now ≡ environment rule.now (table_of
             self.now.grammar.now self.now.production.now self.now.values.now) number) }
@@ -171,7 +172,7 @@ fn parsed(value: &Value) -> Known
 fn spelled_number(text: &str) -> Option<i64>
     ensures { result ≡ spelled_number text.now }
 {
-    // the standard library also accepts a plus sign
+    // `parse` accepts a plus sign, which `number` of an attribute grammar does not
     if text.starts_with('+') {
         return None;
     }

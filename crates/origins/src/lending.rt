@@ -39,7 +39,7 @@ impl<'a> Environment for Arguments<'a> {
 }
 
 /// Lends the values that `arguments` lends, with another error in place of each error: `divide` in
-/// place of overflow, whose number is 1, and `overflow` in place of any other.
+/// place of the error overflow, and `overflow` in place of any other error.
 #[derive(Drop)]
 pub(crate) struct ExchangedErrors<'a> {
     pub(crate) arguments: &'a Arguments<'a>,
@@ -115,7 +115,7 @@ pub(crate) fn error_of(value: &Value) -> Option<ErrorCode>
     }
 }
 
-/// Returns the number of an error in spellings, from 1 to 8.
+/// Returns the number, from 1 to 8, by which the spelling of an error value encodes the error.
 fn number_of(code: ErrorCode) -> u8
     ensures { result ≡ number_of code }
 {
@@ -131,7 +131,7 @@ fn number_of(code: ErrorCode) -> u8
     }
 }
 
-/// Returns whether both are errors, and the same one.
+/// Returns whether both are an error, and the same one. A value that is not an error has `None`.
 pub(crate) fn is_same_error(one: Option<ErrorCode>, other: Option<ErrorCode>) -> bool
     ensures { result ≡ is_same_error one other }
 {

@@ -1,4 +1,4 @@
-//! The body of a record of the last file: all values of a node.
+//! Reads the body of a record of the file of the last pass: a token, or a node with all its values.
 
 ghost use Rattle.std.specs.Prelude.{◌≡◌, ◌++◌, All, IfOk};
 ghost use Rattle.std.specs.List.{flat_map};
@@ -12,7 +12,7 @@ use ag_value::{Items, Value, decode};
 use std::alloc::Global;
 use treefile::{Kind, MAX_VALUES, split_body};
 
-/// A record of the last file.
+/// A record of the file of the last pass.
 #[derive(Drop)]
 pub enum LastRecord {
     /// A node: the number of its production, and its values.
@@ -48,9 +48,9 @@ fn values_in(alloc: Global, bytes: &[u8]) -> Result<Items<Value>, DecodeFault>
 /// Reads a body as the record of an item.
 ///
 /// For a symbol the body has to have the number of a production of the symbol, and then at most
-/// `MAX_VALUES` spellings of well values. For a class it has to be that of a token of the class.
-/// The number of values that the production needs is not checked, and neither is the text of a
-/// token.
+/// `MAX_VALUES` spellings of well values. For a class the body has to be that of a token of the
+/// class. Not checked: whether the number of values is the one that the production needs, and the
+/// text of a token.
 ///
 /// Fails with Damaged if the body is not so, or the item is a literal. Fails with NoMemory if
 /// memory is refused.

@@ -7,8 +7,8 @@ ghost use Rattle.ag_grammar.specs.grammars.Accepted.{max_items};
 use ag_grammar::{Grammar, Production};
 use ag_value::Value;
 
-/// The values in the record of a node in the file of the last pass: those of its own attributes, and
-/// copies of its children's synthesized ones.
+/// The values in the record of a node in the file of the last pass: those of its own attributes,
+/// copies of its children's synthesized ones, and the texts of the tokens among its children.
 #[derive(Drop)]
 pub struct Row<'a> {
     /// The grammar.

@@ -31,7 +31,8 @@ fn synthesized_count(grammar: &Grammar, symbol: u16) -> usize
     }
 }
 
-/// Returns the number of copies that a record has of the values at an item.
+/// Returns the number of values that the record of a node has of the child at an item: those of a
+/// symbol's synthesized attributes, the text of a token, and none for a literal.
 fn copied(grammar: &Grammar, item: Item) -> usize
     ensures count { result ≡ copied grammar.now item }
     ensures room { result ≤ max_attributes }
@@ -64,7 +65,8 @@ fn copies_before(grammar: &Grammar, items: &[Item], children: u16) -> usize
     }
 }
 
-/// Returns the index in a node's record at which the values at a place begin, from 0.
+/// Returns the index, from 0, of the first value of a place among the values of a node's record.
+/// Place 0 is the node itself; 1, 2, .. are its children.
 fn start_of(grammar: &Grammar, production: &Production, place: u16) -> usize
     requires { length production.now.items ≤ max_items }
     ensures start { result ≡ start grammar.now production.now place }
@@ -77,7 +79,7 @@ fn start_of(grammar: &Grammar, production: &Production, place: u16) -> usize
     own + copies_before(grammar, production.items.as_slice(), place - 1)
 }
 
-/// Returns the index of the value of an argument in a node's record, from 0.
+/// Returns the index, from 0, of the value of an argument among the values of a node's record.
 pub(crate) fn slot_of(grammar: &Grammar, production: &Production, argument: Target) -> usize
     requires { length production.now.items ≤ max_items }
     ensures { result ≡ slot grammar.now production.now argument }

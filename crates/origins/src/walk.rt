@@ -29,7 +29,7 @@ const MAX_TURNS: u32 = 2 * MAX_NODES + 1;
 #[derive(Debug, Drop)]
 pub struct Origins {
     /// The path from the root, as numbers of children from 0, to the first node in the order of the sentence
-    /// that has a rule in which an error arises; `None` if there is no such node.
+    /// that has a rule in which an error arises; `None` if the tree does not have such a node.
     pub first: Option<Items<u16>>,
     /// The number of rules of the tree in which an error arises.
     pub count: u64,
@@ -80,7 +80,8 @@ impl Origins {
     }
 }
 
-/// Returns whether the node at the end of a path comes before that of another path in the order of the sentence.
+/// Returns whether the node at the end of `path` comes before the node at the end of `other` in the
+/// order of the sentence.
 fn is_before(path: &[u16], other: &[u16]) -> bool
     ensures { result ≡ is_before path.now other.now }
 {
@@ -128,7 +129,7 @@ fn path_below(alloc: Global, direction: Direction, nodes: &[Open]) -> Result<Ite
     Ok(Items::from_vec(path))
 }
 
-/// Returns the number of items that are children.
+/// Returns the number of items that are children, which are all items but literals.
 pub(crate) fn stored_among(items: &[Item]) -> u16
     requires { length items.now < 2 ^ 16 }
     ensures { result ≡ length (stored_items items.now) }
@@ -209,7 +210,8 @@ impl Walk {
         }
     }
 
-    /// Enters a node whose record was read.
+    /// Enters a node whose record was read: counts its rules in which an error arises, and adds it
+    /// to the open nodes. Fails as `Origins::add_node`.
     fn enter(
         &mut self,
         alloc: Global,
@@ -247,7 +249,8 @@ impl Walk {
         Ok(())
     }
 
-    /// Reads the next record, that of an item, and enters its node if it is not a token.
+    /// Reads the next record, that of an item, and enters its node if it is not a token. Fails as
+    /// `fetch` and `enter`.
     fn read<D: Device>(
         &mut self,
         alloc: Global,
@@ -280,7 +283,8 @@ impl Walk {
         }
     }
 
-    /// Turns to the innermost open node, which was taken from the list: visits its next child, or leaves it.
+    /// Visits the next child of the innermost open node, or leaves the node if it has no other. The
+    /// caller took `node` from the list of open nodes. Fails as `read`.
     fn turn<D: Device>(
         &mut self,
         alloc: Global,
@@ -323,7 +327,8 @@ impl Walk {
         self.read(alloc, context, item, device)
     }
 
-    /// Ends the walk when no node is open. Fails with R1 if something is left to read.
+    /// Ends the walk when no node is open. Fails with R1 if anything is left to read, and with D1
+    /// if the device fails.
     fn end<D: Device>(mut self, device: &mut D) -> Result<Origins, WalkFault>
         requires ready { IsReady (D.is_honest device.old) (D.content device.old) self.back }
         ensures found { IfOk result (λ found. found ≡ self.found) }

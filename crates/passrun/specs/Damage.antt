@@ -25,12 +25,12 @@ pub record Source : Type 0 where
   pub depth : ℕ
   pub nodes : ℕ
 
--- A pass reads the file of the previous pass.
+-- The source of the pass of a setting, which reads the file of the previous pass (its number is `c.read`).
 abbrev pub source : Setting → Source
 source c =
     record { version = version_two; grammar = c.grammar; passes = c.passes; pass = c.read; depth = max_depth; nodes = max_nodes }
 
--- A content begins as such a file.
+-- A content begins as a tree file of the version and of the pass of a source.
 pub record IsReadable (s : Source) (content : List ℕ) : Type 0 where
   pub begins : is_tree_file s.version content ≡ true
   pub number : pass_of content ≡ s.pass
@@ -45,7 +45,8 @@ Leaves s d (x ∷ xs) (body ∷ bodies) left =
     × Leaves s d (before_others d (suc x.0) ys xs) bodies left
 
 -- The bodies that are read, from the end of a file, are records of the grammar at their places: the root's
--- first, and each node's before those of its children. The remaining children are still to be read.
+-- first, and each node's before those of its children. The remaining children are still to be read. Reading a
+-- file backward visits children in the direction that is opposite to that of the file's pass.
 abbrev pub AreRecords : Source → List (List ℕ) → Pending → Type 0
 AreRecords s bodies todo = Leaves s (other (direction_of s.pass)) (pending_root s.grammar) bodies todo
 

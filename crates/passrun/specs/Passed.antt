@@ -37,7 +37,7 @@ pub record IsPassed (c : Setting) (content to : List ℕ) (count evals : ℕ) : 
 
 -- A pass runs between two devices: its transcript agrees with the reader (`state`) and the writer (`out`). The
 -- bodies that were read are records of the grammar at their places, and the open nodes (`stack`, the innermost
--- first) still have the children `todo` to read.
+-- first) still have the children `todo` to read. `root` is the number in the root's record.
 pub record IsRunning (c : Setting) (root : ℕ) (honest : Bool) (content : List ℕ) (to_honest : Bool) (to : List ℕ)
     (state : BackState) (out : writing.Progress) (values : List Value) (stack : List OpenNode) (evals : ℕ) : Type 0 where
   pub transcript : Transcript

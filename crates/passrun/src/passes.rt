@@ -131,10 +131,10 @@ fn one_more(sum: Passed, passed: Passed) -> Passed
 /// Stops at the first pass that fails, and returns its fault, as `run_pass` does. Fails with R1
 /// (`Damaged`) and an offset only if the file on `a` is that of no tree of the grammar after pass
 /// `first` - 1. If a limit is exceeded before any damage, fails with P2 (`TooDeep`) or P3
-/// (`TooManyNodes`) instead: the file then encodes no tree of at most `MAX_DEPTH` levels, or none of at
-/// most `MAX_NODES` nodes, and may encode no tree at all. These claims about the file hold if both
-/// devices return the bytes that were written to them. Fails with D1 (`Device`) if a call of one of the
-/// devices failed, and with `NoMemory` if memory cannot be allocated.
+/// (`TooManyNodes`) instead: with P2 the file encodes no tree of at most `MAX_DEPTH` levels, with
+/// P3 none of at most `MAX_NODES` nodes. It may encode no tree at all. These claims about the file
+/// hold if both devices return the bytes that were written to them. Fails with D1 (`Device`) if a
+/// call of one of the devices failed, and with `NoMemory` if memory cannot be allocated.
 ///
 /// Pass `first` overwrites the content of `b`, and the next pass the file on `a`, which is kept if at
 /// most one pass runs. After a failure the device that the failed pass was to read still has its
@@ -190,7 +190,7 @@ pub fn run_all<D: Device>(
     ensures devices { BothPersist D.is_honest D.failures a.old a.new
         D.is_honest D.failures b.old b.new (IsErrOf result RunFault.Device) }
 {
-    // the contract of `start` says that the grammar is accepted
+    // called only for its contract, which says that the grammar is accepted
     let _start = grammar.start();
     let passes = last_pass(plan);
     let mut last = Last::A;

@@ -52,7 +52,8 @@ impl fmt::Display for OccurrenceName<'_> {
     }
 }
 
-/// Returns the attributes of the symbols of a grammar, in declared order.
+/// Returns the attributes of the symbols of a grammar, symbol by symbol in declared order. Those of
+/// a symbol are in the order of their numbers: the synthesized ones, then the inherited ones.
 pub(crate) fn attributes_of(alloc: Global, symbols: &[Symbol]) -> Result<Vec<Attribute>, NoMemory>
     requires { length symbols.now ≤ max_symbols }
 {

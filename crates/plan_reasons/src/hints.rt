@@ -92,8 +92,8 @@ fn copied_among(
 
 impl Explanation<'_> {
     /// Writes the attributes that no rule uses, except the start symbol's `out`, and those that
-    /// are only copied (each rule for them is a copy, and there is one). Writes nothing of a kind
-    /// that has no attribute.
+    /// are only copied (each rule for them is a copy, and there is one). If one of these two lists
+    /// is empty, its heading is left out too.
     pub(crate) fn write_hints(&self, out: &mut String) -> Result<(), NoMemory> {
         let attributes = attributes_of(self.alloc, self.grammar.symbols())?;
         let unused = unused_among(self.alloc, self.grammar, attributes.as_slice())?;

@@ -1,11 +1,13 @@
 //! Why a plan has its passes: the texts that `aggen why` prints. An attribute that pass 3 computes
-//! has a chain of rules that shows why pass 2 can't compute it, and another chain for pass 1. The
-//! chains are those of the strikes of `passassign`. A strike names an attribute that a pass can't
-//! compute, a rule for it, and an argument of this rule that is the reason. A link is a strike with
-//! these parts looked up in the grammar.
+//! has a chain of strikes that shows why pass 2 can't compute it, and another chain for pass 1. If
+//! a grammar has no plan (A1), chains show why no pass computes some attributes. The strikes are
+//! those of `passassign`. A strike names an attribute that a pass can't compute, a rule for it, and
+//! an argument of this rule that is the reason. A link is a strike with these parts looked up in
+//! the grammar.
 //!
-//! Each function that writes a text allocates, and fails if memory is refused. Characters that
-//! control a terminal are written as escapes, such as `\u{1b}`.
+//! Each function that writes a text allocates, and fails if memory is refused. Control characters,
+//! white space other than the plain space, and some invisible characters of names are written as
+//! escapes, such as `\u{1b}`.
 #![tactic(auto)]
 
 mod attributes;

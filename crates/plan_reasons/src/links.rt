@@ -29,7 +29,8 @@ pub enum Geometry {
 
 /// A strike, with the parts of the grammar that it names: a rule that a pass can't evaluate, and
 /// one of its arguments that is an attribute of a symbol. A `Target` is an attribute at a place of
-/// the production, by the numbers of the place and of the attribute.
+/// the production, by the numbers of the place and of the attribute. Place 0 is the left side, and
+/// the places from 1 are the children.
 #[derive(Clone, Copy)]
 pub struct Link {
     /// The strike.
@@ -43,7 +44,8 @@ pub struct Link {
 }
 
 impl Link {
-    /// Returns the rule's target as an attribute of a symbol. Does not allocate.
+    /// Returns the attribute of the strike. In a chain it is the rule's target, as an attribute of
+    /// a symbol. Does not allocate.
     pub fn computed(&self) -> Attribute
         ensures { result ≡ (self.now.strike.symbol, self.now.strike.attr) }
     {

@@ -24,8 +24,9 @@ const MAX_NAMES: u32 = 1_000;
 /// - replaces any other file by a new one with its mode, and creates a missing file, in both cases
 ///   with the whole translation or not at all.
 ///
-/// Fails with F1 if the file can't be opened or created, and with O2 if a write fails or takes no byte, or if the
-/// new file can't be renamed; the report names the file. Fails with NoMemory if memory is refused.
+/// Fails with F1 if the file can't be opened or created, if its mode can't be set, or if its links
+/// can't be followed. Fails with O2 if a write fails or takes no byte, or if the new file can't be
+/// renamed. The report of F1 and O2 names the file. Fails with NoMemory if memory is refused.
 pub fn write_file<R: Files + Print>(
     rt: &R,
     alloc: Global,
@@ -60,8 +61,8 @@ fn put<R: Files + Print>(rt: &R, alloc: Global, path: &str, bytes: &[u8]) -> Res
     }
 }
 
-/// Returns whether a path is one that the system makes for devices and open files. The files in /dev/shm/ are those of
-/// programs.
+/// Returns whether a path begins as those that the system makes for devices and open files. Links
+/// are not followed. The files in /dev/shm/ are those of programs.
 fn is_of_system(path: &str) -> bool {
     let is_device = path.starts_with("/dev/") && !path.starts_with("/dev/shm/");
     is_device || path.starts_with("/proc/")
@@ -75,8 +76,9 @@ fn open_to_append<R: Files>(rt: &R, path: &str) -> Result<R::File, Fault> {
         .map_err(|error| fault_or(&error, Fault::File))
 }
 
-/// Writes bytes to a new file, and renames it to `path` once it has all of them. If a step fails, removes the
-/// new file.
+/// Writes bytes to a new file, with the mode `mode` if there is one. Once the new file has all
+/// bytes, renames it to the path that the links at `path` lead to, so that symbolic links stay. If
+/// a step after its creation fails, removes the new file.
 fn replace<R: Files>(
     rt: &R,
     alloc: Global,
@@ -101,7 +103,7 @@ fn replace<R: Files>(
     renamed
 }
 
-/// Gives a new file its mode, and writes bytes to it.
+/// Gives a new file the mode `mode`, if there is one, and writes bytes to it.
 fn fill<F: io::Write + OpenFile + Drop>(
     mut file: F,
     bytes: &[u8],
@@ -114,11 +116,12 @@ fn fill<F: io::Write + OpenFile + Drop>(
     write_bytes(&mut file, bytes).map_err(Fault::from)
 }
 
-/// Returns the path that the links at `path` lead to, which need not exist. Fails with F1 if there are too
-/// many, or one can't be read.
+/// Returns the path that the links at `path` lead to. No file need exist there. Fails with F1 if
+/// there are more than `MAX_LINKS` links, or one can't be read, and with NoMemory if memory is
+/// refused.
 fn target_of<R: Files>(rt: &R, alloc: Global, path: &str) -> Result<String, Fault> {
     let mut target = String::from_str(alloc, path)?;
-    // the last turn only finds out whether the path after `MAX_LINKS` links is one more
+    // the last turn only finds out whether there is another link after `MAX_LINKS` links
     for _ in 0..=MAX_LINKS {
         match fs::symlink_metadata(rt, target.as_str()) {
             Ok(found) if found.is_symlink() => target = link_at(rt, alloc, target.as_str())?,
@@ -133,7 +136,8 @@ fn target_of<R: Files>(rt: &R, alloc: Global, path: &str) -> Result<String, Faul
     Err(Fault::File)
 }
 
-/// Returns the path that the link at `path` leads to.
+/// Returns the path that the link at `path` leads to. Fails with F1 if the link can't be read, and
+/// with NoMemory if memory is refused.
 fn link_at<R: Files>(rt: &R, alloc: Global, path: &str) -> Result<String, Fault> {
     let link = match rt.read_link(alloc, path) {
         Ok(link) => link,

@@ -13,7 +13,7 @@ use std::rt::Files;
 /// The names of the work files, the tree files of `--work`, in their folder.
 pub const WORK_FILES: [&str; 2] = ["a.agt", "b.agt"];
 
-/// The message about a tree file that is a work file.
+/// The message about the tree file of `eval` if it is a work file.
 const TREE_IS_WRITTEN: &str =
     "the tree file would be written by the passes, name another folder for these";
 
@@ -27,7 +27,8 @@ const OUTPUT_IS_READ: &str = "the output is one of the inputs, write it to anoth
 /// The message about an output that is a work file.
 const OUTPUT_IS_TREE: &str = "the output is a tree file of `--work`, write it to another file";
 
-/// Fails if the tree file is one of the work files in `folder`, through links too, and if memory is refused.
+/// Fails if `tree`, the tree file that `eval` translates, is one of the work files in `folder`,
+/// through links too. Fails if memory is refused.
 pub fn check_tree<R: Files>(
     rt: &R,
     alloc: Global,
@@ -52,8 +53,9 @@ pub fn check_inputs<R: Files>(
     Ok(())
 }
 
-/// Fails if the translation's file at `path` is one of the inputs, or a work file in the folder `work`, through
-/// links too, and if memory is refused.
+/// Fails if the output at `path` is one of the inputs, or a work file in the folder `work`, through
+/// links too. The output is a translation's file, or the tree file that `parse` or `upgrade`
+/// writes. Fails if memory is refused.
 pub fn check_output<R: Files>(
     rt: &R,
     alloc: Global,
@@ -108,7 +110,8 @@ fn fail_if(
     }
 }
 
-/// Returns whether an input is one of the work files in a folder.
+/// Returns whether an input is one of the work files in a folder. Returns false for an input that
+/// is missing or not a regular file.
 fn is_existing_work_file<R: Files>(
     rt: &R,
     alloc: Global,
@@ -127,7 +130,7 @@ fn is_existing_work_file<R: Files>(
     Ok(false)
 }
 
-/// Returns whether a path leads to one of the inputs.
+/// Returns whether a path leads to a regular file that is one of the inputs.
 fn is_input<R: Files>(rt: &R, path: &str, inputs: &[InputPath<'_>]) -> Result<bool, NoMemory> {
     let Some(id) = FileId::at(rt, path)? else {
         return Ok(false);
@@ -140,7 +143,8 @@ fn is_input<R: Files>(rt: &R, path: &str, inputs: &[InputPath<'_>]) -> Result<bo
     Ok(false)
 }
 
-/// Returns whether a path leads to a work file in a folder, even if that is not there yet.
+/// Returns whether a path leads to a work file in a folder. The work file may not exist yet: a path
+/// with its name and its folder counts as well.
 fn is_work_file<R: Files>(
     rt: &R,
     alloc: Global,
@@ -170,7 +174,7 @@ fn is_among<R: Files>(rt: &R, path: &str, ids: &[FileId]) -> Result<bool, NoMemo
     }
 }
 
-/// Returns the identities of the regular files among these, sorted. Fails if memory is refused.
+/// Returns the identities of the regular files at these paths, sorted. Fails if memory is refused.
 fn ids_of<R: Files>(rt: &R, alloc: Global, paths: &[&str]) -> Result<Vec<FileId>, NoMemory> {
     let mut ids = Vec::new(alloc);
     for path in paths {

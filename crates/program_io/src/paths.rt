@@ -8,8 +8,8 @@ pub fn path_in(alloc: Global, folder: &str, name: &str) -> Result<String, AllocE
     format!(in alloc; "{folder}{separator}{name}")
 }
 
-/// Returns the folder of a path: what is before its last slash, `/` for a file of the root, and `.` if it has no
-/// slash.
+/// Returns the folder of a path: what is before its last slash, `/` for a file in the root folder,
+/// and `.` if it has no slash.
 pub fn folder_of(path: &str) -> &str {
     match path.rsplit_once('/') {
         Some(("", _)) => "/",

@@ -14,7 +14,7 @@ const STANDARD_INPUT: &str = "/dev/stdin";
 /// The path of standard output.
 const STANDARD_OUTPUT: &str = "/dev/stdout";
 
-/// The identity of a file, which no other file has.
+/// The identity of a file. While the file exists, no other file has it.
 #[derive(Clone, Copy, PartialEq, Eq, PartialOrd, Ord)]
 pub struct FileId {
     /// The number of the device that the file is on.

@@ -71,7 +71,8 @@ fn run<R: Env + Eprint + Files + AllocGlobal>(rt: &R, alloc: Global) -> Result<u
 }
 
 /// Returns the number of records of the tree file of a device. A call of the reader for which
-/// memory was refused is made a second time. Fails as `start_twice` and `Back::back` do.
+/// memory was refused is made a second time. Fails as `start_twice` does, or as `Back::back` does.
+/// The fault of a second call ends the reading, NoMemory too.
 fn records<R: Eprint, D: Device>(
     rt: &R,
     alloc: Global,
@@ -94,7 +95,8 @@ fn records<R: Eprint, D: Device>(
     }
 }
 
-/// Starts a reader, and tries a second time if memory was refused. Fails as `start` does.
+/// Starts a reader, and tries a second time if memory was refused. Fails as `start` does. `over`
+/// says that the bytes that the reader has read are those of the device, if the device is honest.
 fn start_twice<R: Eprint, D: Device>(
     rt: &R,
     alloc: Global,

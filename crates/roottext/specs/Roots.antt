@@ -32,7 +32,7 @@ pub record IsRootRecord (g : Grammar) (assignment : List (List ℕ)) (body : Lis
   pub out : IsOut g attribute
   pub value : values attribute ≡ x
 
--- the last body of a content is the root's record, and has this value for `out`
+-- the last body of a content is a root's record, and has the value x for `out`
 pub record EndsWithRoot (g : Grammar) (assignment : List (List ℕ)) (content : List ℕ) (x : Value) : Type 0 where
   pub body : List ℕ
   pub last : last_body_of version_two content ≡ Ok body
@@ -45,8 +45,8 @@ pub record EndsWithNoRoot (g : Grammar) (assignment : List (List ℕ)) (content 
   pub none : (x : Value) → EndsWithRoot g assignment content x → ⊥
 
 -- The meaning of the value or the fault found at the end of a content. A value is that of the root's `out`. B1 means that the
--- content does not begin as a tree file, and B2 that it does but has no root's record there. A device failure and NoMemory have
--- no meaning.
+-- content does not begin as a tree file, and B2 that it does but has no root's record there. D1 and NoMemory say nothing about
+-- the content.
 abbrev pub FindsValue : Grammar → List (List ℕ) → List ℕ → Result Value FrameFault → Type 0
 FindsValue g assignment content (Ok x) = EndsWithRoot g assignment content x
 FindsValue g assignment content (Err frame_fault.NotATreeFile) = last_body_of version_two content ≡ Err frame_fault.NotATreeFile
@@ -73,7 +73,7 @@ FindsText g assignment content (Err out_fault.Device) = Unit {0}
 FindsText g assignment content (Err out_fault.NoMemory) = Unit {0}
 
 -- The result for a tree with its values: the value of the root's `out` if it is a text, else O1 with this value. B1 and B2 do not
--- come. A device failure and NoMemory have no meaning.
+-- come. D1 and NoMemory say nothing about the tree.
 abbrev pub IsRootText : Grammar → Valuation → Result (List ℕ) OutFault → Type 0
 IsRootText g v (Ok text) = IsTranslation g v (Text text)
 IsRootText g v (Err (out_fault.NoText x)) = IsTranslation g v x × IsNoText x

@@ -1,5 +1,5 @@
-//! Reading the translation from the tree file of the last pass: it is the value of the root's `out`, and
-//! the root's record is the last one.
+//! Reading the translation from the tree file of the last pass. The translation is the value of the
+//! root's `out`, and the root's record is the last one of the file.
 
 ghost use Rattle.std.specs.Prelude.{◌≡◌, IfOk, IfSome, IsErrOf, None, Some, slice_get};
 ghost use Rattle.ag_value.specs.Well.{IsWell};
@@ -33,7 +33,8 @@ fn out_among(names: &[Text]) -> Option<usize>
     None
 }
 
-/// Returns the number of the attribute `out` of the start symbol, from 0. The type `Grammar`
+/// Returns the number of the attribute `out` of the start symbol, from 0. The numbers of a symbol's
+/// synthesized attributes come first, so this is the index of `out` among them. The type `Grammar`
 /// contains only accepted grammars, and each of them has this attribute.
 fn out_number(grammar: &Grammar) -> usize
     ensures out { IsOut grammar.now result }
@@ -47,8 +48,8 @@ fn out_number(grammar: &Grammar) -> usize
 }
 
 /// Reads the value of the attribute number `out` in `body`, the root's record in the file of the
-/// last pass. `read_node` reads records of the file of the pass before that of its setting, so the
-/// setting has a pass after the last one, though no such pass runs.
+/// last pass. With a setting of pass k, `read_node` reads records of the file of pass k - 1. So the
+/// setting here has the number of the last pass plus 1, though no such pass runs.
 ///
 /// Fails with `Damaged` if the body is not such a record, and with `NoMemory` if memory is refused.
 fn read_out(
@@ -133,7 +134,8 @@ fn last_value<D: Device>(
 }
 
 /// Returns the translation: the value of the root's `out`, if it is a text, in the file of the last
-/// pass on a device. It is in the last record of the file; no other record is read.
+/// pass on a device. Reads only the last record of the file, which in the file of a tree is the
+/// root's.
 ///
 /// Fails with O1 NoText and the value if it is a number, a list, a table or an error. Fails with B1
 /// NotATreeFile if there are fewer than 6 bytes or the first four are not `AGT2`. Otherwise fails
@@ -157,7 +159,7 @@ pub fn root_text<D: Device>(
     // For the file of a tree: the value of the root's `out` if it is a text, or O1 with this value.
     ensures root { WhenHonest (D.is_honest device.new)
         (MatchesRoot grammar.now plan.now.0 (D.content device.old) result) }
-    // on any device
+    // The text is UTF-8 and within the limit of its length, whatever the device returns.
     ensures well { IfOk result IsWellText }
     ensures content { LeavesContent (D.is_honest device.new)
         (D.content device.old) (D.content device.new) }

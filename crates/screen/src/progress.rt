@@ -18,7 +18,8 @@ const INTERVAL: u64 = 200;
 /// While a sentence is parsed, the clock is read once in this number of calls that append.
 const APPENDS: u32 = 256;
 
-/// The progress of a translation: the current pass, and which part of its tree file has been read.
+/// The progress of a translation: the current pass, and which part of the tree file that this pass
+/// reads has been read.
 /// A line on standard error shows the progress, once the translation has taken two seconds. Failed
 /// writes of the line are ignored.
 #[derive(Drop)]

@@ -11,7 +11,8 @@ use std::rt::{Clock, Env};
 /// The control characters before the fault's number: what follows is bold and red.
 const NUMBER: &str = "\u{1b}[1;31m";
 
-/// The control characters before the place: what follows is bold.
+/// The control characters before the place (a file with line and column, or a file alone): what
+/// follows is bold.
 const PLACE: &str = "\u{1b}[1m";
 
 /// The control characters after a marked part.
@@ -22,15 +23,15 @@ const END: &str = "\u{1b}[0m";
 pub struct Screen {
     /// Whether only messages about a misused command line are printed.
     is_quiet: bool,
-    /// Whether the fault's number and the place are marked with colour.
+    /// Whether messages are marked: the fault's number is bold and red, and the place is bold.
     is_marked: bool,
     /// Whether the progress of translations is shown.
     shows_progress: bool,
 }
 
 impl Screen {
-    /// Returns the screen for messages if no command line was parsed: without colour, and without
-    /// progress.
+    /// Returns the screen for messages if no command line was parsed: all messages are printed, and
+    /// none is marked. No progress is shown.
     pub fn plain() -> Screen {
         Screen {
             is_quiet: false,
@@ -65,7 +66,8 @@ impl Screen {
     }
 
     /// Returns the progress of a translation that begins now. The first tree file that is written
-    /// is that of pass `first`. Returns `None` if no progress is shown, or the clock can't be read.
+    /// is that of pass `first`: 0 if a sentence is parsed, and 1 if the tree is read from a file.
+    /// Returns `None` if no progress is shown, or the clock can't be read.
     pub fn progress<'a, R: Clock + Eprint>(
         self,
         rt: &'a R,
@@ -81,8 +83,8 @@ impl Screen {
     }
 
     /// Prints a message on standard error, in one line. If messages are quiet, prints only one
-    /// about a misused command line. If the message can't be printed, does nothing: the exit status
-    /// still shows the kind of failure.
+    /// about a misused command line. If memory for the marked line is refused, prints the message
+    /// unmarked. A failure to print is ignored: the exit status still shows the kind of failure.
     pub fn print<R: Eprint>(self, rt: &R, alloc: Global, report: &FaultReport) {
         if self.is_quiet && !matches!(report.fault, Fault::Usage) {
             return;
@@ -132,7 +134,7 @@ fn marked_line(alloc: Global, report: &FaultReport) -> Option<String> {
     format!(in alloc; "{NUMBER}{number}{END}{offset}{before}{PLACE}{place}{END}{after}").ok()
 }
 
-/// Returns the number of bytes of a fault's first word, without a colon.
+/// Returns the number of bytes of a fault's first word, without colons at its end.
 fn number_len(fault: &str) -> usize {
     match fault.split_once(' ') {
         Some((word, _)) => word.trim_end_matches(':').len(),

@@ -207,6 +207,8 @@ fn names_of_many_letters(rt: HostRuntime) -> Result<(), Fail> {
     Ok(())
 }
 
+/// Reads frames that begin at the start of the buffer of 4,096 bytes, or some bytes before or after
+/// it: the last frame has 2,000 bytes, and the frame of a body of 2,092 bytes the other 2,096.
 #[test]
 fn frames_at_the_start_of_the_buffer(rt: HostRuntime) -> Result<(), Fail> {
     let alloc = rt.alloc();

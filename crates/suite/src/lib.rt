@@ -1,8 +1,8 @@
-//! Tests of the libraries below the translator that are no rows of data: cursors over the tokens of
-//! a text, list trees and table trees, devices that fail or return wrong bytes, tree files, and tree files
-//! that change while they are read. This crate has no other code, since a crate that has tests is
-//! proved a second time with them. The crates `cases`, `translations` and `failures` answer the rows
-//! of data; `tests/refused-memory` tests refused memory.
+//! Tests of the libraries below the translator that are not rows of data: cursors over the tokens
+//! of a text, list trees and table trees, devices that fail or lie (return a wrong length or wrong
+//! bytes), and tree files, also ones that change while they are read. This crate has no other code,
+//! since a crate that has tests is proved a second time with them. The crates `cases`,
+//! `translations` and `failures` run the rows of data; `tests/refused-memory` tests refused memory.
 #![tactic(auto)]
 
 #[cfg(test)]

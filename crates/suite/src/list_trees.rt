@@ -48,7 +48,7 @@ fn doubled(alloc: Global, least: usize) -> Result<ListTree, ValueFault> {
     Ok(list)
 }
 
-/// Returns the flat copy of a list as a tree.
+/// Copies a list to one without a tree, and returns a new tree of that copy.
 fn rebuilt(alloc: Global, list: &ListTree) -> Result<ListTree, NoMemory> {
     // unused at run time: the contract of `weight` says that the list is well, which `from_list` requires
     let _weight = list.weight();

@@ -69,8 +69,9 @@ pub(crate) fn file_of(alloc: Global, productions: &[u8]) -> Result<Vec<u8>, Allo
 }
 
 /// Returns the first fault of a reader, the fault of the next call if that fails too, and the
-/// number of bodies that were lent. Returns `None` if the reader lends all bodies, or 100 of them,
-/// without a fault. Fails the test if a first fault is NoMemory.
+/// number of bodies that were lent. If the reader does not start, no call follows. Returns `None`
+/// if the reader lends all bodies, or 100 of them, without a fault. Fails the test if a first fault
+/// is NoMemory.
 fn refusal_of<D: Device>(
     alloc: Global,
     device: &mut D,
@@ -93,6 +94,8 @@ fn refusal_of<D: Device>(
     Ok(None)
 }
 
+/// Lets the device fail at call 1, then at call 2, and so on, until the reader makes fewer calls.
+/// After the failure the device works, and a new reader lends all three bodies.
 #[test]
 fn a_device_that_fails_at_each_call(rt: HostRuntime) -> Result<(), Fail> {
     let alloc = rt.alloc();

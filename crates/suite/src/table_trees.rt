@@ -25,7 +25,7 @@ fn table_of(alloc: Global, keys: &[u32]) -> Result<TableTree, PutFault> {
     Ok(table)
 }
 
-/// Returns the flat copy of a table as a tree.
+/// Copies a table to one without a tree, and returns a new tree of that copy.
 fn rebuilt(alloc: Global, table: &TableTree) -> Result<TableTree, NoMemory> {
     // unused at run time: the contract of `weight` says that the table is well, which `from_table` requires
     let _weight = table.weight();

@@ -116,7 +116,8 @@ fn check_folder<R: Files>(rt: &R, alloc: Global, path: &str) -> Result<(), Fault
 }
 
 /// Reads the sentence at `path`, translates it, and writes the translation to the file at `output`.
-/// Each report but that of refused memory names the sentence.
+/// Each report but that of refused memory names the sentence, unless memory for the name is
+/// refused.
 fn translate<R: Files + Input + Print + Eprint + Clock>(
     translating: &TranslationRun<'_, R>,
     path: &str,

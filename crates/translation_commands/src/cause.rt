@@ -1,4 +1,4 @@
-//! The cause of an error that the root's `out` has, in the message of O1.
+//! The cause of an error that the root's `out` has, in the message of O1 (`out` is not a text).
 
 use ag_value::Value;
 use aggen::{Fault, Translator};

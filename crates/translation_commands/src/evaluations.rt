@@ -112,7 +112,8 @@ impl<R: Files + Input + Print + Eprint + Clock> EvaluationRun<'_, R> {
         }
     }
 
-    /// Translates the tree on a device, and writes the translation.
+    /// Translates the tree on a device, and writes the translation. The progress begins with pass
+    /// 1: the tree file of pass 0 is there already.
     fn run_device<T: Device, W: Write>(
         &self,
         tree: &mut T,
@@ -147,7 +148,8 @@ impl<R: Files + Input + Print + Eprint + Clock> EvaluationRun<'_, R> {
     }
 
     /// Translates the tree on a device to a text in memory, and shows the progress. Nothing is
-    /// shown in pass 1: it reads `tree`, which is not a `ShownDevice`.
+    /// shown in pass 1: it reads `tree`, which is not a `ShownDevice`. If a tree file of `--work`
+    /// can't be opened or written out, returns that fault and not the result of the translation.
     fn run_shown<T: Device>(
         &self,
         tree: &mut T,

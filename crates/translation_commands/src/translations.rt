@@ -131,16 +131,17 @@ impl<'a, R> TranslationRun<'a, R> {
 
 impl<R: Files + Print + Eprint + Clock> TranslationRun<'_, R> {
     /// Translates a sentence into memory, and writes the translation to the file at `path`. Fails
-    /// as `run` and `write_file` do.
+    /// as `run` and `write_file` do, but with NoMemory if `run` fails with O2.
     pub fn write(&self, sentence: Source<'_>, path: &str) -> Result<(), FaultReport> {
         let mut text = Vec::new(self.alloc);
         self.run(sentence, &mut text).map_err(without_write_fault)?;
         write_file(self.rt, self.alloc, path, text.as_slice())
     }
 
-    /// Translates a sentence, and writes the translation to `out`. On failure returns the report:
-    /// it names the folder of the tree files for F1 and D1 with `--work`, and otherwise it is about
-    /// the sentence.
+    /// Translates a sentence, and writes the translation to `out`. On failure returns the report.
+    /// For F1 and D1 with `--work` it names the folder of the tree files. Otherwise it is that of
+    /// `report_of_sentence`, with the cause if `cause_of` finds one. The progress begins with pass
+    /// 0, the parser's tree file.
     fn run<W: Write>(&self, sentence: Source<'_>, out: &mut W) -> Result<(), FaultReport> {
         let mut cause = None;
         let translated = match self.screen.progress(self.rt, self.translator, 0) {

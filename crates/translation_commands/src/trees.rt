@@ -46,8 +46,8 @@ fn parse_file_with<R: Files + Input + Print>(
     }
 }
 
-/// Opens the file at `path`, writes the tree file of a sentence there, and prints the number of
-/// nodes.
+/// Opens the file at `path`, or creates it, writes the tree file of a sentence there, and prints
+/// the number of nodes.
 fn write_tree<R: Files + Print>(
     rt: &R,
     alloc: Global,
@@ -64,7 +64,8 @@ fn write_tree<R: Files + Print>(
 }
 
 /// Converts a tree file of version 1 to version 2, and prints the number of nodes. Reads the
-/// grammar, then opens the old file, and then creates the new one. Both may be one file.
+/// grammar, then opens the old file, and then creates the new one. Both may be one file: all of the
+/// old content is read before the new one is written.
 ///
 /// Fails before the grammar is read if the new file is the grammar. Fails if the grammar can't be
 /// read or is refused, if the old file is refused, if a file or the output fails, and if memory is
@@ -92,7 +93,7 @@ fn convert_file_with<R: Files + Print>(
     }
 }
 
-/// Converts the tree file of `old`, and prints the number of nodes.
+/// Converts the tree file on the device `old`, and prints the number of nodes.
 fn convert_tree<R: Files + Print>(
     rt: &R,
     alloc: Global,
@@ -112,7 +113,8 @@ fn convert_tree<R: Files + Print>(
     }
 }
 
-/// Opens the file at `path`, converts the tree file of `old` to it, and prints the number of nodes.
+/// Opens the file at `path`, or creates it, converts the tree file on the device `old` to it, and
+/// prints the number of nodes.
 fn write_converted<R: Files + Print>(
     rt: &R,
     alloc: Global,

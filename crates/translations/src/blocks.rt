@@ -1,4 +1,5 @@
-//! Tests of what no contract states: a pass reads by blocks, and writes while it reads.
+//! Tests of what no contract states: a pass reads by blocks, and writes while it reads. By blocks
+//! means that one read of the device returns many records.
 
 ghost use Rattle.std.specs.Prelude.{◌≡◌, IfOk};
 ghost use Rattle.planchecker.specs.Plans.{IsPlan};
@@ -42,14 +43,17 @@ fn sentence(alloc: Global) -> Result<String, AllocError> {
 }
 
 /// Returns the number of frames that were read, and the number of appends after the first `before`.
+/// `bytes` is the number of bytes that were read, all of frames of `FRAME` bytes, and `puts` is the
+/// number of all appends.
 fn frames_answer(alloc: Global, bytes: u64, puts: u64, before: u64) -> Result<String, AllocError> {
     let (read, put) = (bytes / FRAME, puts.saturating_sub(before));
     format!(in alloc; "{read} read, {put} put")
 }
 
-/// Returns whether each file of a device was read at least 112 times after its header, and at least 400 frames were
-/// appended between each of these reads and the next. What was appended before the last read is ignored. The frames of
-/// the tree's nodes fill 112 blocks of 4,096 bytes, and a block has about 585 of them.
+/// Returns whether each file of a device was read at least 112 times after its header, and at least
+/// 400 frames were appended between each of these reads and the next. The appends between the last
+/// two reads are not checked. The frames of the tree's nodes fill 112 blocks of 4,096 bytes, and a
+/// block has about 585 of them.
 fn is_by_blocks(device: &CountingDevice<'_>) -> bool {
     device.fewest_reads() >= 112 && device.least_gap() >= 400
 }
@@ -77,7 +81,7 @@ fn translated(alloc: Global, translator: &Translator) -> Result<String, Mistake>
     let answer = translate(alloc, translator, &mut a, &mut b)?;
     // the parser appends a header and each node, and the pass appends a header
     let frames = frames_answer(alloc, a.bytes, puts.get(), NODES + 2)?;
-    // the one pass reads the file on `a` and writes that on `b`
+    // the one pass reads the file on `a` and writes the file on `b`
     let by_blocks = is_by_blocks(&a);
     Ok(format!(in alloc; "{answer}; {frames}; by blocks: {by_blocks}")?)
 }

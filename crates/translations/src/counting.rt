@@ -31,7 +31,7 @@ impl Reading {
         }
     }
 
-    /// Counts a read after `puts` appends.
+    /// Returns the counts after one more read, before which there were `puts` appends.
     fn with_read(self, puts: u64) -> Reading {
         Reading {
             reads: self.reads.saturating_add(1),
@@ -58,7 +58,8 @@ pub struct CountingDevice<'a> {
     reading: Reading,
     /// The least number of reads of a file, of the files read before; `u64::MAX` if there is none.
     fewest_reads: u64,
-    /// The least number of appends between two reads, of the files read before.
+    /// The least number of appends between two reads, of the files read before; `u64::MAX` if none
+    /// of them had three reads after its header.
     least_gap: u64,
 }
 
@@ -75,7 +76,8 @@ impl<'a> CountingDevice<'a> {
         }
     }
 
-    /// Returns the least number of reads of a file after its header.
+    /// Returns the least number of reads of a file after its header, or `u64::MAX` if nothing
+    /// after a header was read.
     pub fn fewest_reads(&self) -> u64 {
         if self.reading.reads == 0 {
             return self.fewest_reads;
@@ -83,7 +85,8 @@ impl<'a> CountingDevice<'a> {
         self.fewest_reads.min(self.reading.reads)
     }
 
-    /// Returns the least number of appends between two reads of a file, without its header and its last read.
+    /// Returns the least number of appends between two successive reads of a file. Its header and
+    /// its last read are ignored. Returns `u64::MAX` if no file had three reads after its header.
     pub fn least_gap(&self) -> u64 {
         self.least_gap.min(self.reading.least_gap)
     }

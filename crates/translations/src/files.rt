@@ -5,7 +5,7 @@ use rows::words::{Mistake, shown_bytes};
 use std::alloc::{AllocError, Global};
 use treefile::MemDevice;
 
-/// Returns the bytes of a file, then the printed text.
+/// Returns the bytes of a file, then the printed text as a `Result` in Rust's form: `Ok("14\n")`.
 fn file_text(alloc: Global, file: &MemDevice, out: &[u8]) -> Result<String, AllocError> {
     let file = shown_bytes(alloc, file.bytes())?;
     format!(in alloc; "{file} {:?}", str::from_utf8(out))

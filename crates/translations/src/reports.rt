@@ -46,7 +46,7 @@ fn ending_answer(
     }
 }
 
-/// Translates a sentence by the grammar of a text.
+/// Translates a sentence by the grammar of a text. Fails with `Unfit` as `translator` does.
 pub fn translate_answer(alloc: Global, text: &str, sentence: &str) -> Result<String, Mistake> {
     let translator = translator(alloc, text)?;
     let mut a = MemDevice::new(alloc);
@@ -56,7 +56,7 @@ pub fn translate_answer(alloc: Global, text: &str, sentence: &str) -> Result<Str
     ending_answer(alloc, &ended, out.as_slice())
 }
 
-/// Translates a job.
+/// Translates a job, which is a text with a grammar and a sentence.
 pub fn job_answer(alloc: Global, text: &str) -> Result<String, Mistake> {
     let mut a = MemDevice::new(alloc);
     let mut b = MemDevice::new(alloc);
@@ -65,7 +65,8 @@ pub fn job_answer(alloc: Global, text: &str) -> Result<String, Mistake> {
     ending_answer(alloc, &ended, out.as_slice())
 }
 
-/// Translates the tree in a tree file with this content, by the grammar of a text.
+/// Translates the tree in a tree file, by the grammar of a text. `content` spells the bytes of the
+/// file. Fails with `Misspelt` if it doesn't, and with `Unfit` as `translator` does.
 pub fn evaluate_answer(alloc: Global, text: &str, content: &str) -> Result<String, Mistake> {
     let mut tree = MemDevice::from_bytes(bytes_of(alloc, content)?);
     let translator = translator(alloc, text)?;

@@ -14,7 +14,8 @@ pub fn grammar_of_answer(alloc: Global, text: &str) -> Result<String, Mistake> {
     }
 }
 
-/// Returns the translator of a grammar's text. Fails with `Unfit` if it has none.
+/// Returns the translator of a grammar's text. Fails with `Unfit` if no translator can be built
+/// from the text.
 pub fn translator(alloc: Global, text: &str) -> Result<Translator, Mistake> {
     match Translator::build(alloc, text.as_bytes()) {
         Ok(translator) => Ok(translator),

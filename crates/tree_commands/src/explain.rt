@@ -31,7 +31,7 @@ const WIDTH: usize = 60;
 /// - if an input can't be read or is refused, if the tree file is damaged, and if its tree exceeds a limit;
 /// - if the text that names the node is not a path, and if the tree does not have the node;
 /// - if the sentence does not have the line and column, and if its tokens are not the tree's;
-/// - if the node does not have one of the attributes;
+/// - if the node lacks an attribute that the command line names;
 /// - with `--errors`, if the tree file is not of the last pass;
 /// - if the output fails (O2), and if memory is refused.
 pub fn explain_tree<R: Files + Input + Print>(
@@ -63,7 +63,7 @@ pub fn explain_tree<R: Files + Input + Print>(
 }
 
 /// Returns the bytes of the sentence in which a node is named by line and column. Returns no bytes
-/// if the node is named otherwise.
+/// if the node is named otherwise. Fails if the sentence can't be read.
 fn read_sentence<R: Files + Input>(
     rt: &R,
     alloc: Global,
@@ -76,7 +76,7 @@ fn read_sentence<R: Files + Input>(
 }
 
 /// Returns the path that names the node, as child numbers from 1. Returns an empty list if the node
-/// is named otherwise, or not at all. Fails if the text is not a path.
+/// is named otherwise, or not at all. Fails if the text is not a path, and if memory is refused.
 fn places_of_path(alloc: Global, node: NodeWords<'_>) -> Result<Vec<u16>, FaultReport> {
     match node {
         NodeWords::Path(path) => places_of(alloc, Some(path)),
@@ -213,7 +213,8 @@ struct IndexedRun<'a> {
 }
 
 impl<'a> IndexedRun<'a> {
-    /// Returns the tree file with its grammar, and the text with which the output begins. Fails if memory is refused.
+    /// Returns the tree file with its grammar, and the first line of the output. That line is empty
+    /// unless the file was chosen in a folder (`write_path`). Fails if memory is refused.
     fn begin(self, alloc: Global) -> Result<(ExplainedTree<'a>, String), ShowFault> {
         let format = self.run.format(self.index);
         let tree = ExplainedTree::new(alloc, self.run.source, format, self.index)?;

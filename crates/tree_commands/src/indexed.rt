@@ -1,4 +1,4 @@
-//! Tree files that are read with an index, for `show` and `explain`.
+//! Tree files that are read with an index, for `show` and `explain`, and reports of their failures.
 
 use ag_grammar::limits::MAX_ATTRIBUTES;
 use ag_grammar::{Grammar, Item};
@@ -43,7 +43,8 @@ pub fn report_of_tree(alloc: Global, fault: ShowFault, path: &str) -> FaultRepor
     report.or_bare(written)
 }
 
-/// Returns what to do about a fault of a tree file; nothing if the tree in it is not the cause.
+/// Returns what to do about a fault of a tree file. The text is empty unless the file is damaged or
+/// its tree exceeds a limit.
 fn help_of(fault: &Fault) -> &'static str {
     match fault {
         Fault::Run(RunFault::Damaged(_)) => AGAIN,
@@ -58,8 +59,8 @@ pub fn no_memory(alloc: Global) -> FaultReport {
     FaultReport::new(alloc, Fault::NoMemory)
 }
 
-/// Returns a path as child numbers from the root; that of the root, with no numbers, if `path` is `None`. Fails if the
-/// text is not a path.
+/// Returns the child numbers of a path from the root. Returns no numbers, the path of the root, if
+/// `path` is `None`. Fails if the text is not a path, and if memory is refused.
 pub fn places_of(alloc: Global, path: Option<&str>) -> Result<Vec<u16>, FaultReport> {
     let Some(text) = path else {
         return Ok(Vec::new(alloc));
@@ -130,7 +131,8 @@ pub fn not_last_pass(alloc: Global, pass: u16, last: u16) -> FaultReport {
     report.or_bare(written)
 }
 
-/// Returns the report of the name of an attribute that an item does not have, with the names that it has.
+/// Returns the report of the name of an attribute that an item does not have, with the names that
+/// it has. The item of a node is its symbol or its class of tokens.
 pub fn no_attribute(alloc: Global, format: &FileFormat<'_>, item: Item, name: &str) -> FaultReport {
     let mut report = FaultReport::new(alloc, Fault::Usage);
     let written = describe_attributes(&mut report.parts.found, format, item, name);

@@ -82,7 +82,7 @@ impl TreeSentence<'_> {
     }
 
     /// Returns the path, as child numbers from the root, to the innermost node of a symbol that has all tokens of a
-    /// range. Returns that of the root if `range` is `None`.
+    /// range. Returns no numbers, the path of the root, if `range` is `None`.
     fn find_node(self, alloc: Global, range: Option<TokenRange>) -> Result<Vec<u16>, NoMemory> {
         let Some(range) = range else {
             return Ok(Vec::new(alloc));
@@ -266,7 +266,8 @@ fn write_kind(out: &mut String, kind: Terminal) -> Result<(), AllocError> {
     }
 }
 
-/// Writes that a text does not have a position, and where the line ends or, if the text has fewer lines, the text.
+/// Writes that a text does not have a position. Writes too where its line ends, or where the text
+/// ends if it has fewer lines.
 fn write_no_place(out: &mut String, text: &str, position: Position) -> Result<(), AllocError> {
     let Position { line, column } = position;
     write!(out, "the sentence has no place {line}:{column}, ")?;
@@ -299,7 +300,8 @@ fn column_of_end(text: &str, line: usize) -> usize {
     column
 }
 
-/// Returns the offset in bytes of a position in a text, or at its end. `None` if the text does not have the position.
+/// Returns the offset in bytes of a position in a text. The ends of lines and of the text are
+/// positions too. Returns `None` if the text does not have the position.
 fn offset_of(text: &str, position: Position) -> Option<usize> {
     let mut line = 1usize;
     let mut column = 1usize;
@@ -361,7 +363,7 @@ fn skip_token(tokens: &mut Tokens<'_>) {
     }
 }
 
-/// Returns whether a token of the sentence is that of the tree.
+/// Returns whether a token of the sentence and one of the tree have the same kind and text.
 fn is_same(of_sentence: Option<Token<'_>>, of_tree: &Option<TokenText>) -> bool {
     match (of_sentence, of_tree) {
         (Some(token), Some(other)) => token.kind == other.kind && token.lex == other.text.as_str(),
@@ -369,7 +371,8 @@ fn is_same(of_sentence: Option<Token<'_>>, of_tree: &Option<TokenText>) -> bool 
     }
 }
 
-/// Returns whether a token of the sentence has the text of that of the tree. A TEXT has it without its quotes.
+/// Returns whether a token of the sentence and one of the tree have the same text. The text of a
+/// TEXT is without its quotes.
 fn has_same_text(of_sentence: Option<Token<'_>>, of_tree: &Option<TokenText>) -> bool {
     match (of_sentence, of_tree) {
         (Some(token), Some(other)) => token.lex == other.text.as_str(),

@@ -1,4 +1,4 @@
-//! The command that prints a tree file as text: `show`.
+//! The command that prints a tree file as text or JSON: `show`.
 
 use crate::indexed::{no_memory, no_node, places_of, read_index, report_of_tree};
 use ag_grammar::Grammar;
@@ -20,7 +20,7 @@ use treefile::{Device, FileDevice};
 /// Fails:
 /// - if an input can't be read or is refused, if the tree file is damaged, and if its tree exceeds a limit;
 /// - if the text that names the node is not a path, and if the tree does not have the node;
-/// - if the grammar does not have one of the attributes;
+/// - if the grammar lacks an attribute that the command line names;
 /// - if the output fails (O2), and if memory is refused.
 pub fn show_tree<R: Files + Input + Print>(
     rt: &R,
@@ -71,7 +71,8 @@ fn show_device<R: Print, D: Device>(
     }
 }
 
-/// Returns the attributes of these names. Fails if the grammar does not have one of them, and if memory is refused.
+/// Returns the attributes of these names, such as `L.sum`. Fails if the grammar lacks one of
+/// them, and if memory is refused.
 fn selection_of(
     alloc: Global,
     grammar: &Grammar,

@@ -47,8 +47,9 @@ impl<'a> TreePath<'a> {
     }
 }
 
-/// Returns one more than the pass of the tree file at `path`; 0, which is less than for pass 0, if
-/// there is none, or it can't be read. Fails if memory is refused.
+/// Returns one more than the pass of the tree file at `path`. Returns 0, which is less than for
+/// pass 0, if the file can't be opened or read, or does not begin as a tree file of version 2.
+/// Fails if memory is refused.
 fn pass_rank<R: Files>(rt: &R, alloc: Global, path: &str) -> Result<u32, NoMemory> {
     let Ok(mut tree) = FileDevice::existing(rt, alloc, path, CallRecord::new()) else {
         return Ok(0);

@@ -8,12 +8,12 @@ use Rattle.tree_index.specs.declared.fault.ShapeFault.TheVariants as record_faul
 use Rattle.tree_index.specs.declared.fault.TreeFault.{TreeFault}
 use Rattle.tree_index.specs.declared.fault.TreeFault.TheVariants as tree_fault
 
--- of a fault of reading a value
+-- the fault of a record, for a fault of reading a value in it
 abbrev pub record_fault_of : ValueFault → ShapeFault
 record_fault_of value_fault.Malformed = record_fault.Damaged
 record_fault_of value_fault.NoMemory = record_fault.NoMemory
 
--- of a fault of reading a frame
+-- the fault of a tree file, for a fault of reading a frame of it
 abbrev pub tree_fault_of : FrameFault → TreeFault
 tree_fault_of frame_fault.NotATreeFile = tree_fault.Damaged 0
 tree_fault_of (frame_fault.Damaged at) = tree_fault.Damaged at

@@ -1,5 +1,6 @@
--- The nodes of a tree in the order in which the tree's file is read from its end, and the index that has these nodes. All of
--- this is this project's.
+-- The nodes of a tree in the order in which the tree's file is read from its end, and the index that has these nodes. In these
+-- definitions g is a grammar, m the passes of its attributes, k the number of a pass, t a tree, v the values of its attributes,
+-- and d a direction. All of this is this project's.
 use Rattle.std.specs.Prelude.{ℕ, zero, suc, ◌≡◌, ◌<◌, ◌^◌, List, [], ◌∷◌, ◌++◌, ◌≤◌, drop, map, reverse, length, slice_get}
 use Rattle.std.specs.Prelude.{Option, None, Some, Ok}
 use Rattle.std.specs.List.{flat_map}

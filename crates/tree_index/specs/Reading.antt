@@ -1,4 +1,5 @@
--- The reading of a tree file from its end, and the index of the nodes that were read. All of this is this project's.
+-- The reading of a tree file from its end, and the index of the nodes that were read. The letters g, m, k, t, v and d have the
+-- meaning that they have in `Nodes.antt`. All of this is this project's.
 use Rattle.std.specs.Prelude.{ℕ, ◌≡◌, ◌+◌, ◌-◌, ◌<◌, ◌≤◌, ◌⊎◌, Bool, List, [], ◌∷◌, ◌++◌, map, drop, length, get_or, min, set}
 use Rattle.std.specs.Prelude.{Some, Ok}
 use Rattle.ag_grammar.specs.declared.direction.Direction.{Direction}

@@ -1,4 +1,4 @@
--- The numbers of tokens of the nodes of a tree, with literals. All of this is this project's.
+-- The numbers of tokens of the nodes of a tree. Literals count as tokens. All of this is this project's.
 use Rattle.std.specs.Prelude.{ℕ, zero, suc, ◌≡◌, ◌+◌, ◌<◌, ◌^◌, List, [], ◌∷◌, Option, None, Some, length, slice_get}
 use Rattle.ag_grammar.specs.declared.grammar.Item.TheVariants as item
 use Rattle.ag_grammar.specs.declared.grammar.Item.{Item}
@@ -27,7 +27,7 @@ literals_in None = 0
 literals_in (Some q) = literal_count q.items
 
 -- The number of a node's own tokens, without those of the nodes below it: 1 for a token of a class, and the number of literals
--- of its production for another node.
+-- of its production for another node. 0 if there is no node, or the grammar does not have the production.
 abbrev pub own_count : Grammar → Option NodeKind → ℕ
 own_count g None = 0
 own_count g (Some (kind.Token c)) = 1

@@ -49,9 +49,9 @@ impl TokenRange {
 
 impl TreeIndex {
     /// Returns the places from the root to the deepest node of a production whose subtree has all
-    /// tokens of a range, which are numbered in the whole sentence. Returns
-    /// the empty list, the path of the root, if the tree does not have all tokens of the range.
-    /// Fails if memory is refused.
+    /// tokens of a range. The range is one of the root's subtree, so its tokens are numbered in the
+    /// whole sentence. `counts` are the counts of this index. Returns the empty list, the path of
+    /// the root, if the tree does not have all tokens of the range. Fails if memory is refused.
     pub fn find_covering(
         &self,
         alloc: Global,
@@ -76,8 +76,8 @@ impl TreeIndex {
         Ok(places)
     }
 
-    /// Returns the child of a node that is a node of a production and whose subtree has all tokens
-    /// of a range, if there is one.
+    /// Returns the child, other than a token, whose subtree has all tokens of a range, if `node`
+    /// has such a child. The range is one of the tokens of the subtree of `node`.
     fn covering_child(
         &self,
         grammar: &Grammar,

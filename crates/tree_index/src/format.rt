@@ -34,7 +34,7 @@ pub struct NodeRecord {
     /// The number of the node's production, or of the token's class.
     pub number: u16,
     /// The values of the record: the node's own values, and then copies of its children's
-    /// synthesized ones.
+    /// synthesized ones. (The copy of a child that is a token is its text.) Of a token, its text.
     row: Vec<Carried>,
 }
 
@@ -46,7 +46,8 @@ impl<'a> FileFormat<'a> {
         self.grammar.productions().get(usize::from(number))
     }
 
-    /// Returns the number of an item's own values in a record of the item, without copies.
+    /// Returns the number of own values in a record of an item, without copies: one for each
+    /// attribute whose pass is at most the file's, or the text of a token.
     pub(crate) fn own_width(&self, item: Item) -> usize {
         match item {
             Item::Symbol(symbol) => count_up_to(passes_of(self.plan, symbol), self.pass),
@@ -131,8 +132,9 @@ impl<'a> FileFormat<'a> {
         Ok(number)
     }
 
-    /// Reads the values of a node of a production: its own, and the copies of its children's. Fails
-    /// with `Damaged` if `spellings` are not exactly this number of values, and with `NoMemory`.
+    /// Reads the values in a record of a node of a production, and appends them to a row: the
+    /// node's own values, and then the copies of its children's. Fails with `Damaged` if
+    /// `spellings` does not consist of the spellings of as many values, and with `NoMemory`.
     fn read_row(
         &self,
         alloc: Global,
@@ -176,8 +178,9 @@ impl<'a> FileFormat<'a> {
         }
     }
 
-    /// Returns the value of an attribute (by its number from 0) of the node whose record it is.
-    /// `item` is the item of the node. Returns `None` if the record does not have the value.
+    /// Returns the value of an attribute (by its number from 0) of the node that has this record.
+    /// `item` is the item of the node. The text of a token is attribute 0. Returns `None` if the
+    /// record does not have the value.
     pub fn own_value<'r>(
         &self,
         record: &'r NodeRecord,
@@ -191,9 +194,9 @@ impl<'a> FileFormat<'a> {
         self.value_at(record, passes, 0, attr)
     }
 
-    /// Returns the value of a synthesized attribute of the child at `place` (from 1), from the
-    /// copies in the record of its parent, a node of `production`. Returns `None` if the record
-    /// does not have the value.
+    /// Returns the value of a synthesized attribute (by its number from 0) of the child at `place`
+    /// (from 1), from the copies in the record of its parent, a node of `production`. The text of a
+    /// token is attribute 0. Returns `None` if the record does not have the value.
     pub fn copied_value<'r>(
         &self,
         record: &'r NodeRecord,

@@ -147,8 +147,9 @@ impl TreeIndex {
         self.child_after(node, others_before(direction, count, place))
     }
 
-    /// Returns the number of the child of a node that comes after `before` other children in the
-    /// order of the index. If the node has no such child, a returned number has no meaning.
+    /// Returns the number of that child of a node which comes after exactly `before` other children
+    /// of this node in the order of the index. If the node has no such child, a returned number has
+    /// no meaning.
     fn child_after(&self, node: u32, before: u16) -> Option<u32>
         ensures later { IfSome result (HasLater self.now node before) }
         ensures complete { IfNone result (HasNoLater self.now node before) }

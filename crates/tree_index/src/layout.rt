@@ -1,4 +1,4 @@
-//! The rows of values in records, by the passes of a plan.
+//! The passes, by a plan, of the attributes whose values a record can have.
 
 use ag_grammar::{Grammar, Item, Symbol, Terminal};
 use planchecker::Plan;
@@ -28,7 +28,8 @@ fn synthesized_among<'a>(symbol: &Symbol, passes: &'a [u16]) -> &'a [u16] {
 }
 
 /// Returns the passes of those attributes of a child that its parent's record copies: the
-/// synthesized attributes of a symbol, or the text of a token, which has pass 0.
+/// synthesized attributes of a symbol, or the text of a token, which has pass 0. The list of a
+/// literal is empty.
 pub(crate) fn copied_passes<'a>(grammar: &Grammar, plan: &'a Plan, item: Item) -> &'a [u16] {
     match item {
         Item::Symbol(symbol) => synthesized_passes(grammar, plan, symbol),

@@ -34,7 +34,8 @@ const MAX_COPIED: u64 = 4_194_304;
 /// one to close each node, and one at which no node is open.
 const MAX_TURNS: u32 = 2 * MAX_NODES + 1;
 
-/// An open node: a node of a production that was read and is not closed yet.
+/// An open node: a node of a production that was read and is not closed yet. (A node is closed
+/// after all nodes of its subtree were read.)
 #[derive(Clone, Copy)]
 pub(crate) struct OpenRecord {
     /// The number of the node in the tree's index.
@@ -45,15 +46,15 @@ pub(crate) struct OpenRecord {
     children: u16,
     /// The number of children that were visited.
     visited: u16,
-    /// The position, in the list of all values, at which the node's row begins: the node's own
-    /// values, and then copies of its children's synthesized ones.
+    /// The position in `Reading::values` at which the node's row begins: the node's own values, and
+    /// then copies of its children's synthesized ones.
     row: usize,
 }
 
 /// The copies that a node's row has of the values of a child.
 #[derive(Clone, Copy)]
 struct Copies {
-    /// The position of the first copy in the list of all values.
+    /// The position of the first copy in `Reading::values`.
     at: usize,
     /// The number of copies.
     width: usize,
@@ -70,7 +71,7 @@ struct Fetched {
     number: u16,
     /// The offset in bytes at which the record ends.
     end: u64,
-    /// The position at which the record's row begins in the list of all values.
+    /// The position in `Reading::values` at which the record's row begins, if values are read.
     row: usize,
 }
 
@@ -131,8 +132,9 @@ impl Mode<'_> {
         }
     }
 
-    /// Returns the record of the next child of an open node. Returns `None` if all children were
-    /// visited, or if the grammar has no such production or child.
+    /// Returns which record is expected for the next child of an open node. Returns `None` if all
+    /// children were visited, or if the grammar has no such production or child; `turn` does not
+    /// call this function in these cases.
     fn expected_child(&self, node: OpenRecord) -> Option<Expected>
         ensures { IfSome result (λ expected. (q : TheProduction)
             → IsProduction self.now.format.grammar.now node.production q
@@ -157,9 +159,9 @@ impl Mode<'_> {
 /// row if values are read. If the mode lends bodies and the device lends this body, reads only the
 /// kind and the number in it.
 ///
-/// Fails with P3 if `MAX_NODES` records were read already, with R1 and the end of the body if no
-/// frame ends there or the body is not a record of the item, with D1 if a call of the device fails,
-/// and if memory is refused.
+/// Fails with P3 if `MAX_NODES` records were read already. Fails with R1 and the offset
+/// `back.end()` if no frame ends at this offset, or if the frame's body is not a record of the
+/// item. Fails with D1 if a call of the device fails, and if memory is refused.
 fn fetch<D: Device>(
     mode: &Mode<'_>,
     item: Item,
@@ -276,7 +278,7 @@ impl Reading {
     }
 
     /// Adds the node of a record to the index, and opens the node if it is one of a production. Of
-    /// a token, removes the text from the list of values. Fails if memory is refused.
+    /// a token, removes the text from `values`. Fails if memory is refused.
     fn open(&mut self, grammar: &Grammar, fetched: Fetched) -> Result<(), TreeFault>
         ensures opened { OnOk result (HasOpened grammar.now fetched.item fetched.end fetched.number
             self.old.index self.new.index self.old.nodes.items self.new.nodes.items) }
@@ -328,7 +330,7 @@ impl Reading {
     /// Reads the next child of the innermost open node, or closes the node if all its children were
     /// visited. The node was removed from `nodes`, and is put back before a child is read.
     ///
-    /// Fails as `read` does, and with R1 if the grammar does not have the node's production.
+    /// Fails as `read` does.
     fn turn<D: Device>(
         &mut self,
         mode: &Mode<'_>,
@@ -355,6 +357,7 @@ impl Reading {
             return Ok(());
         }
         let Some(expected) = mode.expected_child(node) else {
+            // not reached: the grammar has the production of each open node
             return Err(TreeFault::Damaged(self.back.end()));
         };
         let visited = OpenRecord {

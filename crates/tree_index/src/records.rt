@@ -11,9 +11,10 @@ use ag_value::{NoMemory, Value};
 use std::alloc::Global;
 use treefile::{Kind, split_body};
 
-/// Returns the number with which a record of an item begins, and the bytes after it: the number of
-/// the production for a symbol, and that of the class for a token. Returns `None` if the body does
-/// not begin as a record of the item, whatever the bytes after the number are.
+/// Returns the number in a record of an item, and the bytes after this number, which should be the
+/// spellings of the record's values. For a symbol it is the number of the production, and for a
+/// class that of the class. Returns `None` if the kind or the number in the body is not that of a
+/// record of the item. The bytes after the number are not checked.
 pub(crate) fn split_record<'b>(
     grammar: &Grammar,
     item: Item,

@@ -19,7 +19,7 @@ pub enum TreeToken {
     Word(u32),
 }
 
-/// A node whose tokens are visited.
+/// An open node: the walk is visiting the tokens of its subtree.
 #[derive(Clone, Copy)]
 struct OpenRecord {
     node: u32,
@@ -68,7 +68,7 @@ impl<'a> TokenWalk<'a> {
     /// Returns the next token; `None` after the last one. Fails if memory is refused.
     pub fn next(&mut self) -> Result<Option<TreeToken>, NoMemory> {
         for _turn in 0..MAX_TURNS {
-            // the innermost open node; it is put back below, unless it has no more items
+            // the innermost open node; `pass` or `go_on` puts it back, unless it has no more items
             let Some(open) = self.nodes.pop() else {
                 return Ok(None);
             };
@@ -118,7 +118,9 @@ impl<'a> TokenWalk<'a> {
         )
     }
 
-    /// Returns what the next item of an open node is.
+    /// Returns what the next item of an open node is. Returns `Nothing` after the last item, and
+    /// also if the grammar does not have the node's production, or the index does not have the
+    /// child.
     fn next_of(&self, open: OpenRecord) -> Next {
         let Some(NodeKind::Node(number)) = self.index.kind(open.node) else {
             return Next::Nothing;

@@ -9,7 +9,7 @@ use ag_grammar::{Grammar, Item, Production, Terminal};
 use ag_value::NoMemory;
 use std::alloc::Global;
 
-/// The numbers of tokens in the subtrees of a tree, with literals.
+/// The numbers of tokens in the subtrees of a tree. Literals count as tokens.
 #[derive(Drop)]
 pub struct TokenCounts {
     /// The sums of the nodes' own tokens, which `own_tokens` counts: element i is the sum for the
@@ -45,8 +45,8 @@ impl TokenCounts {
         self.before.get(after as usize)?.checked_sub(before_first)
     }
 
-    /// Returns the number of tokens of the subtree of a node; `None` if the index does not have the
-    /// node.
+    /// Returns the number of tokens of the subtree of a node. `index` is the index from which the
+    /// counts were made. Returns `None` if the index does not have the node.
     pub fn of_subtree(&self, index: &TreeIndex, node: u32) -> Option<u32>
         ensures count { IfSome result (HasTokens index.now self.now node) }
         ensures complete { IfNone result (HasNoTokens index.now self.now node) }

@@ -17,7 +17,8 @@ pub struct NodeVisit {
     pub level: u32,
 }
 
-/// A node that was visited and not left yet.
+/// A node that was visited and not left yet. The walk leaves a node after it visited the node's
+/// subtree.
 #[derive(Clone, Copy)]
 struct OpenRecord {
     node: u32,
@@ -39,7 +40,7 @@ pub struct SentenceWalk<'a> {
     first: Option<u32>,
     /// The nodes that are not left yet, the outermost one first.
     nodes: Vec<OpenRecord>,
-    /// The path of the node that was visited last.
+    /// The path that `path` returns.
     path: NodePath,
 }
 
@@ -56,7 +57,8 @@ impl<'a> SentenceWalk<'a> {
         }
     }
 
-    /// Returns the path of the node that was visited last.
+    /// Returns the path of the node that was visited last. Before the first visit and after the end
+    /// of the walk, returns the path of the node at which the walk begins.
     pub fn path(&self) -> &NodePath {
         &self.path
     }
@@ -95,7 +97,8 @@ impl<'a> SentenceWalk<'a> {
         Ok(Some(NodeVisit { node, level }))
     }
 
-    /// Returns the node that is visited next, and leaves the nodes whose children were all visited.
+    /// Returns the node that is visited next, and leaves the nodes whose subtrees were visited.
+    /// Returns `None` after the last node. Fails if memory is refused.
     fn next_node(&mut self) -> Result<Option<u32>, NoMemory> {
         if let Some(first) = self.first {
             self.first = None;
@@ -118,7 +121,8 @@ impl<'a> SentenceWalk<'a> {
         Ok(None)
     }
 
-    /// Puts a node back on the list of open nodes, and returns its next child.
+    /// Puts a node back on the list of nodes that are not left, and returns its next child.
+    /// Returns `None` if the index does not have the child. Fails if memory is refused.
     fn visit_child(&mut self, node: OpenRecord) -> Result<Option<u32>, NoMemory>
         requires { node.visited < node.children }
     {

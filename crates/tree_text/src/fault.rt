@@ -10,11 +10,11 @@ use tree_index::TreeFault;
 /// Why a tree file was not printed.
 #[derive(Clone, Copy, Debug, PartialEq, Eq)]
 pub enum ShowFault {
-    /// The file, or a record of it, was not read.
+    /// The file, or a record of it, was not read. The fault can be that memory was refused.
     Tree(TreeFault),
     /// O2: the output failed.
     Write,
-    /// Memory was refused.
+    /// Memory was refused to a call that does not return a `TreeFault`.
     NoMemory,
 }
 

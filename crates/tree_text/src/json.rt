@@ -48,8 +48,8 @@ impl TreeText<'_> {
         Ok(out.push_str("}}\n")?)
     }
 
-    /// Writes the members with the symbol and the production of a node, or with the class of a
-    /// token.
+    /// Writes the members with the symbol of a node, the number of its production and the
+    /// production, or the member with the class of a token.
     fn write_kind_fields(
         &self,
         alloc: Global,
@@ -192,7 +192,7 @@ fn write_number(out: &mut String, number: i64) -> Result<(), NoMemory> {
     Ok(write!(out, "{{\"number\": \"{number}\"}}")?)
 }
 
-/// Writes a text as a string.
+/// Writes a text as a JSON string, in quotes.
 fn write_string(out: &mut String, text: &str) -> Result<(), NoMemory> {
     out.push_str("\"")?;
     for character in text.chars() {

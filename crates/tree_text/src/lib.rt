@@ -1,10 +1,12 @@
 //! A tree file as text: a line for each node, indented, in the order of the sentence; or a JSON
 //! object for each. What `aggen show` prints.
 //!
-//! In lines, control characters, invisible characters and unusual spaces are written as escapes,
-//! such as `\u{1b}`. In JSON, quotes, backslashes and control characters are written as escapes,
-//! such as `\n` and `\u001b`, and other characters as they are. The functions that write to a
-//! `String` fail if memory is refused.
+//! In lines, control characters, white space other than the plain space, and some invisible
+//! characters are written as escapes, such as `\u{1b}`; in the text of a value, LF, tab and CR are `\n`, `\t` and `\r`. In JSON,
+//! quotes, backslashes and control characters of a value are written as escapes, such as `\n` and
+//! `\u001b`, and other characters as they are. The text of a production in JSON is first made as in
+//! lines and then written as a JSON string, so `\u{1b}` in it is `\\u{1b}`. The functions that
+//! write to a `String` fail if memory is refused.
 #![tactic(auto)]
 
 mod fault;

@@ -9,12 +9,13 @@ use ag_value::NoMemory;
 use std::alloc::Global;
 use tree_index::NodePath;
 
-/// The greatest number of levels by which a line is indented. Deeper nodes are indented as much.
+/// The greatest number of levels by which a line is indented, two spaces each. The lines of deeper
+/// nodes are indented by as many spaces as those of this level.
 const MAX_INDENTED: u32 = 24;
 
 impl TreeText<'_> {
-    /// Writes the line of a node: its path, its production or its class, and its values. If the
-    /// nodes below it are left out, also writes their number.
+    /// Writes the line of a node: its path, its production (of a token its class), and the values
+    /// of the selected attributes. If the nodes below it are left out, also writes their number.
     pub(crate) fn write_line(
         &self,
         alloc: Global,

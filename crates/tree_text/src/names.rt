@@ -5,8 +5,8 @@ use message_parts::classes::class_name;
 use message_parts::display::{PlainText, QuotedText};
 use std::fmt;
 
-/// An item of a right side, which prints as in the grammar: a symbol or class by its name, a
-/// literal in quotes.
+/// A symbol, class or literal, which prints as in the grammar: a symbol or class by its name, a
+/// literal in quotes. Prints nothing if the grammar does not have it.
 #[derive(Clone, Copy)]
 pub struct ItemName<'a> {
     pub grammar: &'a Grammar,
@@ -31,7 +31,7 @@ impl fmt::Display for ItemName<'_> {
     }
 }
 
-/// A production without its rules, which prints as in the grammar.
+/// A production without its rules, which prints as in the grammar, such as `L = B T`.
 #[derive(Clone, Copy)]
 pub struct ProductionText<'a> {
     pub grammar: &'a Grammar,

@@ -68,9 +68,9 @@ impl TreeText<'_> {
         self.only.is_empty()
     }
 
-    /// Reads the record of a node that is visited. Returns `None` if the node is not printed, and
-    /// if the index or the grammar does not have it. Fails with R1 if the record is damaged, with
-    /// D1 if a call of the device fails, and if memory is refused.
+    /// Reads the record of a node that is visited. Returns `None` if the node is not printed, if
+    /// the index does not have it, and if the grammar does not have its production. Fails with R1
+    /// if the record is damaged, with D1 if a call of the device fails, and if memory is refused.
     fn read_node<D: Device>(
         &self,
         alloc: Global,
@@ -117,8 +117,9 @@ impl TreeText<'_> {
     }
 }
 
-/// Prints the nodes of a walk over a tree file. The walk has to be over the index of `text`; its
-/// greatest level is set to `text.depth`.
+/// Prints the nodes of a walk over the tree file that `device` contains. If `text.only` is not
+/// empty, prints only the nodes that have one of its attributes. The walk has to be one over the
+/// index `text.index`. The call sets the walk's greatest level to `text.depth`.
 ///
 /// Fails with R1 if a record is damaged. (`TreeIndex::read` refuses a file with such a record, but
 /// `read_shape` does not read the values, and the file may have changed since.) Fails with D1 if a

@@ -1,4 +1,4 @@
-//! The attributes that are printed.
+//! The attribute that a name means.
 
 use ag_grammar::limits::{NAME, NUMBER, TEXT};
 use ag_grammar::{Grammar, Item, Terminal};
@@ -15,8 +15,8 @@ pub struct SelectedAttribute {
 }
 
 /// Returns the attribute of a name, such as `L.sum` or `NUMBER.lex`. Each class has `lex`, even if
-/// the grammar does not use the class. If the grammar has no attribute of another name, fails as
-/// `attribute_named` does.
+/// the grammar does not use the class. Any other name means an attribute of a symbol; if the
+/// grammar does not have it, fails as `attribute_named` does.
 pub fn selected_attribute<'a>(
     grammar: &Grammar,
     name: &'a str,

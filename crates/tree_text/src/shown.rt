@@ -26,7 +26,7 @@ pub fn write_value(
     }
 }
 
-/// Writes a value as `write_value` does.
+/// Writes a value as `write_value` does. The value is not a number.
 fn write_flat(
     alloc: Global,
     out: &mut String,

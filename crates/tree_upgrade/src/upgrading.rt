@@ -49,12 +49,13 @@ struct Subtree {
 }
 
 impl Upgrading {
-    /// Reads the record of a subtree's root, which comes before the record that was read last.
-    /// Requires an item that is a child: a symbol or a class. Fails with P2 if the root's level
-    /// exceeds `MAX_REVERSED_LEVELS`, and with P3 if `MAX_REVERSED_RECORDS` records were read
-    /// already. Fails with R1 and the offset at which the record's frame should end if no frame
-    /// ends there, or one whose body is not a record of the item. Fails with D1 if the device
-    /// fails, and with `NoMemory` if memory cannot be allocated.
+    /// Reads the record of a subtree's root. Its frame should end where the frame that was read
+    /// last begins, or at the end of the file if none was read. Requires an item that is a child: a
+    /// symbol or a class. Fails with P2 if the root's level exceeds `MAX_REVERSED_LEVELS`, and with
+    /// P3 if `MAX_REVERSED_RECORDS` records were read already. Fails with R1 and the offset at
+    /// which the record's frame should end if no frame ends there, or one whose body is not a
+    /// record of the item. Fails with D1 if the device fails, and with `NoMemory` if memory cannot
+    /// be allocated.
     fn record<D: Device>(
         &mut self,
         grammar: &Grammar,
@@ -94,10 +95,10 @@ impl Upgrading {
         }
     }
 
-    /// Converts a subtree, if its item is a child: reads its records, and writes them in postfix
-    /// order, from right to left. For a literal does nothing. Returns the text if the item is a
-    /// class, and otherwise `None`. Fails as `upgrade` does for the first device, and with D1 if
-    /// the second one fails.
+    /// Converts a subtree, if its item is a symbol or a class: reads its records, and writes the
+    /// records of version 2 in postfix order, from right to left. For a literal does nothing.
+    /// Returns the text if the item is a class, and otherwise `None`. Fails as `upgrade` does for
+    /// the first device, and with D1 if the second one fails.
     fn tree<D: Device, E: Device>(
         &mut self,
         grammar: &Grammar,
@@ -122,7 +123,8 @@ impl Upgrading {
         ensures balanced { OnOk result
             (self.new.writer.written + self.old.back.progress.records
             ≡ self.old.writer.written + self.new.back.progress.records) }
-        // Frames were appended to the second device, possibly none; after a failure, a prefix of some
+        // Frames were appended to the second device, possibly none; after a failure, a prefix of
+        // such frames
         ensures added { OnOk result (AddsFrames (E.is_honest to.new)
             (E.content to.old) (E.content to.new)) }
         ensures left { IfErr result (LeavesFrames (E.is_honest to.new)
@@ -225,7 +227,8 @@ fn convert<D: Device, E: Device>(
     Ok(())
 }
 
-/// The numbers of children of the nodes in a grammar's trees.
+/// The numbers of children of the nodes in a grammar's trees, by which `turn` reverses the
+/// intermediate file.
 #[derive(Drop)]
 struct Stored<'a> {
     grammar: &'a Grammar,
@@ -266,19 +269,19 @@ fn stored_among(items: &[Item]) -> u32
 /// deep as the tree, and ends at the first record below level `MAX_REVERSED_LEVELS` (256). The
 /// first device always keeps its content. After a success the old content of the other two is lost.
 ///
-/// Fails with R1 (`Damaged`) only if the content is not the file of version 1 and pass 0 of a tree of
-/// the grammar; the offset is as for `run_pass`. If a limit is exceeded before any damage, fails with P2
-/// (`TooDeep`) or P3 (`TooManyNodes`) instead: the content then encodes no tree of at most
-/// `MAX_REVERSED_LEVELS` (256) levels, or none of at most `MAX_REVERSED_RECORDS` (65,536) nodes, and may
-/// encode no tree at all. Fails with D1 (`Device`) if a call of a device failed, and with `NoMemory` if
-/// memory cannot be allocated. All this holds if the first two devices return the bytes that were
-/// written to them. If the second one does not, the call may also fail with R1 and an offset in that
-/// device's content, or with P2. After a failure the second and the third device each have their old
-/// content, or a prefix of a tree file.
+/// Fails with R1 (`Damaged`) only if the content is not the file of version 1 and pass 0 of a tree
+/// of the grammar; the offset is as for `run_pass` of the crate `passrun`. If a limit is exceeded
+/// before any damage, fails with P2 (`TooDeep`) or P3 (`TooManyNodes`) instead: the content then
+/// encodes no tree of at most `MAX_REVERSED_LEVELS` (256) levels, or none of at most
+/// `MAX_REVERSED_RECORDS` (65,536) nodes, and may encode no tree at all. Fails with D1 (`Device`)
+/// if a call of a device failed, and with `NoMemory` if memory cannot be allocated. All this holds
+/// if the first two devices return the bytes that were written to them. If the second one does not,
+/// the call may also fail with R1 and an offset in that device's content, or with P2. After a
+/// failure the second and the third device each have their old content, or a prefix of a tree file.
 ///
-/// Allocates memory for a buffer of 4,096 bytes or of the largest frame, for one frame at a time, for
-/// the texts of the tokens among the children of each node on the path from the root, and for a body
-/// at each level.
+/// Allocates memory for a buffer of 4,096 bytes or of the largest frame, for one frame at a time,
+/// and for the texts of the tokens among the children of each node on the path from the root. While
+/// the intermediate file is reversed, allocates memory for a body at each level.
 pub fn upgrade<D: Device, E: Device, F: Device>(
     alloc: Global,
     grammar: &Grammar,

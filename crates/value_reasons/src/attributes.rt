@@ -19,12 +19,12 @@ use treefile::Device;
 /// Which node is explained, and which of its attributes.
 #[derive(Clone, Copy)]
 pub struct NodeRequest<'a> {
-    /// The places from the root to the node.
+    /// The places of children, from 1, that lead from the root to the node.
     pub places: &'a [u16],
     /// The names of the attributes; if the list is empty, all are explained.
     pub names: &'a [&'a str],
-    /// The greatest number of characters of a value that is not a number; 0 for whole values. The line of an
-    /// error's cause has its own limit.
+    /// The greatest number of characters of a value that is not a number; 0 for whole values. In
+    /// the line about an error's cause, `write_cause` has its own limit.
     pub width: usize,
 }
 
@@ -36,11 +36,13 @@ struct RulePlace<'a> {
 }
 
 impl<'a> ExplainedTree<'a> {
-    /// Writes the values of a node, each with the rule that computed it and the values that the
-    /// rule used; after an error its cause, if the file is of the last pass. For a value that the
-    /// file does not have yet, writes the pass that computes it. Writes nothing if the tree does
-    /// not have the node. Fails with R1 if a record is damaged, with D1 if a call of the device
-    /// fails, and if memory is refused.
+    /// Writes the path of a node and its production, or the class of a token. Then writes for each
+    /// attribute of the request its value, the rule for it, and the values of the rule's arguments
+    /// that the file has. If the file does not have the attribute's value yet, writes the pass that
+    /// computes it in place of the value. If the value is an error and the file is of the last
+    /// pass, a line about the cause comes last. Writes nothing if the tree does not have the node.
+    /// Fails with R1 if a record is damaged, with D1 if a call of the device fails, and if memory
+    /// is refused.
     pub fn write_node<D: Device>(
         &self,
         out: &mut String,
@@ -76,7 +78,8 @@ impl<'a> ExplainedTree<'a> {
         Ok(())
     }
 
-    /// Returns whether an item has an attribute that is explained: its name is among `names`, or `names` is empty.
+    /// Returns whether an item has this attribute, and the attribute is explained: its name is
+    /// among `names`, or `names` is empty.
     fn is_selected(&self, selected: SelectedAttribute, names: &[&str]) -> bool {
         match self.format.attribute_name(selected.item, selected.attr) {
             Some(name) => names.is_empty() || names.iter().any(|given| *given == name),
@@ -110,7 +113,8 @@ impl<'a> ExplainedTree<'a> {
         }
     }
 
-    /// Writes the name of an attribute and its value or, if the file does not have that, the pass that computes it.
+    /// Writes a line with the name of an attribute and its value or, if the file does not have the
+    /// value, the pass that computes it.
     fn write_value_line(
         &self,
         out: &mut String,
@@ -141,9 +145,9 @@ impl<'a> ExplainedTree<'a> {
         Ok(out.push('\n')?)
     }
 
-    /// Writes the rule for an attribute of a node, if there is one, with the values of its arguments, as far as the
-    /// file has them. Fails with R1 if a record is damaged, with D1 if a call of the device fails, and if memory is
-    /// refused.
+    /// Writes the rule for an attribute of the requested node, and the values of the rule's
+    /// arguments that the file has. Writes nothing if the attribute has no rule. Fails as
+    /// `read_node` does.
     fn write_reason<D: Device>(
         &self,
         out: &mut String,
@@ -167,7 +171,8 @@ impl<'a> ExplainedTree<'a> {
         Ok(self.write_arguments(out, &found, path, request.width)?)
     }
 
-    /// Writes a line with a rule, and with the path of its node if its target is at a child.
+    /// Writes a line with a rule and its position. If the rule's target is at a child, also writes
+    /// the path of the rule's node, which is the parent of the explained node.
     fn write_rule_line(
         &self,
         out: &mut String,
@@ -184,8 +189,9 @@ impl<'a> ExplainedTree<'a> {
         Ok(out.push('\n')?)
     }
 
-    /// Returns the place of the rule for an attribute of the node at the end of a path: the node's own rule
-    /// for a synthesized attribute, its parent's for an inherited one. A token's text has none.
+    /// Returns where the rule for an attribute is. `places` lead to the attribute's node. The rule
+    /// for a synthesized attribute is one of this node, the rule for an inherited one is one of the
+    /// node's parent. Returns `None` for a token, whose text has no rule.
     fn rule_place<'p>(
         &self,
         places: &'p [u16],
@@ -209,7 +215,8 @@ impl<'a> ExplainedTree<'a> {
         })
     }
 
-    /// Reads the record of the node of a rule, and returns it with the rule. None if there is no such rule.
+    /// Reads the record of the node of a rule, and returns it with the rule. Returns `None` if the
+    /// rule does not exist. Fails as `read_node` does.
     fn find_rule<D: Device>(
         &self,
         place: RulePlace<'_>,
@@ -226,7 +233,8 @@ impl<'a> ExplainedTree<'a> {
         }
     }
 
-    /// Returns the node of a rule, and the rule's number in its production.
+    /// Returns the node of a rule, and the rule's number in its production. Returns `None` if the
+    /// node or the rule does not exist.
     fn rule_number(&self, place: RulePlace<'_>) -> Option<(u32, u16)> {
         let node = self.index.find(self.format.grammar, place.places)?;
         let NodeKind::Node(number) = self.index.kind(node)? else {
@@ -236,9 +244,9 @@ impl<'a> ExplainedTree<'a> {
         Some((node, rule_for(production.rules.as_slice(), place.target)?))
     }
 
-    /// Writes a line for each argument of a rule whose value is in the record of the rule's node:
-    /// the argument, its value, and the path of the node whose attribute it is. `path` is that of
-    /// the rule's node.
+    /// Writes a line for each argument of a rule, if the record of the rule's node has the
+    /// argument's value: the argument, its value, and the path of the node whose attribute it is.
+    /// `path` is that of the rule's node.
     fn write_arguments(
         &self,
         out: &mut String,
@@ -265,14 +273,15 @@ impl<'a> ExplainedTree<'a> {
         Ok(())
     }
 
-    /// Returns whether the value of an attribute is an error whose cause can be found: only the file of the last pass
-    /// has the values of all rules.
+    /// Returns whether the value of an attribute is an error, and the file is of the last pass.
+    /// Only this file has the values of all rules, from which the cause is found.
     fn is_explained_error(&self, record: &NodeRecord, selected: SelectedAttribute) -> bool {
         let is_whole = self.format.pass == self.format.plan.assignment().passes();
         is_whole && is_error(self.format.own_value(record, selected.item, selected.attr))
     }
 
-    /// Writes the cause of the error that is the value of an attribute of the node at the end of a path.
+    /// Writes a line about the cause of the error that is the value of an attribute of the node to
+    /// which `places` lead. Writes nothing if no cause is found (`find_cause`).
     fn write_cause_of<D: Device>(
         &self,
         out: &mut String,
@@ -310,7 +319,8 @@ fn is_error(value: Option<&Carried>) -> bool {
     }
 }
 
-/// Writes how a line about a cause begins, and returns the text that says where the cause's node is.
+/// Writes how a line about a cause begins. Returns the text ` at PATH`, with the path of the
+/// cause's node.
 fn write_beginning(alloc: Global, out: &mut String, cause: &Cause) -> Result<String, NoMemory> {
     out.push_str("  the error ")?;
     let path = NodePath::of_places(alloc, cause.places.as_slice())?;

@@ -1,4 +1,4 @@
-//! What the message of O1 says of an error.
+//! What the message of O1 says of the error that the root's `out` is.
 
 ghost use Rattle.std.specs.Prelude.{IsErrOf};
 ghost use Rattle.treefile.specs.devices.Device.{LeavesContent, Persists};
@@ -14,7 +14,8 @@ use std::alloc::Global;
 use tree_index::{FileFormat, NodePath, TokenCounts, TreeFault, TreeIndex};
 use treefile::Device;
 
-/// A translation that is an error, with what a message about it is made of.
+/// What the message about a translation that is an error is made of. The tree file is an argument
+/// of the call.
 #[derive(Clone, Copy)]
 pub struct ErrorTranslation<'a> {
     /// The grammar.
@@ -23,7 +24,7 @@ pub struct ErrorTranslation<'a> {
     pub plan: &'a Plan,
     /// The grammar's text.
     pub source: Source<'a>,
-    /// The sentence, if there is one: a tree may come from a file.
+    /// The sentence. `None` if the tree came from a file.
     pub sentence: Option<Source<'a>>,
 }
 
@@ -70,7 +71,8 @@ impl<'a> ErrorTranslation<'a> {
         Ok(Some(text))
     }
 
-    /// Returns the number of the start symbol's `out`.
+    /// Returns the number of the start symbol's attribute `out`. An accepted grammar has this
+    /// attribute; without it the number is 0.
     fn out_number(&self) -> u16 {
         match self
             .grammar
@@ -82,7 +84,8 @@ impl<'a> ErrorTranslation<'a> {
         }
     }
 
-    /// Returns a text that says where the node of a cause is: in the sentence or, if there is none, in the tree.
+    /// Returns a text that says where the node of a cause is: in the sentence or, if there is none,
+    /// in the tree.
     fn place_of<D: Device>(
         &self,
         tree: &ExplainedTree<'_>,
@@ -102,8 +105,9 @@ impl<'a> ErrorTranslation<'a> {
         Ok(place_in_tree(tree.alloc, cause, tokens.as_str())?)
     }
 
-    /// Returns a text with the place in a sentence of the first token of a cause's node; for a node without tokens
-    /// that of the next token, or the sentence's end. It is empty if the place can't be found.
+    /// Returns a text with the position, in a sentence, of the first token of a cause's node. For a
+    /// node without tokens this is the position of the next token, or the sentence's end. The text
+    /// is empty if no position is found.
     fn place_in_sentence(
         &self,
         tree: &ExplainedTree<'_>,
@@ -137,7 +141,8 @@ fn number_of_out(names: &[Text]) -> u16 {
     0
 }
 
-/// Returns a text with the place of a cause's node in its tree: its path, and its first tokens if it has any.
+/// Returns a text that says where a cause's node is in its tree: the node's path, and its first
+/// tokens `tokens` if it has any.
 fn place_in_tree(alloc: Global, cause: &Cause, tokens: &str) -> Result<String, NoMemory> {
     let path = NodePath::of_places(alloc, cause.places.as_slice())?;
     if tokens.is_empty() {

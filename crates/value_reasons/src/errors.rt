@@ -30,9 +30,11 @@ impl<'a> ExplainedTree<'a> {
         Ok(body_before(self.alloc, device, end)?)
     }
 
-    /// Reads the record of a node of the last file, and writes a line for each rule of the node in
-    /// which an error arises. Returns the number of such rules: 0 for a token, or if the index does
-    /// not have the node.
+    /// Reads the record of the node at the end of `path` in the file of the last pass. Writes a
+    /// line for each rule of the node's production in which an error arises at the node. Returns
+    /// the number of such rules: 0 for a token, or if the index does not have the node. Fails with
+    /// R1 if the record is damaged, with D1 if a call of the device fails, and if memory is
+    /// refused.
     fn write_errors_at<D: Device>(
         &self,
         out: &mut String,
@@ -62,8 +64,9 @@ impl<'a> ExplainedTree<'a> {
         }
     }
 
-    /// Writes a line for each rule of a node in which an error arises, by the number of the node's production
-    /// and its values. Returns the number of such rules.
+    /// Writes a line for each rule of production `number` in which an error arises at a node.
+    /// `values` are those of the node's record. Returns the number of such rules; 0 if the grammar
+    /// does not have the production.
     fn write_errors_among(
         &self,
         out: &mut String,
@@ -86,8 +89,9 @@ impl<'a> ExplainedTree<'a> {
         self.write_errors_in(out, path, number, &row)
     }
 
-    /// Writes a line for each rule of a production in which an error arises with the values of the row, those of the
-    /// node's record. Returns the number of such rules.
+    /// Writes a line for each rule of the row's production in which an error arises at the row's
+    /// node. `number` is that of the production. Returns the number of such rules. Requires an
+    /// argument for each distinct occurrence in a rule's expression, as `is_arising` does.
     fn write_errors_in(
         &self,
         out: &mut String,
@@ -114,11 +118,12 @@ impl<'a> ExplainedTree<'a> {
     }
 }
 
-/// Prints a line for each rule in which an error arises, at each node of a tree in the order of the
-/// sentence, and then the number of these lines. The caller has to check that the file is of the
-/// last pass; for another file the lines mean nothing. Fails with R1 if a record is damaged, with
-/// D1 if a call of the device fails, with O2 if the output fails, and if memory is refused. Some of
-/// the lines may have been printed before a failure.
+/// Prints a line for each rule in which an error arises, at each node of a tree, and then the
+/// number of these lines. Visits the nodes in the order of the sentence: each before its children,
+/// and these from left to right. The caller has to check that the file is of the last pass; for
+/// another file the lines mean nothing. Fails with R1 if a record is damaged, with D1 if a call of
+/// the device fails, with O2 if the output fails, and if memory is refused. Some of the lines may
+/// have been printed before a failure.
 pub fn write_errors<D: Device, W: Write>(
     tree: &ExplainedTree<'_>,
     device: &mut D,
@@ -133,6 +138,7 @@ pub fn write_errors<D: Device, W: Write>(
     let mut walk = SentenceWalk::new(tree.alloc, tree.format.grammar, tree.index);
     let mut buffer = String::new(tree.alloc);
     let mut count = 0u64;
+    // the index of a file has at most `MAX_NODES` nodes
     for _node in 0..MAX_NODES {
         let Some(visit) = walk.next()? else {
             break;
@@ -150,7 +156,8 @@ pub fn write_errors<D: Device, W: Write>(
     flush(&mut buffer, out)
 }
 
-/// Writes the buffer to the output, and empties the buffer. Fails with O2 alone.
+/// Writes the buffer to the output, and empties the buffer. Fails with O2 if the output fails, and
+/// with no other fault.
 fn flush<W: Write>(buffer: &mut String, out: &mut W) -> Result<(), ShowFault>
     ensures { IfErr result (λ fault. fault ≡ ShowFault.Write) }
 {

@@ -1,4 +1,4 @@
-//! A tree file with its grammar: what explanations are made of.
+//! The grammar, its text and the index of a tree file, from which explanations are made.
 
 use ag_grammar::RawGrammar;
 use ag_text::read_grammar;
@@ -7,14 +7,16 @@ use message_parts::Source;
 use std::alloc::Global;
 use tree_index::{FileFormat, TreeIndex};
 
-/// A tree file with its index, and the text of its grammar, which is read again for the positions of rules.
+/// The index of a tree file, and the text of its grammar, which is read again for the positions of
+/// rules. The file is not in it: each call that reads records has an argument `device`, which has
+/// to contain the file.
 #[derive(Drop)]
 pub struct ExplainedTree<'a> {
-    /// The allocator of what is written.
+    /// The allocator of the records that are read, and of the texts that calls make.
     pub(crate) alloc: Global,
-    /// The grammar's text, and its file.
+    /// The grammar's text, with the name of its file.
     pub(crate) source: Source<'a>,
-    /// The grammar as it is written.
+    /// The grammar as it was read from this text, with the offsets of its rules.
     pub(crate) raw: RawGrammar,
     /// How the file is read.
     pub(crate) format: FileFormat<'a>,
@@ -23,8 +25,9 @@ pub struct ExplainedTree<'a> {
 }
 
 impl<'a> ExplainedTree<'a> {
-    /// Reads the text of a grammar again, and returns it with a tree file of that grammar. Fails if memory is refused,
-    /// and also if the text is not that of a grammar, which an accepted one is.
+    /// Reads the text of a grammar again, and returns the result with the format and the index of a
+    /// tree file of that grammar. Fails with NoMemory if memory is refused, and also if the text is
+    /// not that of a grammar. The text of an accepted grammar always is.
     pub fn new(
         alloc: Global,
         source: Source<'a>,

@@ -17,31 +17,33 @@ const MAX_TOKENS: usize = 3;
 /// The greatest number of characters of a token that are written.
 const MAX_CHARACTERS: usize = 24;
 
-/// A node that was entered. Its items before `item` were visited.
+/// A node that was entered. The items of its production before the index `item` were visited.
 #[derive(Clone, Copy)]
 struct OpenNode {
     node: u32,
     /// The index of the next item of its production.
     item: usize,
-    /// The number of children before that item.
+    /// The number of children before that item. A literal is not a child.
     children: u16,
 }
 
 /// What the next item of a node is.
 #[derive(Clone, Copy)]
 enum NextToken {
-    /// The literal of this number.
+    /// The literal of this number in the grammar.
     Literal(u16),
-    /// The token of this node.
+    /// A token of a class: the node of this number in the index.
     Token(u32),
-    /// The tokens below this node of a symbol.
+    /// A symbol: the node of this number. The tokens below it come next.
     Below(u32),
-    /// Nothing more of the node.
+    /// Nothing: all items were visited, or the index does not have the next child.
     Nothing,
 }
 
 impl<'a> ExplainedTree<'a> {
-    /// Writes the first tokens of a node, at most `MAX_TOKENS`, with a space between. Writes nothing if it has none.
+    /// Writes the first tokens below a node of a symbol, at most `MAX_TOKENS`, with a space
+    /// between. Writes nothing if the node has no tokens. Fails with R1 if the record of a token is
+    /// damaged, with D1 if a call of the device fails, and if memory is refused.
     pub(crate) fn write_first_tokens<D: Device>(
         &self,
         out: &mut String,
@@ -77,7 +79,7 @@ impl<'a> ExplainedTree<'a> {
         Ok(())
     }
 
-    /// Returns what follows at the next item of a node.
+    /// Returns what the next item of a node is.
     fn next_token(&self, open: OpenNode) -> NextToken {
         let Some(NodeKind::Node(number)) = self.index.kind(open.node) else {
             return NextToken::Nothing;
@@ -95,8 +97,10 @@ impl<'a> ExplainedTree<'a> {
         }
     }
 
-    /// Writes the next item if it is a token, after a space unless it is the first one. `before` is the number of tokens
-    /// written before. Returns whether it is a token whose text is known.
+    /// Writes the next item if it is a token. Writes a space first unless `before`, the number of
+    /// tokens already written, is 0. Returns whether the item counts as a token: a literal does,
+    /// and a token of a class whose record has its text; a symbol does not. Fails as `read_node`
+    /// does.
     fn write_token<D: Device>(
         &self,
         out: &mut String,
@@ -141,7 +145,7 @@ impl<'a> ExplainedTree<'a> {
     }
 }
 
-/// Adds a node none of whose items was visited.
+/// Adds a node to the list. None of its items was visited.
 fn push(nodes: &mut Vec<OpenNode>, node: u32) -> Result<(), NoMemory> {
     Ok(nodes.push(OpenNode {
         node,
@@ -150,8 +154,9 @@ fn push(nodes: &mut Vec<OpenNode>, node: u32) -> Result<(), NoMemory> {
     })?)
 }
 
-/// Puts a node back on the list after its next item was visited. If this item is a symbol, then
-/// adds the child there, which so comes before the rest of the node.
+/// Puts a node back on the list, with its next item marked as visited. If this item is a symbol,
+/// also adds the child there. The list's last node is visited first, so the child's items come
+/// before the other items of the node.
 fn push_next(nodes: &mut Vec<OpenNode>, open: OpenNode, next: NextToken) -> Result<(), NoMemory> {
     let is_child = !matches!(next, NextToken::Literal(_));
     let children = if is_child {
@@ -170,8 +175,8 @@ fn push_next(nodes: &mut Vec<OpenNode>, open: OpenNode, next: NextToken) -> Resu
     }
 }
 
-/// Writes the first `MAX_CHARACTERS` characters of a token, and `..` if there are more. Writes a space before them if
-/// `before` is not 0.
+/// Writes the first `MAX_CHARACTERS` characters of a token, and `..` if there are more. Writes a
+/// space before them if `before` is not 0. A character that is written as an escape counts as one.
 fn write_shortened(out: &mut String, text: &str, before: usize) -> Result<(), NoMemory> {
     if before != 0 {
         out.push_str(" ")?;

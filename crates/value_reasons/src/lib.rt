@@ -1,8 +1,9 @@
-//! Where the values in a tree file come from: what `aggen explain` prints, and what the message of O1 says
-//! of an error.
+//! Where the values in a tree file come from: what `aggen explain` prints, and what the message of
+//! O1 says of the error that the root's `out` is.
 //!
-//! Control characters, invisible characters and unusual spaces are written as escapes, such as
-//! `\u{1b}`. The functions that write to a `String` fail if memory is refused.
+//! Control characters, white space other than the plain space, and some invisible characters are
+//! written as escapes, such as `\u{1b}`. In the text of a value, LF, tab and CR are `\n`, `\t` and `\r`; in a rule, a line
+//! break is a space. The functions that write to a `String` fail if memory is refused.
 #![tactic(auto)]
 
 mod attributes;

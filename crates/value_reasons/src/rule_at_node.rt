@@ -1,4 +1,5 @@
-//! Rules at nodes, with the records of the nodes; what is printed of the rule in which an error arises.
+//! A rule at a node, with the node's record, and what is printed of a rule in which an error
+//! arises.
 
 ghost use Rattle.std.specs.Prelude.{IsErrOf};
 ghost use Rattle.treefile.specs.devices.Device.{LeavesContent, Persists};
@@ -11,9 +12,8 @@ use tree_index::{NodeKind, NodeRecord, TreeFault};
 use tree_text::write_value;
 use treefile::Device;
 
-/// The greatest number of characters of an argument's value where the cause of an error is
-/// described, in a message or in a line of an explanation. A value that is a number is written
-/// whole.
+/// The greatest number of characters that `write_cause` writes of an argument's value. A number is
+/// written whole.
 const MAX_ARGUMENT: usize = 40;
 
 /// A rule at a node, with the record of the node.
@@ -29,8 +29,9 @@ pub(crate) struct RuleAtNode<'a> {
 }
 
 impl<'a> ExplainedTree<'a> {
-    /// Reads the record of a node, and returns it with the rule of number `index` of the node's production. Returns
-    /// `None` if there is no such node or rule.
+    /// Reads the record of a node, and returns it with the rule of number `index` (from 0) of the
+    /// node's production. Returns `None` if the node is a token, and if the node or the rule does
+    /// not exist. Fails as `read_node` does.
     pub(crate) fn rule_at<D: Device>(
         &self,
         node: u32,
@@ -63,7 +64,9 @@ impl<'a> ExplainedTree<'a> {
         }))
     }
 
-    /// Reads the record of a node. Returns `None` if the index does not have it.
+    /// Reads the record of a node or of a token. Returns `None` if the index does not have the
+    /// node, or the grammar does not have its production. Fails with R1 if the record is damaged,
+    /// with D1 if a call of the device fails, and if memory is refused.
     pub(crate) fn read_node<D: Device>(
         &self,
         node: u32,
@@ -86,10 +89,10 @@ impl<'a> ExplainedTree<'a> {
     }
 
     /// Writes where an error arises: the target of the rule, the rule's position, the text `place`
-    /// (which says where the rule's node is), the values of the rule's arguments, and the number of
-    /// rules that passed the error on. Writes nothing if the node has no such rule. Fails with R1
-    /// if the node's record is damaged, with D1 if a call of the device fails, and if memory is
-    /// refused.
+    /// (which says where the rule's node is, after a space), the values of the rule's arguments,
+    /// and the number of rules that passed the error on. Writes nothing if the node has no such
+    /// rule. Fails with R1 if the node's record is damaged, with D1 if a call of the device fails,
+    /// and if memory is refused.
     pub fn write_cause<D: Device>(
         &self,
         out: &mut String,
@@ -109,8 +112,8 @@ impl<'a> ExplainedTree<'a> {
         Ok(write_steps(out, cause.steps)?)
     }
 
-    /// Writes that an error arises in a rule at a place, and the values of the rule's arguments up
-    /// to the first one that the record does not have.
+    /// Writes that an error arises in a rule, the rule's position, and the text `place`. Then
+    /// writes the values of the rule's arguments up to the first one that the record does not have.
     fn write_arising(
         &self,
         out: &mut String,

@@ -1,4 +1,4 @@
-//! Rules and their arguments.
+//! Rules as in the grammar, their positions, and the values of their arguments.
 
 use crate::explained::ExplainedTree;
 use ag_carried::Carried;
@@ -8,7 +8,8 @@ use message_parts::display::PlainText;
 use std::fmt;
 use tree_index::NodeRecord;
 
-/// An attribute at a place of a production, which prints as in a rule: `$1.sum`.
+/// An attribute at a place of a production: 0 is the left side, 1 the first item of the right side
+/// that is not a literal. It prints as the occurrence in a rule, such as `$1.sum`.
 #[derive(Clone, Copy)]
 pub(crate) struct OccurrenceText<'a> {
     place: u16,
@@ -22,7 +23,8 @@ impl fmt::Display for OccurrenceText<'_> {
 }
 
 impl<'a> ExplainedTree<'a> {
-    /// Returns an attribute at a place of a production, as it is written in a rule. None if it does not exist.
+    /// Returns an attribute at a place of a production, which prints as in a rule. Returns `None`
+    /// if the production does not have the place, or the item there does not have the attribute.
     pub(crate) fn occurrence(
         &self,
         production: &Production,
@@ -35,8 +37,9 @@ impl<'a> ExplainedTree<'a> {
         })
     }
 
-    /// Returns the value of an attribute at a place of a production, from the record of a node: the node's own value,
-    /// or the copy of a child's. None if the record does not have it.
+    /// Returns the value of an attribute at a place of a production, from the record of a node of
+    /// this production: at place 0 the node's own value, otherwise the copy of the child's
+    /// synthesized attribute. Returns `None` if the record does not have the value.
     pub(crate) fn value_of<'r>(
         &self,
         record: &'r NodeRecord,
@@ -51,7 +54,8 @@ impl<'a> ExplainedTree<'a> {
             .copied_value(record, production, target.place, target.attr)
     }
 
-    /// Returns the offset in bytes of a rule in the grammar's text: that of its target.
+    /// Returns the offset in bytes at which a rule begins in the grammar's text. The production and
+    /// its rule are given by their numbers from 0. Returns `None` if the rule does not exist.
     pub(crate) fn offset_of(&self, production: u16, rule: u16) -> Option<usize> {
         let productions = self.raw.productions.as_slice();
         let production = productions.get(usize::from(production))?;
@@ -59,7 +63,8 @@ impl<'a> ExplainedTree<'a> {
         Some(rule.target.at)
     }
 
-    /// Writes the position of a rule: ` (grammar.ag:4:47)`.
+    /// Writes a space and the position of a rule: ` (grammar.ag:4:47)`. Writes nothing if the rule
+    /// does not exist.
     pub(crate) fn write_position(
         &self,
         out: &mut String,
@@ -72,7 +77,9 @@ impl<'a> ExplainedTree<'a> {
         }
     }
 
-    /// Writes a rule as it is in the grammar's text, in one line.
+    /// Writes a rule as it is in the grammar's text, without its `;`. Writes it in one line: a
+    /// space replaces each line break and the white space around it. Writes nothing if the rule
+    /// does not exist.
     pub(crate) fn write_rule(
         &self,
         out: &mut String,
@@ -94,7 +101,8 @@ impl<'a> ExplainedTree<'a> {
     }
 }
 
-/// Returns the length in bytes of the rule with which a text begins, without its `;`.
+/// Returns the length in bytes of the rule with which a text begins, without its `;`. The rule ends
+/// at the first `;` that is not in quotes.
 fn rule_length(text: &str) -> usize {
     let mut is_quoted = false;
     let mut is_escaped = false;

@@ -7,12 +7,12 @@ use message_parts::position::Place;
 use std::alloc::Global;
 use std::fmt;
 
-/// Where a token of a sentence is.
+/// Where a token of a sentence is. Prints with a space first, such as ` at (s.txt:1:1)`.
 #[derive(Clone, Copy)]
 pub enum TokenPosition<'a> {
-    /// It begins here.
+    /// The token begins at this position.
     At(Place<'a>),
-    /// The sentence ends before it.
+    /// The token does not exist: the sentence ends before it.
     End,
 }
 
@@ -25,8 +25,9 @@ impl fmt::Display for TokenPosition<'_> {
     }
 }
 
-/// Returns where the token is that follows the first `before` tokens of a sentence. Returns `None` if the sentence
-/// can't be cut into tokens or has fewer than `before`, or if memory is refused.
+/// Returns where the token is that follows the first `before` tokens of a sentence: `End` if the
+/// sentence has exactly `before` tokens. Returns `None` if the sentence can't be cut into tokens or
+/// has fewer than `before`, or if memory is refused.
 pub fn position_of_token<'a>(
     alloc: Global,
     grammar: &Grammar,

@@ -1,5 +1,5 @@
-//! Evaluating the tree of a file: pass 1 runs from that file, and the others alternate between the
-//! two devices.
+//! Running all passes over the tree in a file: pass 1 reads that file, and the others alternate
+//! between two other devices.
 
 ghost use Rattle.std.specs.Prelude.{◌≡◌, IfErr, IfOk, IsErrOf};
 ghost use Rattle.aggen.specs.Building.{IsLeastPlan};

@@ -1,4 +1,4 @@
-//! Translating a job: its grammar makes a translator, which translates its sentence.
+//! Translating a job: a translator is built from its grammar, and translates its sentence.
 
 ghost use Rattle.std.specs.Prelude.{◌≡◌, ◌≢◌, IfErr, IfOk, IsErrOf};
 ghost use Rattle.aggen.specs.Jobs.{IsBeforePasses, IsBeforeTrees, IsJobRefusal};
@@ -20,13 +20,13 @@ use std::io::{Read, Write};
 use treefile::Device;
 
 /// Translates a job. The bytes of the reader are the text of a grammar, the first line that is
-/// exactly `%%`, and a sentence. The grammar makes a translator, which translates the sentence by
-/// way of the devices `a` and `b`, as `Translator::translate` does.
+/// exactly `%%`, and a sentence. A translator is built from the grammar, and translates the
+/// sentence by way of the devices `a` and `b`, as `Translator::translate` does.
 ///
 /// Fails with J2 if the reader fails, with J3 above 2,097,156 bytes, and with J1 if no line is
 /// `%%`; then as `Translator::build` does for the grammar, before a device is used, and as
 /// `Translator::translate` does for the sentence; and with NoMemory if memory is refused. After
-/// every fault except O2 the writer is unchanged. A fault before the translation leaves the devices
+/// every fault except O2 `out` is unchanged. A fault before the translation leaves the devices
 /// unchanged. After a later one the devices have what `Translator::translate` leaves.
 #[tactic(auto, using(crate::proofs::Begun::begun))]
 pub fn run_job<R: Read + Drop, D: Device, W: Write>(
@@ -51,8 +51,8 @@ pub fn run_job<R: Read + Drop, D: Device, W: Write>(
         BeginsText (W.contents out.old) (W.contents out.new) }
     ensures untouched { IfErr result (λ e. IsBeforeTrees e → a.new ≡ a.old) }
     ensures b_untouched { IfErr result (λ e. IsBeforePasses e → b.new ≡ b.old) }
-    // An honest device has its old content, or a prefix of a tree file, whatever the other device
-    // is.
+    // An honest device has its old content, or a prefix of a tree file, even if the other device
+    // is not honest.
     ensures a_left { WhenHonest (D.is_honest a.new)
         (LeavesSomeFile (D.content a.old) (D.content a.new)) }
     ensures b_left { WhenHonest (D.is_honest b.new)

@@ -61,8 +61,8 @@ impl Translator {
         })
     }
 
-    /// Returns the text of the root's `out` from the file of the last pass. Fails as `root_text`
-    /// does.
+    /// Returns the text of the root's `out` from the file of the last pass, which is on the device
+    /// that `last` names. Fails as `root_text` does.
     pub(crate) fn last_text<D: Device>(
         &self,
         plan: &Plan,

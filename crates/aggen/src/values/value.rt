@@ -39,13 +39,14 @@ pub fn show_value<D: Device, W: Write>(
     ensures shows { OnOk result (WhenHonest (D.is_honest device.new)
         (Shows text.now (W.contents out.old) (W.contents out.new) (D.content device.new))) }
 
-    // X comes only if the text is not an expression without occurrences, and the device is
-    // unchanged then. For such a text X or NoMemory comes.
+    // X comes only if the text is not an expression, or has occurrences. The device is then
+    // unchanged. For each text of this kind X or NoMemory comes.
     ensures refused { IfErr result (λ e. IsExprFault e → HasNoValue text.now) }
     ensures only { HasNoValue text.now → IsErrAnd result IsTextFault }
     ensures untouched { IfErr result (λ e. IsExprFault e → device.new ≡ device.old) }
 
-    // X1 to X4 are true. If the expression has occurrences, X2 at the first `$` or NoMemory comes.
+    // X1 to X4 are true of the text. If the expression has occurrences, X2 at the first
+    // `$` or NoMemory comes.
     ensures offsets { IfErr result (IsExplained text.now) }
     ensures occurs { (at : ℕ) → OccursAt text.now at → IsErrAnd result (IsUnexpectedAt at) }
 
@@ -58,7 +59,8 @@ pub fn show_value<D: Device, W: Write>(
     ensures left { WhenHonest (D.is_honest device.new)
         (LeavesBeginning 0 (D.content device.old) (D.content device.new)) }
 
-    // Nothing is written before the line is complete, and only O2 is possible after a write.
+    // Nothing is written before the line is complete, and only O2 is possible after a write. After
+    // O2 a prefix of the line was written. `kinds` lists the possible faults.
     ensures kept { IfErr result (λ e. e ≢ Fault.Write → out.new ≡ out.old) }
     ensures write { IsErrOf result Fault.Write → WhenHonest (D.is_honest device.new)
         (ShowsBeginning text.now (W.contents out.old) (W.contents out.new)) }

@@ -1,4 +1,6 @@
-//! Counts all places of a grammar with the same fault, not only the first one, and lists missing rules.
+//! Counts all faults of a grammar of the same kind, not only the first one, and lists missing
+//! rules. In this file a place is a number in a production: 0 is the left side, and 1, 2, .. are
+//! the symbols and classes of the right side.
 
 use ag_grammar::{Named, Occ, RawGrammar, RawItem, RawProduction, RawSymbol, occurrences};
 use ag_value::NoMemory;
@@ -87,8 +89,9 @@ impl<'a> Declarations<'a> {
         Ok(())
     }
 
-    /// Returns the number of places in productions that a refusal N1, N7, N8 or N9 is true of, and 0 for
-    /// other faults. An occurrence that is several times in an expression counts once. Takes memory.
+    /// Returns the number of faults of the kind of `fault` in productions if that is N1, N7, N8 or
+    /// N9, and 0 for other kinds. An occurrence that is several times in an expression counts once.
+    /// Takes memory.
     fn count(
         &self,
         fault: &NormalFault,
@@ -101,7 +104,7 @@ impl<'a> Declarations<'a> {
         Ok(count)
     }
 
-    /// Returns the number of places in a production that a refusal is true of.
+    /// Returns the number of faults of the kind of `fault` in a production.
     fn count_in(
         &self,
         fault: &NormalFault,
@@ -131,7 +134,8 @@ impl<'a> Declarations<'a> {
         Ok(count)
     }
 
-    /// Returns whether a refusal is true of the target of a rule.
+    /// Returns whether the target of a rule has a fault of this kind, N1 or N8. `places` are the
+    /// symbols and classes at the places of its production.
     fn is_target_refused(&self, fault: &NormalFault, places: &[ItemAtPlace], target: &Occ) -> bool {
         match fault {
             NormalFault::UnknownName(_) => self.kind_of(places, target).is_none(),
@@ -140,7 +144,7 @@ impl<'a> Declarations<'a> {
         }
     }
 
-    /// Returns whether a refusal is true of an occurrence in an expression.
+    /// Returns whether an occurrence in an expression has a fault of this kind, N1 or N9.
     fn is_argument_refused(
         &self,
         fault: &NormalFault,
@@ -176,7 +180,8 @@ impl<'a> Declarations<'a> {
         Ok(missing)
     }
 
-    /// Appends the missing rules of a production with these targets of rules and these places.
+    /// Appends the missing rules of a production. `targets` are the targets of its rules, and
+    /// `places` the symbols and classes at its places.
     fn gather_missing(
         &self,
         targets: &HashSet<(usize, &'a str)>,
@@ -250,7 +255,8 @@ impl<'a> Declarations<'a> {
         }
     }
 
-    /// Returns the kind of the attribute of an occurrence. None if the place or the attribute is not there.
+    /// Returns the kind of the attribute of an occurrence. None if the place or the attribute does
+    /// not exist, or if the symbol at the place is not declared.
     fn kind_of(&self, places: &[ItemAtPlace], occurrence: &Occ) -> Option<AttributeKind> {
         let name = occurrence.attr.as_str();
         match places.get(usize::from(occurrence.place))? {
@@ -261,8 +267,8 @@ impl<'a> Declarations<'a> {
     }
 }
 
-/// Returns the number of further places of a grammar that a refusal N1, N7, N8 or N9 is true of. Takes
-/// memory.
+/// Returns the number of faults of a grammar besides `fault` that are of its kind, if it is N1, N7,
+/// N8 or N9, and 0 for other kinds. Takes memory.
 pub fn count_further(
     alloc: Global,
     fault: &NormalFault,
@@ -273,7 +279,8 @@ pub fn count_further(
     Ok(count.saturating_sub(1))
 }
 
-/// Returns the number of symbols of a production that are not declared, where that is the refusal.
+/// Returns the number of symbols of a production that are not declared if the fault is N1, and else
+/// 0.
 fn undeclared_in(fault: &NormalFault, places: &[ItemAtPlace]) -> usize {
     match fault {
         NormalFault::UnknownName(_) => places

@@ -10,8 +10,8 @@ use message_parts::display::GroupedNumber;
 use normalform::LimitKind;
 use std::alloc::AllocError;
 
-/// Returns the offset in bytes of what exceeds a limit: of the name of a symbol, or of that on the left of a
-/// production. None if the whole grammar does.
+/// Returns the offset in bytes of what exceeds a limit: of the name of a symbol, or of the name on
+/// the left side of a production. None if the whole grammar exceeds it.
 pub fn offset_of_limit(raw: &RawGrammar, kind: LimitKind) -> Option<usize> {
     if kind == LimitKind::Attributes {
         return Some(large_symbol(raw)?.name.at);

@@ -1,4 +1,6 @@
-//! Finds names, occurrences and the symbols of places in a grammar as it is written.
+//! Finds names, occurrences and the symbols of places in a grammar as it is written. An occurrence
+//! is an attribute as a rule writes it, such as `$1.sum`, with its place in the production, here 1:
+//! place 0 is the left side, and places 1, 2, .. are the symbols and classes of the right side.
 
 use ag_grammar::{Named, Occ, RawGrammar, RawItem, RawProduction, RawRule, RawSymbol, occurrences};
 use std::fmt;

@@ -27,7 +27,8 @@ pub fn locate_in_grammar(fault: &NormalFault, text: &GrammarText<'_>) -> Locatio
     }
 }
 
-/// Returns the offset in bytes of the name, the occurrence or the production for which a grammar is refused.
+/// Returns the offset in bytes of the name, the occurrence or the production for which a grammar is
+/// refused. None if the whole grammar exceeds a limit, or for NoMemory.
 fn offset_of(fault: &NormalFault, raw: &RawGrammar) -> Option<usize> {
     match fault {
         NormalFault::UnknownName(at)
@@ -66,7 +67,8 @@ pub fn describe_normal(
     }
 }
 
-/// Returns whether a fault is one whose message has the number of further places: N1, N7, N8 or N9.
+/// Returns whether the message of a fault has the number of further faults of its kind: that of N1,
+/// N7, N8 or N9.
 fn is_of_one_place(fault: &NormalFault) -> bool {
     matches!(
         fault,
@@ -77,7 +79,7 @@ fn is_of_one_place(fault: &NormalFault) -> bool {
     )
 }
 
-/// Writes the number of further places with the same fault.
+/// Writes the number of further faults of the same kind, if there are any.
 fn write_further(help: &mut String, further: usize) -> Result<(), AllocError> {
     let separator = if help.is_empty() { "" } else { ", " };
     match further {
@@ -87,7 +89,7 @@ fn write_further(help: &mut String, further: usize) -> Result<(), AllocError> {
     }
 }
 
-/// Describes N1 to N10 at the place that the fault names.
+/// Describes N1 to N10 without the number of further faults of the kind.
 fn describe_first(
     parts: &mut Parts,
     fault: &NormalFault,
@@ -331,7 +333,7 @@ fn describe_missing(
     }
 }
 
-/// Describes N6 with the names that a grammar declares.
+/// Describes N6 by the declarations of a grammar. Nothing if memory is refused.
 fn describe_missing_by(
     parts: &mut Parts,
     declarations: &Declarations<'_>,

@@ -11,10 +11,15 @@ use std::alloc::AllocError;
 const MAX_NAMED_RULES: usize = 8;
 
 /// Describes A1. The fault itself prints the attributes that no pass can compute. For each of these
-/// attributes and each direction of passes, `stuck` has a rule that keeps the attribute out (a
-/// strike). This names the rules of one direction that wait for no other: of the direction with
-/// fewer of them, or of that of the first pass if both have as many. Nothing if memory for reading
-/// the text again is refused.
+/// attributes and each direction of passes, `stuck` has a *strike*: a rule for the attribute, and
+/// an argument of the rule that a pass of the direction does not compute in time. If the argument
+/// is of the same child as the rule's target, or of a child that is visited later, the rule waits
+/// for no other. Otherwise the argument is struck too, and the rule waits for the rule of that
+/// strike.
+///
+/// The message names rules of one direction that wait for no other, at most `MAX_NAMED_RULES`. It
+/// is the direction with fewer such rules or, if both have as many, the direction of pass 1, from
+/// right to left. Writes nothing if memory for reading the text again is refused.
 pub fn describe_stuck(
     parts: &mut Parts,
     stuck: &Stuck,
@@ -26,7 +31,7 @@ pub fn describe_stuck(
     }
 }
 
-/// Describes A1 by the direction with fewer rules that keep attributes out of its passes.
+/// Describes A1 by the direction with fewer rules that wait for no other.
 fn describe_fewest(
     parts: &mut Parts,
     stuck: &Stuck,
@@ -57,13 +62,14 @@ fn describe_fewest(
 /// Why a pass reaches a rule for a child's attribute before an argument of the rule is computed.
 #[derive(Clone, Copy)]
 enum Reason {
-    /// It uses an attribute of a child that is visited later.
+    /// The rule uses an attribute of a child that is visited later.
     Later,
-    /// It uses an attribute of the same child, which is known only after the child's visit.
+    /// The rule uses an attribute of the same child, which is known only after the child's visit.
     Within,
 }
 
-/// A rule that a pass reaches before an argument of it is computed, by its target.
+/// The target of a rule that a pass reaches before one of its arguments is computed, and that
+/// argument.
 #[derive(Clone, Copy)]
 struct Obstacle<'a> {
     target: &'a Occ,
@@ -72,7 +78,8 @@ struct Obstacle<'a> {
 }
 
 impl Obstacle<'_> {
-    /// Writes the rule by its target, with its place, and why the pass comes too early.
+    /// Writes the rule by its target, with its position in the file, and why the pass reaches the
+    /// rule too early.
     fn write(&self, out: &mut String, source: &Source<'_>) -> Result<(), AllocError> {
         let (target, argument) = (AsWritten(self.target), AsWritten(self.argument));
         let place = source.place(self.target.at);
@@ -85,10 +92,9 @@ impl Obstacle<'_> {
     }
 }
 
-/// The strikes of the passes of a direction, and the grammar as it is written. A strike is a rule
-/// and an argument of it, because of which the rule's target can't have a pass of the direction.
-/// There is one for each attribute. It waits for another strike if the pass would compute the
-/// argument in time, but the other strike keeps the argument out.
+/// The strikes of the passes of a direction, one for each attribute that no pass can compute, and
+/// the grammar as it is written. A strike waits for another one if the place of its argument is not
+/// a reason: the pass would compute the argument in time if the argument were not struck.
 #[derive(Clone, Copy)]
 struct DirectionStrikes<'a> {
     direction: Direction,
@@ -97,7 +103,8 @@ struct DirectionStrikes<'a> {
 }
 
 impl<'a> DirectionStrikes<'a> {
-    /// Returns the rule of a strike that waits for no other strike. None if it waits for one.
+    /// Returns the rule of a strike that waits for no other strike. None if the strike waits for
+    /// one.
     fn obstacle(&self, strike: Strike) -> Option<Obstacle<'a>> {
         let productions = self.raw.productions.as_slice();
         let production = productions.get(usize::from(strike.production))?;

@@ -89,7 +89,8 @@ fn describe_rule(
 }
 
 /// Returns why the token that was found is damaged: it begins as a literal where an item is
-/// expected, or as an occurrence where a rule is, but is neither. None otherwise.
+/// expected, or as an occurrence where a rule is expected (a rule begins with its target, such as
+/// `$1.sum`), but is neither. None otherwise.
 fn damaged_token(found: Option<&str>, expected: &[Expected]) -> Option<ExprFault> {
     let is_meant = begins_with(found, '"') && expected.contains(&Expected::Item)
         || begins_with(found, '$') && expected.contains(&Expected::Rule);

@@ -10,7 +10,7 @@ use message_parts::display::FoundText;
 use message_parts::{Location, Parts, Source};
 use std::alloc::{AllocError, Global};
 
-/// What has no tree within the limits.
+/// The subject of the messages of P2 and P3: what has no tree within the limit.
 const SENTENCE: &str = "the sentence";
 
 /// Returns the location of the token at which the parser stops, or `Whole` for any fault but P1.
@@ -67,8 +67,9 @@ fn describe_unexpected(
     }
 }
 
-/// Describes what was found where a parse is stuck, and what was expected. Nothing if no token is
-/// expected, as when `parse` does not fail with P1.
+/// Describes what was found where a parse is stuck, and what was expected. Writes nothing if
+/// `expected_at` returned no look-ahead. It returns none if `parse` does not fail with P1 for this
+/// sentence, which means that the fault is of another sentence or grammar.
 fn describe_stuck(
     parts: &mut Parts,
     sentence: &ParsedSentence<'_>,

@@ -14,10 +14,10 @@ use std::alloc::AllocError;
 /// What to do about a token or a sentence that is too large.
 const SPLIT: &str = "split it";
 
-/// What is wrong with a TEXT.
+/// What is wrong with a token of the class TEXT that does not end.
 const NO_SECOND_QUOTE: &str = "this TEXT has no second quote in the same line";
 
-/// What to do about it.
+/// What to do about a TEXT that does not end.
 const ADD_QUOTE: &str = "add the quote (a TEXT has no escapes)";
 
 /// What is wrong with a character of a sentence if the grammar has no terminals.
@@ -74,7 +74,8 @@ fn describe_quote(parts: &mut Parts, before: Option<Place<'_>>) -> Result<(), Al
     }
 }
 
-/// Describes S2 at a character that begins no token: the tokens of the grammar.
+/// Describes S2 at a character that begins no token: the character, and the terminals of the
+/// grammar.
 fn describe_no_token(
     parts: &mut Parts,
     grammar: &Grammar,
@@ -92,7 +93,8 @@ fn describe_no_token(
     parts.expected.push_str(")")
 }
 
-/// Returns the place of the last quote before an offset, if that is in another line.
+/// Returns the position in the file of the last quote before an offset, if a line break is between
+/// them.
 fn quote_before<'a>(sentence: &Source<'a>, at: usize) -> Option<Place<'a>> {
     let before = sentence.text().get(..at)?;
     let quote = before.rfind('"')?;

@@ -21,7 +21,7 @@ const OLD_FILE: &str =
 /// What is expected of the number of the pass.
 const PASS: &str = "expected a tree file of pass 0";
 
-/// What is wrong with a file that does not begin as a tree file of the version.
+/// What is wrong with a file that does not begin as a tree file of the expected version.
 const ANOTHER_FILE: &str = "found another file";
 
 /// What is wrong with a file of another pass.
@@ -44,7 +44,7 @@ pub const NEST_LESS: &str = "nest the sentence less";
 /// What to do about a file whose tree has too many nodes.
 pub const SPLIT: &str = "split the sentence";
 
-/// What has no tree within the limits.
+/// The subject of the messages of P2 and P3: what has no tree within the limit.
 const FILE: &str = "the file";
 
 /// How a tree file of pass 0 is read: its version, and the grammar of its tree.
@@ -55,8 +55,10 @@ pub struct TreeFormat<'a> {
 }
 
 /// Describes R1 of a tree file at the offset `at` in bytes. If a record is damaged, and not the
-/// header, the file is read once more from its end. Takes memory for the records that the tree
-/// needs there. If memory is refused, or a record can't be read, leaves out what was expected.
+/// header, the file is read once more from its end. Takes memory for the stack of the items whose
+/// records are still to come, which `expected_before` returns. If it returns None, leaves out what
+/// was expected. If the record that ends at `at` can't be read, the message says that none ends
+/// there.
 pub fn describe_damage<D: Device>(
     alloc: Global,
     parts: &mut Parts,
@@ -66,7 +68,9 @@ pub fn describe_damage<D: Device>(
 ) -> Result<(), AllocError>
     ensures content { LeavesContent (D.is_honest tree.new)
         (D.content tree.old) (D.content tree.new) }
-    // ⊥: the result does not say that a call of the device failed
+    // The last argument of `Persists` is a condition under which the number of failures has risen:
+    // that the call failed with D1. Here it is ⊥ (false), since the result does not say whether a
+    // call of the device failed. So the clause never says that the number rises.
     ensures persists { Persists (D.is_honest tree.old) (D.is_honest tree.new)
         (D.failures tree.old) (D.failures tree.new) ⊥ }
 {
@@ -81,7 +85,8 @@ pub fn describe_damage<D: Device>(
 }
 
 impl TreeFormat<'_> {
-    /// Describes how a tree file begins, and that this one begins otherwise.
+    /// Describes R1 in the header: at offset 0 the file does not begin as a tree file of the
+    /// version, at any other offset it is of another pass than 0.
     fn describe_header(&self, parts: &mut Parts, at: u64) -> Result<(), AllocError> {
         if at != 0 {
             parts.expected.push_str(PASS)?;
@@ -95,7 +100,8 @@ impl TreeFormat<'_> {
         parts.add(ANOTHER_FILE, help)
     }
 
-    /// Describes the record that ends at an offset, if one does, and the one that should.
+    /// Describes the record that ends at the offset `at`, if one does, and the one that should.
+    /// `expected` is the result of `expected_before`.
     fn describe_record(
         &self,
         parts: &mut Parts,
@@ -132,7 +138,8 @@ impl TreeFormat<'_> {
         }
     }
 
-    /// Writes the record that should end at the offset, by the records that the tree still needs.
+    /// Writes the record that should end at the offset: that of the last of the items whose records
+    /// are still to come.
     fn write_expected(&self, out: &mut String, expected: &[Item]) -> Result<(), AllocError> {
         out.push_str("expected ")?;
         match expected.last() {
@@ -144,7 +151,7 @@ impl TreeFormat<'_> {
         }
     }
 
-    /// Writes the kind of a frame.
+    /// Writes what the record in a frame is: a node, a token, or a record of an unknown kind.
     fn write_frame(&self, out: &mut String, frame: Frame) -> Result<(), AllocError> {
         let number = frame.number;
         match frame.kind {
@@ -166,7 +173,7 @@ impl TreeFormat<'_> {
         }
     }
 
-    /// Returns what the record of an item has in a file of pass 0.
+    /// Returns what the record of an item contains in a file of pass 0.
     fn content_of(&self, item: Item) -> &'static str {
         match item {
             Item::Symbol(number) if self.version == FileVersion::Two && self.has_tokens(number) => {

@@ -1,4 +1,5 @@
-//! The frames of a tree file of pass 0, and the records that its tree still needs.
+//! The frames of a tree file of pass 0, and the records that are still to come when the file has
+//! been read from its end down to an offset.
 
 ghost use Rattle.treefile.specs.devices.Device.{LeavesContent, Persists};
 
@@ -25,6 +26,8 @@ pub struct Frame {
 pub fn frame_before<D: Device>(version: FileVersion, tree: &mut D, end: u64) -> Option<Frame>
     ensures content { LeavesContent (D.is_honest tree.new)
         (D.content tree.old) (D.content tree.new) }
+    // ⊥ (false) for the condition under which the number of failures has risen: None does not say
+    // whether a call of the device failed, so the clause never says that the number rises
     ensures persists { Persists (D.is_honest tree.old) (D.is_honest tree.new)
         (D.failures tree.old) (D.failures tree.new) ⊥ }
 {
@@ -47,9 +50,12 @@ pub fn frame_before<D: Device>(version: FileVersion, tree: &mut D, end: u64) -> 
     })
 }
 
-/// Reads the records of a file from its end down to the offset `at`. Returns the items of the
-/// records that the tree still needs; the record that should end at `at` is that of the last item.
-/// None if a record can't be read or has an unknown production, or if memory is refused.
+/// Reads the records of a file from its end down to the offset `at`. A node's record ends after
+/// those of its children, so it is read before them. Returns the stack of the items whose records
+/// are still to come: at the file's end the start symbol, and each node's record replaces the last
+/// item by the node's children. The record that should end at `at` is that of the last item. None
+/// if the file's length or a record can't be read, if a record has an unknown production, or if
+/// memory is refused.
 pub fn expected_before<D: Device>(
     alloc: Global,
     version: FileVersion,
@@ -59,6 +65,7 @@ pub fn expected_before<D: Device>(
 ) -> Option<Vec<Item>>
     ensures content { LeavesContent (D.is_honest tree.new)
         (D.content tree.old) (D.content tree.new) }
+    // ⊥ as in `frame_before`
     ensures persists { Persists (D.is_honest tree.old) (D.is_honest tree.new)
         (D.failures tree.old) (D.failures tree.new) ⊥ }
 {

@@ -42,7 +42,8 @@ pending_of_child c None e level others = others
 pending_of_child c (Some q) e level others = following c q e 0 level others
 
 -- The pending list at an open node in a phase (`Phase` of passcode): the children of the child whose record was read last (in
--- phase Got), then the node's own that were not read, then the others.
+-- phase Got), then the node's own that were not read, then the others. i is the number of visited
+-- children, and `child` the number in the record that was read last.
 abbrev pub pending : Setting → Production → Phase → (i child : ℕ) → Table → Table → (level : ℕ) → Pending → Pending
 pending c q Between i child e of_child level others = following c q e i level others
 pending c q Got i child e of_child level others =

@@ -14,10 +14,10 @@ pub record HasPut (kind : Kind) (number : ℕ) (values : List Value) (honest : B
   pub there : WhenHonest honest (new ≡ old ++ frame (body_of kind number values))
   pub counted : new_writer ≡ record old_writer { written = old_writer.written + 1 }
 
--- Some frames were appended to the content of an honest device.
+-- Frames, possibly none, were appended to the content of an honest device.
 abbrev pub AddsFrames : Bool → (old new : List ℕ) → Type 0
 AddsFrames honest old new = WhenHonest honest (beginning.AddsFrames {E = RunFault} old new (Ok tt))
 
--- A fault leaves a prefix of some frames appended to the content of an honest device.
+-- With a fault: a prefix of some frames, possibly empty or whole, was appended to the content of an honest device.
 abbrev pub LeavesFrames : Bool → (old new : List ℕ) → RunFault → Type 0
 LeavesFrames honest old new f = WhenHonest honest (beginning.AddsFrames {E = RunFault} old new (Err f))

@@ -3,7 +3,9 @@
 -- (of a token: of its class), s a symbol, i the number of visited children, f the values of a node by attribute, e a table, t a
 -- tree, ts are trees, w and ws their values, u is a rule, o an argument, x an open node, and xs are open nodes. In
 -- `IsEvaluatedTree` and `IsReady` x is an item, in `root_number` and `put_of` c is a class and x a text, and in `IsConsistent`
--- and `ContinuesAs` t is a transcript.
+-- and `ContinuesAs` t is a transcript. `old` and `new` are a transcript before and after (in `Keeps`, values), `under` are the
+-- values in memory before a node's row, and `level` is the level of the node. In `Suspended` and `Expects`, s, f and `under`
+-- belong to a child, and s', f' and under' to the node that waits for it.
 use Rattle.std.specs.Prelude.{ℕ, suc, ◌≡◌, ◌+◌, ◌<◌, ◌≤◌, List, [], ◌∷◌, ◌++◌, Some, slice_get, length}
 use Rattle.std.specs.List.{count_by}
 use Rattle.ag_value.specs.declared.value.Value.{Value}
@@ -64,8 +66,8 @@ pub record IsEvaluatedTree (c : Setting) (x : Item) (t : Tree) (w : Valuation) :
   pub solved : Solves (OfPass c.passes c.write) c.grammar t w
   pub well : IsWellOn (λ p. p ≤ c.write) c.grammar c.passes t w
 
--- Trees of the first i visited items were read and written, one after the other. Below the node's level they
--- are within the limit of levels.
+-- Trees of the first i visited items of a node were read and written, one after the other. With the node at
+-- this level, no node of these trees exceeds the limit of levels.
 pub record Visited (c : Setting) (q : Production) (i level : ℕ) (ts : Forest) (ws : ℕ → Valuation)
     (old new : Transcript) : Type 0 where
   pub fits : FitsAll c.grammar (visited (pass_direction c) (stored_items q.items) i) ts
@@ -120,8 +122,8 @@ pub record IsGone (c : Setting) (q : Production) (i level p : ℕ) (e : Table) (
   pub counted : count ≡ rules_of_pass c.passes c.write c.grammar tree
   pub deep : depth_of tree + level ≤ max_depth
 
--- The state at the next place in a phase: the number of rules run in its tree, and its row, which is among the
--- stored values until the pass leaves it. No open node is in the last phase.
+-- The progress of the pass at the next place, in a phase: its transcript, the number of rules run in the tree at the place, and
+-- the row of the child there, which is empty except in phase Got. No open node is in phase Ended.
 abbrev pub IsCurrent : Setting → Production → Phase → ℕ → ℕ → ℕ → Table → Table → List Value → Transcript → Transcript → ℕ
     → Type 0
 IsCurrent c q Between i level p e of_child row old new count = (new ≡ old) × (count ≡ 0) × (row ≡ [])
@@ -171,7 +173,7 @@ rules_left c x = count_by is_computation (rest_of c x)
 -- An open node (x, of symbol s') waits for its child, a node of production p and symbol s, whose record was read
 -- with the values f when the transcript was `new`. The values `under` come before the child's row. `evals` rules
 -- were evaluated before the child was entered, `evals_before` of them before x was. After the child's tree, the
--- rest of x's list runs to its end.
+-- rest of x's list of instructions runs to its end.
 pub record Suspended (c : Setting) (s' : ℕ) (f' : ℕ → Value) (level : ℕ) (x : OpenNode) (under' : List Value) (old : Transcript)
     (evals_before : ℕ) (others : Pending) (s p : ℕ) (f : ℕ → Value) (under : List Value) (new : Transcript) (evals : ℕ)
     (todo : Pending) : Type 0 where
@@ -206,9 +208,9 @@ Expects c root (x ∷ xs) s p f under new evals todo =
     × Expects c root xs s' x.production f' under' old evals_before others
     × Suspended c s' f' (suc (length xs)) x under' old evals_before others s p f under new evals todo
 
--- The innermost open node (x) is in this phase, with this state at its next place. The rest of its list runs from
--- there to the end. `evals` rules were evaluated, `evals_before` of them before x was entered. After its tree the
--- others are still to be read.
+-- The innermost open node (x) is in this phase, and `current` is the progress at its next place. The rest of its list of
+-- instructions runs from there to the end. `evals` rules were evaluated, `evals_before` of them before x was entered.
+-- After its tree the others are still to be read.
 pub record IsActive (c : Setting) (s : ℕ) (f : ℕ → Value) (level : ℕ) (x : OpenNode) (under : List Value) (old : Transcript)
     (evals_before : ℕ) (others : Pending) (phase : Phase) (values : List Value) (new : Transcript) (evals : ℕ)
     (todo : Pending) : Type 0 where

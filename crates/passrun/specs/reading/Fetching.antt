@@ -31,8 +31,8 @@ IsMissing c x (Err frame_fault) = Unit {0}
 IsMissing c x (Ok None) = Unit {0}
 IsMissing c x (Ok (Some body)) = IsNoRecord c x body
 
--- The reason why no record of an item was read. R1: none ends at the offset that the reader has reached, and
--- no limit is exceeded. P2: it would be too deep. P3: it would be one too many, and not too deep.
+-- The reason why no record of an item was read. R1: at the offset that the reader has reached no frame ends, or one whose body is
+-- not a record of the item, and no limit is exceeded. P2: it would be too deep. P3: it would be one too many, and not too deep.
 abbrev pub IsUnfetched : Setting → Item → ℕ → List ℕ → BackState → RunFault → Type 0
 IsUnfetched c x open_count content old (fault.Damaged at) =
     (at ≡ old.progress.at) × IsMissing c x (next_before version_two content old.progress.at) × (open_count < max_depth)

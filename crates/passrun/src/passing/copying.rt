@@ -120,7 +120,7 @@ pub(crate) fn put_value(values: &mut Vec<Carried>, index: usize, value: Carried)
         return put_number(&mut values[index], number);
     }
     let old = replace(&mut values[index], value);
-    // drops the old value, in one step if it is a number or an error
+    // drops the old value; for a number or an error, `release` calls nothing
     old.release();
 }
 

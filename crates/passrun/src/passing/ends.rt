@@ -58,7 +58,7 @@ pub(crate) fn begin<D: Device, E: Device>(
         (E.is_honest to.new) (E.content to.new) meter.now m (Some (first_at m.root 0))) }
     ensures header { OnOk result (WhenHonest (E.is_honest to.new)
         (E.content to.new ≡ header version_two (setting context.now).write)) }
-    // the content of the second device is unchanged, or a prefix of a file of the pass
+    // on failure: the content of the second device is unchanged, or a prefix of a file of the pass
     ensures left { OnErr result (WhenHonest (E.is_honest to.new)
         (LeavesBeginning (setting context.now).write (E.content to.old) (E.content to.new))) }
     ensures refused { IfErr result (λ f. WhenHonest (D.is_honest from.new)
@@ -94,8 +94,8 @@ pub(crate) fn begin<D: Device, E: Device>(
 }
 
 /// Ends a pass whose root is done: writes the root's record, and returns the counts. Fails with R1
-/// and the offset down to which the file was read if the header does not end there, with D1 if a
-/// device fails, and with `NoMemory` if memory cannot be allocated.
+/// and the offset that reading has reached if the header does not end there, with D1 if a device
+/// fails, and with `NoMemory` if memory cannot be allocated.
 pub(crate) fn finish<D: Device, E: Device>(
     context: &PassContext<'_>,
     machine: &mut Machine,

@@ -16,8 +16,9 @@ use pass_rows::layouts::building::RuleSlots;
 use std::alloc::Global;
 use std::marker::Model;
 
-/// The values of a rule's arguments: argument k, which is occurrence k of the rule's expression, has the
-/// value in slot `slots[k]` of `values`. No slot is out of range.
+/// The values of a rule's arguments: argument k, which is occurrence k of the rule's expression (an
+/// attribute at a place, such as `$1.value`), has the value in slot `slots[k]` of `values`. No slot
+/// is out of range.
 #[derive(Drop)]
 struct Lender<'a> {
     values: &'a [Carried],
@@ -97,8 +98,9 @@ pub(crate) fn put_rule_value(
     ensures counted { meter.new ≡ meter.old + 1 }
 {
     let NodeRule { rule, slots, base } = *at;
-    // The faster ways come first: for a number literal, and for a value that is a number or an
-    // error. Each counts nothing if it returns `None`.
+    // The faster ways come first: `eval_number` for a number literal, then `eval_scalar` for a
+    // value that is a number or an error. If one of them returns `None`, the meter is unchanged.
+    // `eval_carried` evaluates every expression.
     if let Some(number) = eval_number(&rule.expr, meter) {
         put_scalar(values, base + slots.target as usize, Scalar::Number(number));
         return Ok(());

@@ -1,5 +1,6 @@
-//! The steps of a pass, one for each kind of instruction. "Listings" in docs/FORMATS.md describes
-//! the instructions.
+//! The state of a running pass, and the execution of its instructions, which "Listings" in
+//! docs/FORMATS.md describes. `Set` and `Def` have one function, each other kind has its own, and
+//! `Machine::step` calls them.
 
 ghost use Rattle.std.specs.Prelude.{◌≡◌, ◌+◌, ◌^◌, ◌<◌, ◌≤◌, ◌∷◌, ◌++◌, [], Some, IfErr, IfOk};
 ghost use Rattle.std.specs.Prelude.{IsErrOf, OnOk, length, reverse, slice_get};
@@ -35,7 +36,9 @@ use treefile::{Device, Kind, Writer};
 /// The state of a running pass.
 #[derive(Drop)]
 pub(crate) struct Machine {
+    /// The reader of the first device, which reads the file from its end.
     pub(crate) back: Back,
+    /// The writer to the second device.
     pub(crate) writer: Writer,
     /// The rows of all open nodes, the outermost first. After them the row of the child whose record
     /// was read last, if the pass has not entered that child yet.
@@ -335,9 +338,9 @@ impl Machine {
         node.after_step(node.child)
     }
 
-    /// Ends a node if its next instruction is an `End`, and then skips the `Put` of its record if
-    /// that is the parent's next instruction. Returns the node that continues, or `None` if the root
-    /// is done. Fails as `finish_node` does.
+    /// Ends a node if its next instruction is an `End`. If the parent's next instruction is then
+    /// the `Put` of a child that is a node, skips it, since it would write nothing. Returns the
+    /// node that continues, or `None` if the root is done. Fails as `finish_node` does.
     #[inline(always)]
     pub(crate) fn finish_if_ended<E: Device>(
         &mut self,
@@ -377,10 +380,11 @@ impl Machine {
         Ok(Some(self.skip_put(context, outer)))
     }
 
-    /// Executes the next instruction of the innermost open node, and in the same step a `Go` directly
-    /// after a `Get`, an `End` directly after a rule, and after an `End` the `Put` of the ended node's
-    /// record in its parent. Returns the node that continues, or `None` if the root is done. Fails as
-    /// `get`, `run_rule`, `enter_child`, `put` and `finish_node` do.
+    /// Executes the next instruction of the innermost open node. In the same step it executes a
+    /// `Go` directly after a `Get`, and an `End` directly after a rule. After an `End` it skips the
+    /// parent's `Put` for the ended node, if that is next. Returns the node that continues, or
+    /// `None` if the root is done. Fails as `get`, `run_rule`, `enter_child`, `put` and
+    /// `finish_node` do.
     #[inline(always)]
     pub(crate) fn step<D: Device, E: Device>(
         &mut self,

@@ -24,13 +24,14 @@ use treefile::Device;
 pub(crate) struct ExpectedRecord {
     /// The item whose record it is.
     pub(crate) item: Item,
-    /// The place at which it is read.
+    /// The production of its parent, and its place there. For the root, place 0 of production 0.
     pub(crate) location: ChildLocation,
     /// The number of open nodes above it.
     pub(crate) open_count: usize,
 }
 
-/// Reads the next record as `fetch` does, from a copy of its bytes. The caller has checked the limits.
+/// Reads the next record as `fetch` does, from bytes copied to the reader's buffer. The caller has
+/// checked the limits.
 #[inline(always)]
 fn fetch_copied<D: Device>(
     context: &PassContext<'_>,

@@ -30,7 +30,7 @@ use Rattle.tree_upgrade.specs.declared.upgrading.old_record.OldRecord.TheVariant
 use Rattle.pass_rows.specs.declared.run_fault.RunFault.{RunFault}
 use Rattle.pass_rows.specs.declared.run_fault.RunFault.TheVariants as fault
 
--- How an old file is read: as the file of version 1 and pass 0 of a tree.
+-- How an old file is read: as the file of version 1 and pass 0 of a tree within the limits.
 abbrev pub old_file : Grammar → Source
 old_file g =
     record {
@@ -87,14 +87,15 @@ upcoming g xs = children_with_copies false g no_passes 0 (stored_items xs) []
 abbrev pub pending_items : Grammar → ℕ → List Item → Pending → Pending
 pending_items g level xs others = before_others RightToLeft level (upcoming g xs) others
 
--- The progress of a reader in an old file: it returned records of the grammar at their places, and these
--- children are still to be read.
+-- The progress of a reader in an old file: each body that it returned, from the end of the file on, is a record of
+-- the child that was to be read there, and the children `todo` are still to be read.
 pub record IsAt (g : Grammar) (content : List ℕ) (progress : Progress) (todo : Pending) : Type 0 where
   pub readable : IsReadable (old_file g) content
   pub arrival : ArrivesAt (old_file g) content progress.at todo
   pub counted : progress.records ≡ length arrival.bodies
 
--- The reason why the trees of items at a level could not be converted, whatever is to be read after them.
+-- The trees of the items xs, whose roots are at a level, were to be read next, and then any others. If the reader's
+-- progress was right so far, the fault f, which ended the conversion, is true of the content.
 abbrev pub IsUnconverted : Grammar → List ℕ → List Item → (level : ℕ) → Progress → RunFault → Type 0
 IsUnconverted g content xs level progress f = (others : Pending) → IsAt g content progress (pending_items g level xs others)
     → IsUpgradeFault g content f
