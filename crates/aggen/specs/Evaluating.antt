@@ -15,6 +15,7 @@ use Rattle.pass_rows.specs.declared.run_fault.RunFault.TheVariants as run
 use Rattle.passrun.specs.Rounds.{LeavesSolution, last_content}
 use Rattle.treefile.specs.devices.Device.{WhenHonest}
 use Rattle.aggen.specs.Building.{IsLeastPlan}
+use Rattle.aggen.specs.PassFaults.{IsAboutFile}
 use Rattle.aggen.specs.Translating.{ArePassesOf}
 use Rattle.aggen.specs.Translation.{BeginsTranslation, Evaluates, HasNoText, IsOneTree, IsReport, IsTreeInFile, before_last}
 use Rattle.ag_fault.specs.declared.fault.Fault.{Fault}
@@ -76,7 +77,7 @@ IsTreeFileFault g content run.NoMemory = Unit {0}
 -- the content. A device failure and NoMemory have no meaning, and no other fault is possible.
 abbrev pub IsTreeFaultBeforeText : Grammar → (honest_tree honest_a honest_b : Bool) → List ℕ → Fault → Type 0
 IsTreeFaultBeforeText g ht ha hb content (fault.Run f) =
-    WhenHonest ht (WhenHonest ha (WhenHonest hb (IsTreeFileFault g content f)))
+    IsAboutFile f × WhenHonest ht (WhenHonest ha (WhenHonest hb (IsTreeFileFault g content f)))
 IsTreeFaultBeforeText g ht ha hb content fault.Device = Unit {0}
 IsTreeFaultBeforeText g ht ha hb content fault.NoMemory = Unit {0}
 IsTreeFaultBeforeText g ht ha hb content _ = ⊥
@@ -87,7 +88,7 @@ IsTreeFaultBeforeText g ht ha hb content _ = ⊥
 abbrev pub IsEvaluationFault : Grammar → (honest_tree honest_a honest_b : Bool) → List ℕ → (old new : Option (List ℕ)) → Fault
     → Type 0
 IsEvaluationFault g ht ha hb content old new (fault.Run f) =
-    WhenHonest ht (WhenHonest ha (WhenHonest hb (IsTreeFileFault g content f)))
+    IsAboutFile f × WhenHonest ht (WhenHonest ha (WhenHonest hb (IsTreeFileFault g content f)))
 IsEvaluationFault g ht ha hb content old new (fault.NoText x) =
     WhenHonest ht (WhenHonest ha (WhenHonest hb (HasNoText (IsTreeInFile g content) g x)))
 IsEvaluationFault g ht ha hb content old new fault.NotATreeFile = WhenHonest ht (WhenHonest ha (WhenHonest hb ⊥))

@@ -3,6 +3,7 @@ pub mod Checking
 pub mod Evaluating
 pub mod Jobs
 pub mod Listing
+pub mod PassFaults
 pub mod Sentences
 pub mod Showing
 pub mod Status

@@ -10,6 +10,7 @@ use Rattle.passcode.specs.Rows.{Lists}
 use Rattle.passrun.specs.Rounds.{LeavesSolution, last_content, other_content}
 use Rattle.treefile.specs.devices.Device.{WhenHonest}
 use Rattle.aggen.specs.Building.{IsLeastPlan}
+use Rattle.aggen.specs.PassFaults.{IsAboutFile}
 use Rattle.aggen.specs.Sentences.{IsParseFaultOf, IsScanFaultOf, IsTreeOfSentence}
 use Rattle.aggen.specs.Translation.{BeginsTranslation, HasNoText, IsOneTree, IsReport, Translates}
 use Rattle.ag_fault.specs.declared.fault.Fault.{Fault}
@@ -58,7 +59,7 @@ pub record LeavesLastFiles (g : Grammar) (sentence : List ℕ) (honest_a honest_
 abbrev pub IsFaultBeforeText : Grammar → (sentence : List ℕ) → (honest_a honest_b : Bool) → Fault → Type 0
 IsFaultBeforeText g sentence ha hb (fault.Scan f) = IsScanFaultOf g sentence f
 IsFaultBeforeText g sentence ha hb (fault.Parse f) = IsParseFaultOf g sentence f
-IsFaultBeforeText g sentence ha hb (fault.Run f) = WhenHonest ha (WhenHonest hb ⊥)
+IsFaultBeforeText g sentence ha hb (fault.Run f) = IsAboutFile f × WhenHonest ha (WhenHonest hb ⊥)
 IsFaultBeforeText g sentence ha hb fault.Device = Unit {0}
 IsFaultBeforeText g sentence ha hb fault.NoMemory = Unit {0}
 IsFaultBeforeText g sentence ha hb _ = ⊥
@@ -70,7 +71,7 @@ abbrev pub IsTranslationFault : Grammar → (sentence : List ℕ) → (honest_a 
     → Type 0
 IsTranslationFault g sentence ha hb old new (fault.Scan f) = IsScanFaultOf g sentence f
 IsTranslationFault g sentence ha hb old new (fault.Parse f) = IsParseFaultOf g sentence f
-IsTranslationFault g sentence ha hb old new (fault.Run f) = WhenHonest ha (WhenHonest hb ⊥)
+IsTranslationFault g sentence ha hb old new (fault.Run f) = IsAboutFile f × WhenHonest ha (WhenHonest hb ⊥)
 IsTranslationFault g sentence ha hb old new (fault.NoText x) =
     WhenHonest ha (WhenHonest hb (HasNoText (IsTreeOfSentence g sentence) g x))
 IsTranslationFault g sentence ha hb old new fault.NotATreeFile = WhenHonest ha (WhenHonest hb ⊥)

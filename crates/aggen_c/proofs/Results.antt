@@ -83,7 +83,7 @@ translation_true : (g : Grammar) (sentence : List ℕ) (old new : Option (List �
     → IsTranslationFault g sentence true true old new e → IsTranslationRefusal g sentence e
 translation_true g sentence old new (fault.Scan f) device write is = is
 translation_true g sentence old new (fault.Parse f) device write is = is
-translation_true g sentence old new (fault.Run f) device write is = is refl refl
+translation_true g sentence old new (fault.Run f) device write is = is.1 refl refl
 translation_true g sentence old new (fault.NoText v) device write is = is refl refl
 translation_true g sentence old new fault.NotATreeFile device write is = is refl refl
 translation_true g sentence old new (fault.Damaged at) device write is = is refl refl
@@ -101,7 +101,7 @@ translation_true g sentence old new (fault.Job f) device write is = is
 
 evaluation_true : (g : Grammar) (file : List ℕ) (old new : Option (List ℕ)) (e : Fault) → e ≢ fault.Device → e ≢ fault.Write
     → IsEvaluationFault g true true true file old new e → IsEvaluationRefusal g file e
-evaluation_true g file old new (fault.Run f) device write is = is refl refl refl
+evaluation_true g file old new (fault.Run f) device write is = (is.0, is.1 refl refl refl)
 evaluation_true g file old new (fault.NoText v) device write is = is refl refl refl
 evaluation_true g file old new fault.NotATreeFile device write is = is refl refl refl
 evaluation_true g file old new (fault.Damaged at) device write is = is refl refl refl

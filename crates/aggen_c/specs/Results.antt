@@ -13,6 +13,7 @@ use Rattle.treefile.specs.records.FirstFile.{IsFirstFile}
 use Rattle.treefile.specs.records.TreeFile.{version_two}
 use Rattle.aggen.specs.Building.{IsLeastPlan}
 use Rattle.aggen.specs.Evaluating.{IsTreeFileFault}
+use Rattle.aggen.specs.PassFaults.{IsAboutFile}
 use Rattle.aggen.specs.Sentences.{IsParseFaultOf, IsScanFaultOf, IsTreeOfSentence}
 use Rattle.aggen.specs.Translating.{ArePassesOf}
 use Rattle.aggen.specs.Translation.{HasNoText, IsOneTree, IsTreeInFile}
@@ -61,10 +62,10 @@ IsTranslationRefusal g sentence (fault.NoText x) = HasNoText (IsTreeOfSentence g
 IsTranslationRefusal g sentence fault.NoMemory = Unit {0}
 IsTranslationRefusal g sentence _ = ⊥
 
--- Why a tree file has no translation: R1, P2, P3 and O1 are true of the file. For NoMemory, and for the D1 of a `RunFault`,
--- nothing is claimed (devices in memory never cause D1). No other fault is possible.
+-- Why a tree file has no translation: R1, P2, P3 and O1 are true of the file. For NoMemory nothing is claimed. No other fault is
+-- possible: devices in memory never cause D1.
 abbrev pub IsEvaluationRefusal : Grammar → (file : List ℕ) → Fault → Type 0
-IsEvaluationRefusal g file (fault.Run f) = IsTreeFileFault g file f
+IsEvaluationRefusal g file (fault.Run f) = IsAboutFile f × IsTreeFileFault g file f
 IsEvaluationRefusal g file (fault.NoText x) = HasNoText (IsTreeInFile g file) g x
 IsEvaluationRefusal g file fault.NoMemory = Unit {0}
 IsEvaluationRefusal g file _ = ⊥

@@ -104,7 +104,7 @@ module _ (g : Grammar) (sentence : List ℕ) (ha hb ha' hb' : Bool) (first : ha'
       → IsTranslationFault g sentence ha hb old new e → IsTranslationFault g sentence ha' hb' old' new' e
   refused old new old' new' (fault.Scan f) other exact = exact
   refused old new old' new' (fault.Parse f) other exact = exact
-  refused old new old' new' (fault.Run f) other exact = λ x y. exact (first x) (second y)
+  refused old new old' new' (fault.Run f) other exact = (exact.0, λ x y. exact.1 (first x) (second y))
   refused old new old' new' (fault.NoText v) other exact = λ x y. exact (first x) (second y)
   refused old new old' new' fault.NotATreeFile other exact = λ x y. exact (first x) (second y)
   refused old new old' new' (fault.Damaged at) other exact = λ x y. exact (first x) (second y)

@@ -62,7 +62,7 @@ module _ (g : Grammar) (content : List ℕ) (ht ha hb ha' hb' : Bool) (first : h
       → IsEvaluationFault g ht ha hb content old new e → IsEvaluationFault g ht ha' hb' content old' new' e
   refused old new old' new' (fault.Scan f) other exact = exact
   refused old new old' new' (fault.Parse f) other exact = exact
-  refused old new old' new' (fault.Run f) other exact = λ t x y. exact t (first x) (second y)
+  refused old new old' new' (fault.Run f) other exact = (exact.0, λ t x y. exact.1 t (first x) (second y))
   refused old new old' new' (fault.NoText v) other exact = λ t x y. exact t (first x) (second y)
   refused old new old' new' fault.NotATreeFile other exact = λ t x y. exact t (first x) (second y)
   refused old new old' new' (fault.Damaged at) other exact = λ t x y. exact t (first x) (second y)
