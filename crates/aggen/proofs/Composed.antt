@@ -97,12 +97,21 @@ module _ (g : Grammar) (sentence : List ℕ) (rows : List (List ℕ)) (code : Li
       → IsWithinLimits max_depth max_nodes t → WhenHonest ha (IsFirstFile version_two g t start)
       → WhenHonest ha (WhenHonest hb (IsRunFault (setting_of g (rows, code) 1) start f))
       → IsFaultBeforeText g sentence ha hb (run_fault_of f)
-  never_refused t start (run.Damaged at) ha hb tree within file exact = (tt, λ a b. let texts = texts_are_given g t in
-      (exact a b).none t texts.0 tree (file a (passes_of rows) texts.0 plan.legal.positive texts.1))
-  never_refused t start run.TooDeep ha hb tree within file exact = (tt, λ a b. let texts = texts_are_given g t in
-      (exact a b).none max_nodes t texts.0 tree within (file a (passes_of rows) texts.0 plan.legal.positive texts.1))
-  never_refused t start run.TooManyNodes ha hb tree within file exact = (tt, λ a b. let texts = texts_are_given g t in
-      (exact a b).none max_depth t texts.0 tree within (file a (passes_of rows) texts.0 plan.legal.positive texts.1))
+  never_refused t start (run.Damaged at) ha hb tree within file exact = (
+    tt,
+    λ a b. let texts = texts_are_given g t in
+        (exact a b).none t texts.0 tree (file a (passes_of rows) texts.0 plan.legal.positive texts.1),
+  )
+  never_refused t start run.TooDeep ha hb tree within file exact = (
+    tt,
+    λ a b. let texts = texts_are_given g t in
+        (exact a b).none max_nodes t texts.0 tree within (file a (passes_of rows) texts.0 plan.legal.positive texts.1),
+  )
+  never_refused t start run.TooManyNodes ha hb tree within file exact = (
+    tt,
+    λ a b. let texts = texts_are_given g t in
+        (exact a b).none max_depth t texts.0 tree within (file a (passes_of rows) texts.0 plan.legal.positive texts.1),
+  )
   never_refused t start run.Device ha hb tree within file exact = tt
   never_refused t start run.NoMemory ha hb tree within file exact = tt
 

@@ -67,23 +67,29 @@ module _ (g : Grammar) (rows : List (List ℕ)) (code : Lists) (accepted : IsAcc
   pub first_refused : (content : List ℕ) (f : RunFault) (ht ha hb : Bool)
       → WhenHonest ht (IsRunFault (setting_of g (rows, code) 1) content f)
       → IsTreeFaultBeforeText g ht ha hb content (run_fault_of f)
-  first_refused content (run.Damaged at) ht ha hb exact =
-      (tt, λ x y z. (
-        (λ t is. (exact x).none t (texts_are_given g t).0 is.tree (file_in content t is)),
-        ((rows, code), plan.legal.positive, (exact x).shown),
-      ))
-  first_refused content run.TooDeep ht ha hb exact =
-      (tt, λ x y z. (
-        (λ t is deep. (exact x).none (node_count t) t (texts_are_given g t).0 is.tree
-            (record { deep = deep; large = omega arith }) (file_in content t is)),
-        ((rows, code), plan.legal.positive, (exact x).shown),
-      ))
-  first_refused content run.TooManyNodes ht ha hb exact =
-      (tt, λ x y z. (
-        (λ t is large. (exact x).none (depth_of t) t (texts_are_given g t).0 is.tree
-            (record { deep = omega arith; large = large }) (file_in content t is)),
-        ((rows, code), plan.legal.positive, (exact x).shown),
-      ))
+  first_refused content (run.Damaged at) ht ha hb exact = (
+    tt,
+    λ x y z. (
+      (λ t is. (exact x).none t (texts_are_given g t).0 is.tree (file_in content t is)),
+      ((rows, code), plan.legal.positive, (exact x).shown),
+    ),
+  )
+  first_refused content run.TooDeep ht ha hb exact = (
+    tt,
+    λ x y z. (
+      (λ t is deep. (exact x).none (node_count t) t (texts_are_given g t).0 is.tree
+          (record { deep = deep; large = omega arith }) (file_in content t is)),
+      ((rows, code), plan.legal.positive, (exact x).shown),
+    ),
+  )
+  first_refused content run.TooManyNodes ht ha hb exact = (
+    tt,
+    λ x y z. (
+      (λ t is large. (exact x).none (depth_of t) t (texts_are_given g t).0 is.tree
+          (record { deep = omega arith; large = large }) (file_in content t is)),
+      ((rows, code), plan.legal.positive, (exact x).shown),
+    ),
+  )
   first_refused content run.Device ht ha hb exact = tt
   first_refused content run.NoMemory ht ha hb exact = tt
 
@@ -92,12 +98,21 @@ module _ (g : Grammar) (rows : List (List ℕ)) (code : Lists) (accepted : IsAcc
       → WhenHonest ht (WhenHonest hb (IsPassed (setting_of g (rows, code) 1) content first count evals))
       → WhenHonest hb (WhenHonest ha (IsRunFault (setting_of g (rows, code) 2) first f))
       → IsTreeFaultBeforeText g ht ha hb content (run_fault_of f)
-  never_later content first count evals (run.Damaged at) ht ha hb passed exact = (tt, λ x y z. let is = passed x z in
-      absurd ((exact z y).none is.tree is.values is.fits is.written))
-  never_later content first count evals run.TooDeep ht ha hb passed exact = (tt, λ x y z. let is = passed x z in
-      absurd ((exact z y).none max_nodes is.tree is.values is.fits is.limits is.written))
-  never_later content first count evals run.TooManyNodes ht ha hb passed exact = (tt, λ x y z. let is = passed x z in
-      absurd ((exact z y).none max_depth is.tree is.values is.fits is.limits is.written))
+  never_later content first count evals (run.Damaged at) ht ha hb passed exact = (
+    tt,
+    λ x y z. let is = passed x z in
+        absurd ((exact z y).none is.tree is.values is.fits is.written),
+  )
+  never_later content first count evals run.TooDeep ht ha hb passed exact = (
+    tt,
+    λ x y z. let is = passed x z in
+        absurd ((exact z y).none max_nodes is.tree is.values is.fits is.limits is.written),
+  )
+  never_later content first count evals run.TooManyNodes ht ha hb passed exact = (
+    tt,
+    λ x y z. let is = passed x z in
+        absurd ((exact z y).none max_depth is.tree is.values is.fits is.limits is.written),
+  )
   never_later content first count evals run.Device ht ha hb passed exact = tt
   never_later content first count evals run.NoMemory ht ha hb passed exact = tt
 
