@@ -19,7 +19,8 @@ use rows::sheet::Questions;
 use rows::words::{Mistake, bytes_of, number};
 use std::alloc::Global;
 
-/// The current value, which rows set by `given` and other verbs. Each occurrence in an expression has this value.
+/// The current value, which rows set by `given` and other verbs. Each occurrence of an attribute (`$1.x`) in an
+/// expression has this value.
 #[derive(Drop)]
 pub struct CurrentValue {
     pub value: Value,

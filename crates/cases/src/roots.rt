@@ -40,8 +40,7 @@ pub fn root_bytes_answer(
 }
 
 /// Runs a pass of a plan and returns its output file. Fails with `Unfit` if the pass fails. The
-/// test of its number is there only for the contract of `run_pass`: the caller runs passes of the
-/// plan.
+/// number is always that of a pass of the plan; it is tested only since `run_pass` requires it.
 fn next_file(
     alloc: Global,
     grammar: &Grammar,
