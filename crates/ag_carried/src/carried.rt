@@ -24,11 +24,11 @@ use std::rc::Rc;
 use table_tree::TableTree;
 
 /// The greatest weight, in bytes, of a `Value` that is stored without its encoding. A heavier one
-/// takes one more allocation.
+/// takes one more allocation, for its encoding.
 const MAX_SMALL_WEIGHT: u64 = 24;
 
-/// The greatest length in bytes of a text that is stored without being weighed. Its weight is at
-/// most 21, five more, so it is small.
+/// The greatest length in bytes of a text that is stored without being weighed. Its weight is its
+/// length plus five, so at most 21, and the text is small.
 const MAX_SMALL_TEXT: usize = 16;
 
 /// How a value is stored.
@@ -53,6 +53,9 @@ enum Form {
 /// A value that is passed from node to node. Contracts see the value. Numbers and errors are stored
 /// inline, and every other value is shared by its owners: `share` neither copies nor walks it. A
 /// large value is stored beside its encoding, so `encode` copies bytes. A `Carried` has 24 bytes.
+///
+/// No invariant says that the value is well: a `Form::Small` can store any `Value`. `encode`
+/// requires it of its caller.
 #[derive(Debug, Drop)]
 pub struct Carried {
     form: Form,
@@ -61,6 +64,7 @@ pub struct Carried {
 impl Model for Carried {
     ghost use Rattle.std.specs.Coded.{codes};
     ghost use Rattle.ag_value.specs.declared.value.Value.{Value as AttributeValue};
+    // what the prover knows of the Rust type `Value`; only `coded` uses it
     ghost use Rattle.ag_value.specs.contracts.value.Value as value_row;
 
     ghost Value = { AttributeValue };
@@ -117,7 +121,8 @@ fn small_value(alloc: Global, value: Value) -> Result<Carried, NoMemory>
     }
 }
 
-/// Moves a value into shared memory. Fails with NoMemory.
+/// Moves a value into shared memory. Fails with NoMemory. A function of its own, so that
+/// `small_value`, which is inlined, is short.
 #[inline(never)]
 fn in_shared_memory(alloc: Global, value: Value) -> Result<Carried, NoMemory>
     ensures { IfOk result (λ c. c ≡ value) }
@@ -138,7 +143,8 @@ fn shared_value(alloc: Global, spelled: Spelled) -> Result<Carried, NoMemory>
     })
 }
 
-/// Returns a value as a carried one, as `Carried::new` does. Fails with NoMemory.
+/// Returns a value as a carried one, as `Carried::new` does. Fails with NoMemory. A function of its
+/// own, so that `Carried::new`, which is inlined, is short.
 #[inline(never)]
 fn store(alloc: Global, value: Value) -> Result<Carried, NoMemory>
     requires { IsWell value }
@@ -163,7 +169,7 @@ fn store_by_weight(alloc: Global, value: Value, weight: u64) -> Result<Carried, 
     shared_value(alloc, Spelled::new(alloc, value, weight)?)
 }
 
-/// Drops a value.
+/// Drops a value. A function of its own, so that its callers, which are inlined, are short.
 #[inline(never)]
 fn drop_form(form: Form) {
     drop(form);
@@ -300,7 +306,8 @@ impl Carried {
         }
     }
 
-    /// Returns the number, as `as_number` does.
+    /// Returns the number, as `as_number` does. A function of its own, so that `as_number`, which is
+    /// inlined, is short.
     #[inline(never)]
     fn number_in_value(&self) -> Option<i64>
         ensures { MatchOption result ((n : ℤ) → self.now ≡ Num n → ⊥) (λ n. self.now ≡ Num n) }
@@ -350,8 +357,8 @@ impl Carried {
         }
     }
 
-    /// Returns the same value for one more owner. Takes no memory, and does not use the allocator.
-    /// Fails with NoMemory if the value has 2^64 - 1 owners.
+    /// Returns the same value for one more owner. Takes no memory: the allocator is not used. Fails
+    /// with NoMemory if the value has 2^64 - 1 owners.
     #[inline(always)]
     pub fn share(&self, _alloc: Global) -> Result<Carried, NoMemory>
         ensures { IfOk result (λ c. c ≡ self.now) }
@@ -363,7 +370,8 @@ impl Carried {
         }
     }
 
-    /// Returns the same value for one more owner, as `share` does.
+    /// Returns the same value for one more owner, as `share` does. A function of its own, so that
+    /// `share`, which is inlined, is short.
     #[inline(never)]
     fn share_any(&self) -> Result<Carried, NoMemory>
         ensures { IfOk result (λ c. c ≡ self.now) }
@@ -390,7 +398,8 @@ impl Carried {
     }
 
     /// Returns whether the value is a large one, a shared text or a tree. If it is, `encoded`
-    /// returns the encoding.
+    /// returns the encoding. (A small value can have several owners too, but `encoded` returns
+    /// `None` for it.)
     #[inline(always)]
     pub fn is_shared(&self) -> bool {
         matches!(
@@ -464,7 +473,8 @@ impl Carried {
         self.same_of_any_kind(other)
     }
 
-    /// Returns whether two values are equal, as `same` does.
+    /// Returns whether two values are equal, as `same` does. A function of its own, so that `same`,
+    /// which is inlined, is short.
     #[inline(never)]
     fn same_of_any_kind(&self, other: &Carried) -> bool
         ensures { IsTrue result ↔ (self.now ≡ other.now) }
@@ -499,7 +509,7 @@ impl Carried {
         }
     }
 
-    /// Returns whether the value is a number that equals another.
+    /// Returns whether the value is the number `number`.
     fn is_number(&self, number: i64) -> bool
         ensures { IsTrue result ↔ (self.now ≡ Num number) }
     {
@@ -509,7 +519,7 @@ impl Carried {
         }
     }
 
-    /// Returns whether the value is an error that equals another.
+    /// Returns whether the value is the error `code`.
     fn is_fault(&self, code: ErrorCode) -> bool
         ensures { IsTrue result ↔ (self.now ≡ Fault code) }
     {
@@ -519,8 +529,8 @@ impl Carried {
         }
     }
 
-    /// Appends the encoding of a well value. For a large one these are the bytes stored beside it.
-    /// Fails with NoMemory; `out` is then unchanged.
+    /// Appends the encoding of the value, which must be well. For a large value this copies the
+    /// bytes that are stored beside it. Fails with NoMemory; `out` is then unchanged.
     #[inline(always)]
     pub fn encode(&self, out: &mut Vec<u8>) -> Result<(), NoMemory>
         requires { IsWell self.now }
@@ -542,7 +552,8 @@ impl Carried {
     }
 
     /// Reads the value whose encoding is a prefix of the input, and returns it with the length of
-    /// that prefix in bytes. Fails as `decode` does. A large value keeps a copy of these bytes.
+    /// that prefix in bytes. A large value keeps a copy of these bytes. Fails with Malformed (V1) if
+    /// no prefix is the encoding of a well value, and with NoMemory.
     #[inline(always)]
     pub fn read(alloc: Global, input: &[u8]) -> Result<(Carried, usize), ValueFault>
         ensures well { IfOk result (λ found. IsWell found.0) }
@@ -596,7 +607,8 @@ impl Carried {
 
 /// Returns the length in bytes of the encoding of a value, if it is a text of at most
 /// `MAX_FLAT_TEXT` bytes and the input begins with its encoding, and otherwise `None`. Takes no
-/// memory.
+/// memory. A small text has at most 19 bytes, but no invariant says so. The limit shows the prover
+/// that the text is well, which is a part of `IsPrefix`.
 fn prefix_of_small(value: &Value, input: &[u8]) -> Option<usize>
     ensures { IfSome result (IsPrefix value.now input.now) }
 {

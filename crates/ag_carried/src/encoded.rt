@@ -31,7 +31,8 @@ enum Source {
 }
 
 /// The encoding of a large value, a shared text or a tree. An `Encoded` is one more owner of that
-/// value. Contracts see the bytes.
+/// value. Contracts see the bytes. `append_to` and `share` fail with AllocError, as the calls of
+/// `Vec` do, and `value` with NoMemory, as those of `Carried` do. Both faults mean the same.
 #[derive(Debug, Drop)]
 pub struct Encoded {
     source: Source,
@@ -69,7 +70,7 @@ impl Encoded {
         }
     }
 
-    /// Returns the encoding of a table.
+    /// Returns the encoding of a table that is a tree.
     pub(crate) fn of_table(table: TableTree) -> Encoded
         ensures { result ≡ spelling_of (TableValue table) }
     {
@@ -78,7 +79,7 @@ impl Encoded {
         }
     }
 
-    /// Returns the encoding of a list.
+    /// Returns the encoding of a list that is a tree.
     pub(crate) fn of_list(list: ListTree) -> Encoded
         ensures { result ≡ spelling_of (ListValue list) }
     {
@@ -191,7 +192,8 @@ impl Encoded {
     }
 }
 
-/// Returns the number of bytes. The clause `bytes` says that each of them is below 256.
+/// Returns the number of bytes. It is a function for its clause `bytes`, which says that each of
+/// them is below 256: contracts see bytes as numbers, and the clause `bytes` of `len` needs this.
 #[inline(always)]
 pub(crate) fn byte_count(bytes: &[u8]) -> usize
     ensures len { result ≡ length bytes.now }

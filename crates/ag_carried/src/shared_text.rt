@@ -18,7 +18,8 @@ use std::marker::Model;
 /// that is, in one string. It is to make a longer one a `SharedText`.
 pub const MAX_FLAT_TEXT: usize = 256;
 
-/// The number of bytes before those of a text in its encoding: the kind and the length.
+/// The number of bytes before those of a text in its encoding: one for the kind of a text, and four
+/// for its length.
 const HEADER_LENGTH: usize = 5;
 
 /// The greatest length in bytes of a text within the limits.
@@ -72,8 +73,9 @@ impl SharedText {
         Ok(SharedText { rope })
     }
 
-    /// Joins two texts in constant time, or returns `None` if the weight of the result would exceed
-    /// `MAX_WEIGHT`. Copies at most 256 bytes, of two pieces that become one. Fails with NoMemory.
+    /// Returns the text of `left` and then `right`, or `None` if its weight would exceed
+    /// `MAX_WEIGHT`. Takes constant time, and copies at most 256 bytes, if two pieces become one.
+    /// Fails with NoMemory.
     pub fn join(
         alloc: Global,
         left: SharedText,
@@ -122,8 +124,8 @@ impl SharedText {
         }
     }
 
-    /// Returns the bytes of the encoding that come before those of the text: 1, the kind of a text,
-    /// and the number of the text's bytes, big-endian.
+    /// Returns the bytes of the encoding that come before those of the text: a 1, with which each
+    /// encoding of a text begins, and the number of the text's bytes in four bytes, big-endian.
     #[tactic(auto, using(crate::proofs::Texts::header_is))]
     fn header(&self) -> [u8; HEADER_LENGTH]
         ensures { spelling_of (TextValue self.now) ≡ result ++ self.now }
@@ -190,8 +192,8 @@ impl SharedText {
     }
 }
 
-/// Returns the bytes that come before those of the text in the encoding of a text of at most
-/// `MAX_FLAT_TEXT` bytes, as `SharedText::header` does.
+/// Returns the bytes that come before those of the text in its encoding, as `SharedText::header`
+/// does for a shared text. The text must have at most `MAX_FLAT_TEXT` (256) bytes.
 #[tactic(auto, using(crate::proofs::Texts::header_is))]
 fn header_of(text: &str) -> [u8; HEADER_LENGTH]
     requires { length text.now ≤ 256 }
@@ -201,7 +203,8 @@ fn header_of(text: &str) -> [u8; HEADER_LENGTH]
     [1, len[0], len[1], len[2], len[3]]
 }
 
-/// Returns whether a text has at most `MAX_FLAT_TEXT` bytes. Such a text is well.
+/// Returns whether a text has at most `MAX_FLAT_TEXT` bytes. Such a text is well, since a `str` is
+/// UTF-8 and the weight is within the limit.
 fn is_flat(text: &str) -> bool
     ensures len { IsTrue result → length text.now ≤ 256 }
     ensures well { IsTrue result → IsWell (TextValue text.now) }
@@ -209,7 +212,8 @@ fn is_flat(text: &str) -> bool
     text.len() <= MAX_FLAT_TEXT
 }
 
-/// Returns whether the input begins with the encoding of a text of at most `MAX_FLAT_TEXT` bytes.
+/// Returns whether the input begins with the encoding of `text`, which must have at most
+/// `MAX_FLAT_TEXT` bytes.
 fn begins_with(input: &[u8], text: &str) -> bool
     requires { length text.now ≤ 256 }
     ensures within { IsTrue result → 5 + length text.now ≤ length input.now }

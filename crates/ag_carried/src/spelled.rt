@@ -19,6 +19,7 @@ pub struct Spelled {
 impl Model for Spelled {
     ghost use Rattle.std.specs.Coded.{codes};
     ghost use Rattle.ag_value.specs.declared.value.Value.{Value as AttributeValue};
+    // what the prover knows of the Rust type `Value`; only `coded` uses it
     ghost use Rattle.ag_value.specs.contracts.value.Value as value_row;
     ghost use Rattle.ag_carried.specs.Spelled.{IsSpelled};
 
@@ -86,7 +87,7 @@ impl Spelled {
     }
 
     /// Returns the length in bytes of the encoding, if the input begins with this encoding, and
-    /// otherwise `None`.
+    /// otherwise `None`. Takes no memory.
     pub fn prefix_of(&self, input: &[u8]) -> Option<usize>
         ensures { IfSome result (IsPrefix self.now input.now) }
     {

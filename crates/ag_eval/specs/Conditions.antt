@@ -5,7 +5,8 @@ use Rattle.ag_value.specs.declared.value.ErrorCode.TheVariants.{Kind}
 use Rattle.ag_value.specs.declared.value.Value.{Value, out-Value}
 use Rattle.ag_value.specs.declared.value.Value.TheOpen.{Value-F}
 
--- a number decides true unless it is 0; the decision of an error fails with that error, that of any other value with `kind`
+-- The decision of a value, from its outermost level. A number decides true unless it is 0. The decision of an error fails with
+-- that error, and that of any other value with `kind`.
 abbrev pub decision_at : Value-F Value → Result Bool ErrorCode
 decision_at (Value-F.Num (pos zero)) = Ok false
 decision_at (Value-F.Num (pos (suc n))) = Ok true
@@ -13,6 +14,6 @@ decision_at (Value-F.Num (negsuc n)) = Ok true
 decision_at (Value-F.Fault code) = Err code
 decision_at c = Err Kind
 
--- the decision of a value as a condition, as above
+-- the decision of a value as a condition: true, false or an error
 abbrev pub decision : Value → Result Bool ErrorCode
 decision c = decision_at (out-Value c)

@@ -28,19 +28,19 @@ abbrev pub loan_value : Loan → Value
 loan_value (loan.Value v) = v.now
 loan_value (loan.Carried c) = c.now
 
--- the value that is read
+-- the value of a `ValueRef`
 abbrev pub ref_value : ValueRef → Value
 ref_value (reference.Plain v) = v.now
 ref_value (reference.Shared text) = value.Text text.now
 ref_value (reference.Table table) = value.Table table.now
 ref_value (reference.List list) = value.List list.now
 
--- the plain value, lent or copied
+-- the value of a `Plain`, lent or copied
 abbrev pub plain_value : Plain → Value
 plain_value (plain.Lent v) = v
 plain_value (plain.Copied v) = v
 
--- the value, lent, owned or shared
+-- the value of a `Held`: definitions see a shared text as its bytes, a `TableTree` as its pairs, and a `ListTree` as its items
 abbrev pub held_value : Held → Value
 held_value (held.Lent v) = v
 held_value (held.Owned v) = v
@@ -50,7 +50,7 @@ held_value (held.Table table) = value.Table table
 held_value (held.LentList list) = value.List list.now
 held_value (held.List list) = value.List list
 
--- whether the value is lent
+-- whether the value of a `Held` is lent
 abbrev pub is_lent : Held → Bool
 is_lent (held.Lent v) = true
 is_lent (held.Owned v) = false
@@ -60,7 +60,7 @@ is_lent (held.Table table) = false
 is_lent (held.LentList list) = true
 is_lent (held.List list) = false
 
--- the value of an operand, by the values of the bindings
+-- the value of an operand, where `bound` has the values of the bindings, the outermost first
 abbrev pub operand_value : List Value → Operand → Value
 operand_value bound (operand.Held h) = held_value h
 operand_value bound (operand.Bound k) = bound_value (slice_get bound k)
@@ -74,7 +74,8 @@ abbrev pub IsIn : List Value → Operand → Type 0
 IsIn bound (operand.Held h) = Unit {0}
 IsIn bound (operand.Bound k) = k < length bound
 
--- in every item of a list around which `bound` names are bound, the number of each occurrence is below n, and the number of each
--- bound name is below the number of names that are bound around it
+-- `each_within n bound items`, where `bound` is the number of names that are bound around a list, and `items` has its items: in
+-- every item, the number of each occurrence is below n. The number of each bound name is below the number of names that are bound
+-- around it.
 abbrev pub each_within : ℕ → ℕ → List Node → Bool
 each_within n bound items = each_holds bound (map (is_within n) items)

@@ -26,9 +26,9 @@ use ag_value::{ErrorCode, MAX_VALUE_DEPTH, MAX_WEIGHT, NoMemory, Value, copy, de
 use std::alloc::Global;
 
 impl<'e, V: Lender> Evaluation<'e, V> {
-    /// Computes the value of an operator for the value so far and the next operand, if both are
-    /// scalars and the next one is available without making an operand. Returns `None` otherwise,
-    /// and for `++` of two numbers.
+    /// Computes the next step of a chain: the value of the operator in `other`, for the value so far
+    /// and the operand in `other`. Returns `None` unless both are scalars and the second one is a
+    /// literal, an occurrence or a bound name, and for `++` of two numbers.
     #[inline(always)]
     pub fn next_scalar(
         &self,
@@ -65,8 +65,8 @@ impl<'e, V: Lender> Evaluation<'e, V> {
         self.leaf_scalar(node, bindings)
     }
 
-    /// Computes the value of a chain of scalars. Returns `None` for another node, and for `++` of
-    /// two numbers.
+    /// Computes the value of a chain whose operands are scalars or such chains themselves. Returns
+    /// `None` for another node, and for `++` of two numbers.
     #[cycle(scalars)]
     #[tactic(auto, using(ag_grammar::proofs::expressions::Trees::parts))]
     fn scalar_of_chain(&self, node: &Node, bindings: &Bindings<'_>) -> Option<Scalar>
@@ -138,7 +138,8 @@ pub fn eval_number(expr: &Expr, meter: &mut Meter) -> Option<i64>
     Some(*value)
 }
 
-/// Returns a value if it is within the limits.
+/// Returns a value if it is within the limits. It must be one that a list or table may contain, as a
+/// literal is.
 #[inline(always)]
 fn within_limits(item: &Value) -> Option<&Value>
     requires { is_item item.now ≡ true }
@@ -160,7 +161,8 @@ pub fn literal_value<'e>(literal: &'e Literal) -> Held<'e>
     }
 }
 
-/// Returns the error for a value beyond the limits, or `None` if it is within them.
+/// Returns the error `deep` or `big` for a value beyond the limits, or `None` if it is within them. It
+/// must be one that a list or table may contain, as a literal is.
 #[inline(always)]
 fn limit_error(item: &Value) -> Option<ErrorCode>
     requires { is_item item.now ≡ true }

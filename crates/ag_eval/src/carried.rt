@@ -20,10 +20,9 @@ use std::alloc::Global;
 /// A text of more than 256 bytes that `++` made keeps the shared bytes of its operands, and a table or
 /// list that is a tree keeps the nodes that it shares.
 ///
-/// Takes memory as `eval` does, but none for a copy of such a result. Every other result that is
-/// not a number or an error is stored in memory that its owners share, with its encoding if it is
-/// large.
-/// Fails with `NoMemory` if memory is refused.
+/// Takes memory as `eval` does, but none for a copy of a result that is the value of an occurrence, a
+/// shared text or a tree. Every other result that is not a number or an error is stored in memory
+/// that its owners share, with its encoding if it is large. Fails with `NoMemory` if memory is refused.
 #[inline(always)]
 pub fn eval_carried<C: CarriedEnvironment>(
     alloc: Global,

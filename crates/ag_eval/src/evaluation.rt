@@ -106,8 +106,9 @@ impl<'e, V: Lender> Evaluation<'e, V> {
         }
     }
 
-    /// Evaluates a part of the expression, with these bindings around it. They are unchanged after
-    /// a success. Fails with `NoMemory` if memory is refused.
+    /// Evaluates a part of the expression, with these bindings around it. The bindings are unchanged
+    /// after a success, and not used any more after a failure. Fails with `NoMemory` if memory is
+    /// refused.
     #[cycle(evaluating)]
     #[tactic(auto, using(ag_grammar::proofs::expressions::Trees::parts))]
     fn operand_of(
@@ -281,7 +282,8 @@ impl<'e, V: Lender> Evaluation<'e, V> {
         Ok(Operand::owned(list.into_list()))
     }
 
-    /// Evaluates the expression.
+    /// Evaluates the expression. Looks first for an expression that is one occurrence or literal,
+    /// and for one of scalars only, since these need no operands.
     #[inline(never)]
     fn value(&self) -> Result<Value, NoMemory>
         ensures value { IfOk result (λ v. v
@@ -338,8 +340,9 @@ fn empty_table<'e>(alloc: Global) -> Operand<'e>
     Operand::owned(Measured::new(Value::Table(Items::from_vec(Vec::new(alloc)))))
 }
 
-/// Returns whether a condition holds: whether its number is not 0. A condition that is an error fails with
-/// that error, and a text, a list or a table with the error `kind`.
+/// Returns whether a condition holds: whether its number is not 0. Fails with the condition's error if
+/// it is one, and with the error `kind` for a text, a list or a table. In the contract, e and f are any
+/// values of the two branches of the `if`.
 #[tactic(auto, using(crate::proofs::Decided::chooses))]
 fn decide(condition: Operand<'_>, bindings: &Bindings<'_>) -> Result<bool, ErrorCode>
     requires { IsIn bindings.now condition }
@@ -371,6 +374,7 @@ fn decided(condition: ValueRef<'_>) -> Result<bool, ErrorCode>
 ///
 /// - a value that the environment or the expression lends, if it is the result;
 /// - a value that is lent or bound, if it becomes an item of a list or table, or is extended;
+/// - a list that is lent or bound, if a short list is extended by it (`++`);
 /// - the part that `nth` or `get` takes of a value that the expression made;
 /// - a value that the expression made and bound, if another name is bound to it too.
 ///

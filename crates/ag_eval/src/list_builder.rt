@@ -10,7 +10,8 @@ use ag_value::{Items, NoMemory, Value};
 use std::alloc::Global;
 use std::marker::Model;
 
-/// Items for a list, with the weight and the depth of the list.
+/// Items for a list, with the weight and the depth of the list. A greater weight than 2^64 - 1, or a
+/// greater depth than 2^32 - 1, is stored as this number.
 #[derive(Debug, Drop)]
 pub struct ListBuilder {
     items: Vec<Value>,
@@ -22,6 +23,7 @@ impl Model for ListBuilder {
     ghost use Rattle.std.specs.Prelude.{List};
     ghost use Rattle.std.specs.Coded.{codes};
     ghost use Rattle.ag_value.specs.declared.value.Value.{Value as AttributeValue};
+    // what the prover knows of the Rust type `Value`; only `coded` uses it
     ghost use Rattle.ag_value.specs.contracts.value.Value as value_row;
     ghost use Rattle.ag_value.specs.operations.Fitting.{IsGathered};
 
@@ -60,7 +62,7 @@ impl ListBuilder {
         Ok(())
     }
 
-    /// Returns the list of the items, or an error if it is beyond the limits.
+    /// Returns the list of the items, or the error `deep` or `big` if it is beyond the limits.
     pub fn into_list(self) -> Measured
         ensures { result ≡ fit (value.List self) }
     {

@@ -22,6 +22,7 @@ pub struct Measured {
 impl Model for Measured {
     ghost use Rattle.std.specs.Coded.{codes};
     ghost use Rattle.ag_value.specs.declared.value.Value.{Value as AttributeValue};
+    // what the prover knows of the Rust type `Value`; only `coded` uses it
     ghost use Rattle.ag_value.specs.contracts.value.Value as value_row;
     ghost use Rattle.ag_value.specs.operations.Fitting.{IsMeasured};
 
@@ -56,9 +57,10 @@ impl Measured {
         }
     }
 
-    /// Makes a value with the given weight and depth, or the error `deep` or `big` if they are
-    /// beyond the limits (`deep` if both are). Each of the two is the exact one, or the greatest
-    /// number of its type if the exact one is greater.
+    /// Returns the value, or the error `deep` if its depth exceeds 64, or else the error `big` if its
+    /// weight exceeds 1,048,576. The value must be one that a list or table may contain. `weight`
+    /// must be its weight, or 2^64 - 1 if that is greater, and `depth` its depth, or 2^32 - 1 if
+    /// that is greater.
     pub fn fit(value: Value, weight: u64, depth: u32) -> Measured
         requires item { is_item value ≡ true }
         requires weighed { weight ≡ min (weight_of value) (2 ^ 64 - 1) }
@@ -78,7 +80,8 @@ impl Measured {
         }
     }
 
-    /// Measures a value, and returns it, or the error `deep` or `big` if it is beyond the limits.
+    /// Measures a value, and returns it, or the error `deep` or `big` if it is beyond the limits. The
+    /// value must be one that a list or table may contain.
     pub fn weighed(value: Value) -> Measured
         requires { is_item value ≡ true }
         ensures { result ≡ fit value }

@@ -1,5 +1,5 @@
-//! The value of a part of an expression, lent or shared if possible. A value is well if it is within
-//! the limits of weight and depth and consistent, as `ag_value` defines it. The functions that return a
+//! The value of a part of an expression, lent or shared if possible. A value is well if it has the right
+//! form and is within the limits of weight and depth (README of `ag_value`). The functions that return a
 //! `Result` fail with `NoMemory` if memory is refused.
 
 ghost use Rattle.std.specs.Prelude.{◌≡◌, IfOk, IfSome, is_some, true};
@@ -33,6 +33,7 @@ pub struct Lent<'e> {
 impl<'e> Model for Lent<'e> {
     ghost use Rattle.std.specs.Coded.{codes};
     ghost use Rattle.ag_value.specs.declared.value.Value.{Value as AttributeValue};
+    // what the prover knows of the Rust type `Value`; only `coded` uses it
     ghost use Rattle.ag_value.specs.contracts.value.Value as value_row;
     ghost use Rattle.std.specs.Prelude.{◌≡◌, IfSome};
     ghost use Rattle.ag_value.specs.Well.{IsWell};
@@ -88,16 +89,22 @@ impl<'e> Lent<'e> {
     }
 }
 
-/// A well value: one that the environment or the expression lends, an owned one, a shared text, or a
-/// table or list that is a tree, which the environment lends or which is owned.
+/// A well value, in one of these forms.
 #[derive(Debug, Drop)]
 pub enum Held<'e> {
+    /// A plain value (one that is stored as a `Value`) that the environment or the expression lends.
     Lent(Lent<'e>),
+    /// A plain value that the evaluation owns.
     Owned(Measured),
+    /// A shared text. The evaluation is one of its owners.
     Shared(SharedText),
+    /// A table that is a tree, which the environment lends.
     LentTable(&'e TableTree),
+    /// A table that is a tree. The evaluation is one of its owners.
     Table(TableTree),
+    /// A list that is a tree, which the environment lends.
     LentList(&'e ListTree),
+    /// A list that is a tree. The evaluation is one of its owners.
     List(ListTree),
 }
 
@@ -142,6 +149,7 @@ impl<'e> Held<'e> {
         if let Some(list) = carried.as_list() {
             return Ok(Held::LentList(list));
         }
+        // only an error comes here, but no clause of `as_value` says so
         Ok(Held::Owned(Measured::new(carried.to_value(alloc)?)))
     }
 

@@ -15,7 +15,8 @@ pub enum ExpectedPart {
     Expression,
     /// An expression other than a `let` or an `if`.
     Operand,
-    /// A name that is bound there; the name at this offset is not.
+    /// A name that is bound there. The token at the offset is then a name that is neither reserved
+    /// nor bound.
     BoundName,
     /// A new name for a binding: one that is not reserved.
     NewName,
@@ -29,14 +30,15 @@ pub enum ExpectedPart {
     End,
 }
 
-/// The signs, other than operators, that `gather_signs` tries.
+/// The signs, other than operators, that `gather_signs` tries. (`[` and `{` begin an operand.)
 const SIGNS: [&str; 9] = ["=", "(", ")", "]", "}", ",", "in", "then", "else"];
 
 /// Returns what could be at the byte offset `at` instead of the token there, for a text that is
 /// refused there with X2. Tries each candidate after the text before the offset, so this text is
-/// parsed up to 14 times. If an expression at the offset would be of level 65, the list contains no
-/// expression or operand, but it can contain a `]`, which ends an empty list. The result is empty
-/// if `at` is not a character boundary of the text. Fails with `NoMemory` if memory runs out.
+/// parsed up to 14 times. If an expression at the offset would be of level 65, the result contains
+/// no expression or operand. It can contain a `]` then: after a `[`, a `]` makes the empty list
+/// `[]`. The result is empty if `at` is not a character boundary of the text. Fails with `NoMemory`
+/// if memory runs out.
 pub fn expected_at(alloc: Global, text: &str, at: usize) -> Result<Vec<ExpectedPart>, NoMemory> {
     let mut found = Vec::new(alloc);
     if let Some(before) = text.get(..at) {
@@ -46,7 +48,8 @@ pub fn expected_at(alloc: Global, text: &str, at: usize) -> Result<Vec<ExpectedP
 }
 
 /// Collects in `found` what could follow `before`, which is a prefix of `text`. `1` is tried for
-/// any operand, `_` for any new name, and one operator for all of its kind. Fails with `NoMemory`.
+/// any operand, `_` for any new name, `==` for any operator, and `*` for the operators other than
+/// `==` and `<`. Fails with `NoMemory`.
 fn gather(
     alloc: Global,
     text: &str,

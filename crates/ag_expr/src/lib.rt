@@ -11,6 +11,7 @@ mod occurrence_table;
 mod parser;
 mod reader;
 
+// for callers that use the parser's results and tokens
 pub use ag_grammar::occurrences;
 pub use ag_tokens::{Cursor, GrammarToken, Punctuation, unescaped};
 pub use expected::{ExpectedPart, expected_at};

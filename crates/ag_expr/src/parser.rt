@@ -177,8 +177,8 @@ fn chain_of(alloc: Global, first: Node, others: Vec<(Operator, Node)>) -> Result
     Ok(Node::Chain(Boxed::new(alloc, first)?, Items::from_vec(others)))
 }
 
-/// Returns the node of a bound name, given the index of its binding (`None` if it is not bound).
-/// Returns `None` if the name is reserved or not bound.
+/// Returns the node of a bound name. `number` is the index of its binding among the names in scope,
+/// or `None` if it is not bound. Returns `None` if the name is reserved or not bound.
 fn bound_node(name: &str, number: Option<usize>) -> Option<Node>
     ensures { result ≡ syntax.bound_operand name.now number }
 {
@@ -342,7 +342,8 @@ impl<'t> Reader<'t> {
 
     /// Parses a chain of any precedence; the parts of its atoms have at most `levels` levels.
     ///
-    /// If no operator follows its first atom, the atom is the chain.
+    /// If no operator follows its first atom, the atom is the chain. This case is handled here only
+    /// for speed, and so is the same case in `operand`.
     #[cycle(parsing)]
     #[tactic(auto, using(crate::proofs::language::Chains::atom_alone, crate::proofs::language::Chains::by_atom))]
     fn chain(&mut self, levels: usize) -> Result<Node, ExprFault>
@@ -418,7 +419,8 @@ impl<'t> Reader<'t> {
         self.operand_after(levels, precedence, first)
     }
 
-    /// Parses the operators of a chain after its first operand, each with the operand after it.
+    /// Parses the operators of a chain after its first operand, each with the operand after it. Not
+    /// inlined, for speed.
     #[cycle(parsing)]
     #[inline(never)]
     #[tactic(auto, using(crate::proofs::language::Parts::shorter, crate::proofs::language::Agree::other_shortens))]

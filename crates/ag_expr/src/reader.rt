@@ -28,7 +28,7 @@ use std::marker::Model;
 /// *statement* (an expression followed by a `;`), those before the first `;`.
 ///
 /// The methods of a reader that read a given kind of token fail with `refusal` if the next token is
-/// another one.
+/// of another kind or missing.
 #[derive(Drop)]
 pub struct Reader<'t> {
     alloc: Global,
@@ -156,8 +156,8 @@ impl<'t> Reader<'t> {
         }
     }
 
-    /// Advances past the next token, which must be there. Does not list the token if it is an
-    /// occurrence.
+    /// Advances past the next token, which must be there. Does not add it to the occurrences, even
+    /// if it is one.
     pub fn bump(&mut self)
         requires { is_some (next_token (input self.old)) ≡ true }
         ensures exact { self.new ≡ state.after_token self.old }
@@ -192,7 +192,7 @@ impl<'t> Reader<'t> {
         self.scope.bind(name)
     }
 
-    /// Removes the innermost name.
+    /// Removes the innermost name, if there is one.
     #[tactic(auto, unfolding(crate::specs::language::State::complete_list, crate::specs::language::State::input,))]
     pub fn unbind(&mut self)
         ensures names { self.new.scope ≡ names_spec.without_innermost self.old.scope }
@@ -219,7 +219,8 @@ impl<'t> Reader<'t> {
         }
     }
 
-    /// Returns whether the next token of the text is a `;`.
+    /// Returns whether the next token of the text is a `;`, at which `peek` returns `None` in a
+    /// statement.
     pub fn sees_semicolon(&self) -> bool
         ensures { result
             ≡ sees (is_sign (tokens.mark punctuation.Semicolon)) self.now.tokens }

@@ -28,7 +28,7 @@ use Rattle.ag_fault.specs.declared.build_fault.BuildFault.TheVariants as build
 use Rattle.ag_fault.specs.declared.fault.Fault.{Fault}
 use Rattle.ag_fault.specs.declared.fault.Fault.TheVariants as fault
 
--- Of the faults of an expression, a sentence and a job, `NoMemory` becomes `NoMemory`, and any other fault is put into a variant.
+-- The faults of an expression, a sentence and a job: `NoMemory` becomes `NoMemory`; any other is kept in the variant of its kind
 abbrev pub expr_fault_of : ExprFault → Fault
 expr_fault_of expr.NoMemory = fault.NoMemory
 expr_fault_of e = fault.Expr e

@@ -13,15 +13,17 @@ use Rattle.ag_fault.specs.declared.fault.Fault.{Fault}
 use Rattle.ag_fault.specs.declared.fault.Fault.TheVariants as fault
 use Rattle.ag_fault.specs.declared.stuck_grammar.StuckGrammar.{StuckGrammar}
 
--- the name of a symbol, a point and the name of its attribute, as in `L.p`; empty if the symbol or the attribute does not exist
+-- the name of a symbol, a point and the name of its attribute, as in `L.p`; empty if there is no such attribute (`None`)
 abbrev pub name_of_attribute : Symbol → Option (List ℕ) → List ℕ
 name_of_attribute symbol None = []
 name_of_attribute symbol (Some name) = symbol.name ++ codes "." ++ name
 
+-- the same from a symbol, if there is one, and the number of its attribute; empty if the symbol or the attribute does not exist
 abbrev pub name_at : Option Symbol → ℕ → List ℕ
 name_at None attribute = []
 name_at (Some symbol) attribute = name_of_attribute symbol (slice_get (attribute_names symbol) attribute)
 
+-- the same from a grammar, the number of the symbol and the number of its attribute
 abbrev pub qualified_name : Grammar → ℕ → ℕ → List ℕ
 qualified_name g symbol attribute = name_at (slice_get g.symbols symbol) attribute
 

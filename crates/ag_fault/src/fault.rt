@@ -57,7 +57,7 @@ pub enum Fault {
     /// B1: a device does not contain a tree file.
     NotATreeFile,
     /// B2: no frame ends at this offset in bytes, or one does and its body is not the record that
-    /// the reader expects there.
+    /// is expected there, such as that of the root at the end of the last tree file.
     Damaged(u64),
     /// D1: a call of a device failed.
     Device,

@@ -1,5 +1,4 @@
-//! The direction in which a pass visits the children of a node. `Direction::of_pass` is the only
-//! function that computes a direction from the number of a pass.
+//! The direction in which a pass visits the children of a node.
 
 ghost use Rattle.std.specs.Prelude.{◌≡◌, ◌<◌, ◌↔◌, IsTrue};
 ghost use Rattle.ag_grammar.specs.grammars.Passes.{IsBefore, direction_name, direction_of, nth, other};
@@ -8,7 +7,7 @@ ghost use Rattle.ag_grammar.specs.grammars.Passes.{IsBefore, direction_name, dir
 /// passes go from right to left is this project's choice.
 #[derive(Clone, Copy, Debug, PartialEq, Eq)]
 pub enum Direction {
-    /// From left to right: even passes, 0 included.
+    /// From left to right: even passes. Pass 0 is the parser, which writes the first file of a tree.
     LeftToRight,
     /// From right to left: odd passes.
     RightToLeft,

@@ -76,7 +76,7 @@ impl Production {
 
 impl Symbol {
     /// Returns the number of attributes of the symbol, which must have at most `MAX_ATTRIBUTES`
-    /// (16).
+    /// (16), so that the sum can't overflow.
     pub fn attribute_count(&self) -> usize
         requires { length (attribute_names self.now) ≤ max_attributes }
         ensures { result ≡ length (attribute_names self.now) }

@@ -29,7 +29,8 @@ pub record IsCut (bytes text sentence : List ℕ) : Type 0 where
   pub is_separator : IsSeparator separator sentence
   pub all : bytes ≡ text ++ (separator ++ sentence)
 
--- The parts of a job: the text before its first line `%%`, and the sentence after it.
+-- The parts of a job: the text before its first line `%%` (no other line `%%` has a shorter text before it), and the sentence
+-- after it.
 pub record AreParts (bytes text sentence : List ℕ) : Type 0 where
   pub cut : IsCut bytes text sentence
   pub first : (before following : List ℕ) → IsCut bytes before following → length text ≤ length before

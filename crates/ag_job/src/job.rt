@@ -43,6 +43,9 @@ impl Job {
     /// there are that many, with J2 `Read` if the reader fails before, with J1 `NoSeparator` if no
     /// line is exactly `%%`, and with `NoMemory` if a request for memory is refused, in this call
     /// or in the reader.
+    ///
+    /// `R.remaining reader` has the bytes that the reader still contains, if a contract can name
+    /// them.
     pub fn read<R: Read + Drop>(alloc: Global, reader: R) -> Result<Job, JobFault>
         ensures job { IfOk result (λ job. IfSome (R.remaining reader)
             (λ bytes. IsJob bytes job.0 job.1)) }

@@ -16,7 +16,8 @@ pub enum ReadFault {
 
 /// Returns the first bytes of a reader: all up to its end, but at most `most` bytes. Fails with
 /// `Read` if the reader fails, and with `NoMemory` if a request for memory is refused, in this call
-/// or in the reader.
+/// or in the reader. `R.remaining reader` has the bytes that the reader still contains, if a
+/// contract can name them.
 pub fn read_prefix<R: Read + Drop>(
     alloc: Global,
     reader: R,

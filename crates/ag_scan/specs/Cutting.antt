@@ -1,6 +1,6 @@
--- The scanner as plain functions: the word at the beginning of characters, and all tokens of a text. The clause `tokens` of
--- `scan` says that they agree with the definitions for each sentence that `scan` accepts. In this file 34 is the double quote,
--- and the classes are 0 for NAME, 1 for NUMBER and 2 for TEXT.
+-- The scanner as plain functions: the word at the beginning of characters (`word_from`), and all tokens of a text (`tokens_in`).
+-- The clause `tokens` of `scan` says that the list `tokens_in` is right by the definition (`AreTokensOf`) for each sentence that
+-- `scan` accepts. In this file 34 is the double quote, and the classes are 0 for NAME, 1 for NUMBER and 2 for TEXT.
 use Rattle.std.specs.Prelude.{◌≡◌, ℕ, zero, suc, ◌+◌, ◌-◌, Bool, cond, nat_eq, nat_lt, ◌==◌, List, [], ◌∷◌, ◌++◌, length, take}
 use Rattle.std.specs.Prelude.{drop, Option, Some, None, slice_get, chars, encode_utf8_all}
 use Rattle.std.specs.Cmp.Lexicographic.{pointwise}
@@ -15,7 +15,7 @@ use Rattle.ag_scan.specs.declared.prefix.LeadingWord as code
 use Rattle.ag_scan.specs.Tokens.{Token}
 use Rattle.ag_scan.specs.Words.{Vocabulary, IsLiteral, IsLongest, IsToken}
 
--- A word that was read: its terminal, its text, and the characters after it.
+-- A word that was read: its terminal, its text (bytes), and the characters after it.
 pub record LeadingWord : Type 0 where
   pub kind : Terminal
   pub lex : List ℕ
@@ -32,7 +32,7 @@ rest_after p cs = drop (prefix_len p cs) cs
 abbrev pub span_from : (ℕ → Bool) → ℕ → List ℕ → LeadingWord
 span_from p class cs = record { kind = Class class; lex = encode_utf8_all (prefix_in p cs); rest = rest_after p cs }
 
--- the TEXT with the text `body`, if a quote follows it
+-- the TEXT with the text `body`, if the characters after the body begin with a quote
 abbrev pub close_quote : List ℕ → List ℕ → Option LeadingWord
 close_quote body [] = None
 close_quote body (c ∷ cs) = cond (c == 34) (Some (record { kind = Class 2; lex = body; rest = cs })) None
@@ -109,6 +109,7 @@ tokens_from v (suc n) at cs =
       | None ↦ []
     ]
 
--- the tokens of a text
+-- The tokens of a text, up to the first offset where no word begins. Each token has a byte at least, so `length text` of them are
+-- all.
 abbrev pub tokens_in : Vocabulary → List ℕ → List Token
 tokens_in v text = tokens_from v (length text) 0 (chars text)

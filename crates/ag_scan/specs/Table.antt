@@ -17,15 +17,15 @@ IsPrefix prefix text = (rest : List ℕ) × (text ≡ prefix ++ rest)
 pub record IsNotAfter (xs ys : List ℕ) : Type 0 where
   pub up : is_gt (slice_cmp nat_cmp xs ys) ≡ false
 
--- none of the texts of the first `bound` entries is after the text in the order of texts
+-- none of the texts of the first `bound` entries is after `text` in the order of texts
 pub record AreNotAfter (entries : List LiteralEntry) (bound : ℕ) (text : List ℕ) : Type 0 where
   pub each : (i : ℕ) (w : LiteralEntry) → i < bound → slice_get entries i ≡ Some w → IsNotAfter w.text.now text
 
--- no entry with an index from `low` up to, but not including, `high` has a text that is a prefix of the text
+-- no entry with an index from `low` up to, but not including, `high` has a text that is a prefix of `text`
 pub record NoPrefix (entries : List LiteralEntry) (low high : ℕ) (text : List ℕ) : Type 0 where
   pub none : (i : ℕ) (w : LiteralEntry) → low ≤ i → i < high → slice_get entries i ≡ Some w → IsPrefix w.text.now text → ⊥
 
--- k is the index of the last of the first `bound` entries that is a prefix of the text.
+-- k is the index of the last of the first `bound` entries whose text is a prefix of `text`.
 pub record IsLastPrefix (entries : List LiteralEntry) (bound : ℕ) (text : List ℕ) (k : ℕ) : Type 0 where
   pub below : k < bound
   pub word : LiteralEntry
@@ -33,7 +33,7 @@ pub record IsLastPrefix (entries : List LiteralEntry) (bound : ℕ) (text : List
   pub prefix : IsPrefix word.text.now text
   pub last : NoPrefix entries (k + 1) bound text
 
--- the index of the last of the first `bound` entries that is a prefix of the text, if there is one
+-- the index of the last of the first `bound` entries whose text is a prefix of `text`, if there is one
 abbrev pub IsLastPrefixIfAny : List LiteralEntry → ℕ → List ℕ → Option ℕ → Type 0
 IsLastPrefixIfAny entries bound text None = NoPrefix entries 0 bound text
 IsLastPrefixIfAny entries bound text (Some k) = IsLastPrefix entries bound text k
@@ -90,7 +90,10 @@ Covers k Nothing = ⊥
 Covers k (Sole index) = index ≡ k
 Covers k Several = Unit {0}
 
--- Each of the first `count` entries begins with a byte, and the value stored for this byte does not exclude the entry.
+-- Each of the first `count` entries begins with a byte b, and the value stored for b does not exclude the entry.
+-- (`get_or starts b d` is that value, or d if b is not an index of `starts`. As it covers the entry for every d, even for
+-- `Nothing`, b is an index.) It is not claimed that a stored value includes no other entries: with `Several` at each byte all of
+-- this holds too, but the search is slower.
 pub record AreCovered (entries : List LiteralEntry) (starts : List StartingLiterals) (count : ℕ) : Type 0 where
   pub whole : length starts ≡ 256
   pub each : (k : ℕ) (w : LiteralEntry) → k < count → slice_get entries k ≡ Some w

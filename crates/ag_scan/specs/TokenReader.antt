@@ -29,13 +29,13 @@ last_offset (t ∷ u ∷ ts) = last_offset (u ∷ ts)
 abbrev pub offset_at : List Token → ℕ → ℕ
 offset_at ts i = elim (slice_get ts i) [ Some t ↦ t.at | None ↦ last_offset ts ]
 
--- The vocabulary is clean, and the text consists of tokens over it.
+-- The vocabulary is clean (`IsClean`), and the text consists of separators and tokens over it.
 pub record IsScannable (v : Vocabulary) (text : List ℕ) : Type 0 where
   pub clean : IsClean v
   pub tokens : AreTokensOf v text (tokens_in v text)
 
--- The remaining tokens begin with the word `next`, at the offset `at`, and extend to the end of a text of
--- `end` bytes. If `next` is `None`, no token remains.
+-- The remaining tokens `left` begin with that of the word `next`, at the offset `at`, and extend to the end of a text of `end`
+-- bytes. If `next` is `None`, no token remains.
 abbrev pub IsLeadingWordOf : Vocabulary → ℕ → List Token → Option LeadingWord → ℕ → Type 0
 IsLeadingWordOf v end left None at = left ≡ []
 IsLeadingWordOf v end left (Some f) at =

@@ -1,5 +1,5 @@
--- The words of a sentence: those of literals and those of classes. A word is a part of a sentence; its lex is
--- the text that a token keeps of it. All definitions are this project's. In this file a word is the list of its
+-- The words of a sentence: those of literals and those of classes. A word is a part of a sentence; its lex is the text of a token
+-- with this word (for a TEXT without the quotes). All definitions are this project's. In this file a word is the list of its
 -- characters, and the text of a literal and a lex are lists of bytes.
 use Rattle.std.specs.Prelude.{◌≡◌, ℕ, zero, suc, ◌≤◌, true, List, [], ◌∷◌, ◌++◌, length, Some, slice_get, encode_utf8_all}
 use Rattle.std.specs.List.{list_all}

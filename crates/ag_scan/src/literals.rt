@@ -58,8 +58,8 @@ fn begins_with(text: &str, word: &str) -> bool
     text.as_bytes().starts_with(word.as_bytes())
 }
 
-/// Returns the number of entries whose texts are not after `text` in the order of texts. The other
-/// entries are not prefixes of `text`.
+/// Returns the number of entries whose texts are not after `text` in the order of texts. The texts of
+/// the other entries are not prefixes of `text`, since a prefix comes first.
 fn count_not_after(entries: &[LiteralEntry<'_>], text: &str) -> usize
     requires { AreOrdered entries.now }
     ensures within { result ≤ length entries.now }
@@ -84,8 +84,8 @@ fn index_after(last: Option<u16>) -> usize
 /// texts.
 ///
 /// If the last entry is not a prefix of `text`, the search goes on with its `shorter` entry: an
-/// earlier entry that is a prefix of `text` is also a prefix of the last one, which is between the
-/// two in order.
+/// earlier entry that is a prefix of `text` is also a prefix of the last one, since the last one is
+/// between that entry and `text` in the order of texts.
 fn last_prefix(
     entries: &[LiteralEntry<'_>],
     shorter: &[Option<u16>],

@@ -19,8 +19,9 @@ pub struct LeadingWord<'t> {
     pub rest: &'t str,
 }
 
-/// Returns the word of a class that is the longest prefix of the text whose characters belong to
-/// `span`.
+/// Returns the word of the token class `class` at the beginning of a text: the longest prefix whose
+/// characters all belong to `span`, a class of characters. The caller has checked that the first
+/// character can begin such a word.
 fn leading_span(span: Class, class: u16, text: &str) -> LeadingWord<'_>
     ensures { cutting.leading_word_of result
         ≡ cutting.span_from (lexing.is_in span) class (chars text.now) }

@@ -25,12 +25,12 @@ line_feeds bytes = count_by (λ c. c == 10) bytes
 abbrev pub line_of : List ℕ → ℕ → ℕ
 line_of text at = 1 + line_feeds (take at text)
 
--- the fault of a text for a fault of an expression; `NoMemory` stays itself
+-- the fault of a text for a fault of an expression: G3, or `NoMemory` for `NoMemory`
 abbrev pub expr_fault : ExprFault → TextFault
 expr_fault expr.NoMemory = fault.NoMemory
 expr_fault f = fault.Expr f
 
--- the fault of a text for a fault of the parser
+-- the fault of a text for a fault of the parser: adds the line of the offset in the text
 abbrev pub fault_of : List ℕ → Stop → TextFault
 fault_of text (stop.WrongAt at) = fault.Unexpected (line_of text at) at
 fault_of text (stop.InExpr f) = expr_fault f
@@ -57,7 +57,8 @@ abbrev pub IsReadText : List ℕ → Result RawGrammar TextFault → Type 0
 IsReadText text answer = (i : Input) → Lexes 0 (chars text) i → answer ≢ Err fault.NoMemory
     → answer_of text (grammar_of i) ≡ answer
 
--- The token of a G2 fault is the first that cannot be accepted, and the line is that of its offset.
+-- The offset of a G2 is that of the first token that cannot be accepted, or where the tokens end (`IsFirstWrong`), and its line
+-- is the line at this offset. Of other faults nothing is claimed.
 abbrev pub IsFirstOf : List ℕ → TextFault → Type 0
 IsFirstOf text (fault.Unexpected line at) = (i : Input) → Lexes 0 (chars text) i → IsFirstWrong i at × (line ≡ line_of text at)
 IsFirstOf text f = Unit {0}

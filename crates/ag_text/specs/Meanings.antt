@@ -20,7 +20,7 @@ reserved = codes "start" ∷ codes "symbol" ∷ codes "syn" ∷ codes "inh" ∷ 
 abbrev pub is_reserved : List ℕ → Bool
 is_reserved name = list_any (bytes_eq name) reserved
 
--- a if b is true
+-- `Some a` if b is true, else `None`
 abbrev pub some_if : {A : Type 0} → Bool → A → Option A
 some_if b a = if b then Some a else None
 
@@ -42,11 +42,12 @@ word_in w at t = some_if (is_word w t) tt
 abbrev pub named : ℕ → List ℕ → Option Named
 named at name = some_if (not (is_reserved name)) (record { name = name; at = at })
 
+-- the same for a token
 abbrev pub name_in : ℕ → GrammarToken → Option Named
 name_in at (token.Name name) = named at name
 name_in at _ = None
 
--- a literal is not empty and contains no separator
+-- whether the bytes can be a literal: they are not empty and contain no separator
 abbrev pub is_literal : List ℕ → Bool
 is_literal bytes = not (length bytes == 0) && not (list_any is_separator bytes)
 
@@ -72,7 +73,7 @@ item_in at (token.Name name) = class_or_name (class_of name) (named at name)
 item_in at (token.Text bytes) = literal_of bytes
 item_in at _ = None
 
--- the target of a rule
+-- the target of a rule: an occurrence, with its offset
 abbrev pub target_in : ℕ → GrammarToken → Option Occ
 target_in at (token.Occurrence place attr) = Some (record { place = place; attr = attr; at = at })
 target_in at _ = None

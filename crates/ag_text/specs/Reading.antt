@@ -23,6 +23,7 @@ use Rattle.ag_text.specs.Meanings.{is_mark, is_word, mark_in, word_in, name_in, 
 
 -- ---- parsers
 
+-- outcomes of parsers, and parsers, with the faults of the parser of grammars
 abbrev pub Outcome : Type 0 → Type 0
 Outcome = parsing.Outcome Stop
 
@@ -37,7 +38,8 @@ refusal i = WrongAt (offset i)
 abbrev pub one_from : {A : Type 0} → (ℕ → GrammarToken → Option A) → Parser A
 one_from = parsing.one_from refusal
 
--- Reads parts with the given parser, as long as the next token passes the test. Returns the list, followed by these parts.
+-- `many begins part found` reads any number of parts with the parser `part`, as long as the next token passes the test `begins`.
+-- It returns the list `found`, followed by these parts. (`false`: not at most one part.)
 abbrev pub many : {A : Type 0} → (GrammarToken → Bool) → Parser A → List A → Parser (List A)
 many = further_from false
 
@@ -54,6 +56,9 @@ ended_expr_from = λ i. ended i (read_until_from i)
 
 -- ---- grammars
 
+-- If `Syntax.antt` has a language with the name of a parser, the parser parses it: `symbol_from` parses `IsSymbol`. The language
+-- of `next_name_from` is `IsFurther`.
+
 -- reads this punctuation, or else fails with `refusal`; `expect_word` is the same for a reserved name
 abbrev pub expect : Punctuation → Parser (Unit {0})
 expect m = one_from (mark_in m)
@@ -67,6 +72,7 @@ next_name_from = do
   expect punctuation.Comma
   one_from name_in
 
+-- names separated by commas
 unfoldable pub names_from : Parser (List Named)
 names_from = do
   first ← one_from name_in
@@ -91,6 +97,7 @@ symbol_from = do
   expect punctuation.Semicolon
   pure (record { name = name; syn = syn; inh = inh })
 
+-- the declarations of symbols, as long as the next token is `symbol`
 abbrev pub symbols_from : Parser (List RawSymbol)
 symbols_from = many (is_word (codes "symbol")) symbol_from []
 
@@ -109,9 +116,11 @@ is_other_than m t = not (is_mark m t)
 abbrev pub is_any : GrammarToken → Bool
 is_any t = true
 
+-- the items before a `{`
 abbrev pub items_from : Parser (List RawItem)
 items_from = many (is_other_than punctuation.OpenTable) (one_from item_in) []
 
+-- the rules before a `}`
 abbrev pub rules_from : Parser (List RawRule)
 rules_from = many (is_other_than punctuation.CloseTable) rule_from []
 
@@ -125,6 +134,7 @@ production_from = do
   expect punctuation.CloseTable
   pure (record { left = left; items = items; rules = rules })
 
+-- the productions before the end of the tokens
 abbrev pub productions_from : Parser (List RawProduction)
 productions_from = many is_any production_from []
 

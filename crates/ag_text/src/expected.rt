@@ -30,9 +30,9 @@ const SIGNS: [&str; 9] = ["=", "{", "}", ",", ";", "start", "symbol", "syn", "in
 
 /// Returns what could be at the offset of this fault instead of the token there. Parses the text
 /// before the offset, for G3 only its last expression, up to 14 times, each time with another
-/// candidate after it. Returns an empty list for any fault but G2, and G3 with X2. If an expression
-/// at the offset would be of level 65, the list contains no expression or operand, but it can
-/// contain a `]`, which ends an empty list. Fails with `NoMemory` if memory runs out.
+/// candidate after it. Returns nothing for any fault but G2, and G3 with X2. If an expression at the
+/// offset would be of level 65, the result contains no expression or operand. It can contain a `]`
+/// then: after a `[`, a `]` makes the empty list `[]`. Fails with `NoMemory` if memory runs out.
 pub fn expected_at(alloc: Global, text: &str, fault: TextFault) -> Result<Vec<Expected>, NoMemory> {
     match fault {
         TextFault::Unexpected(_, at) => expected_outside(alloc, text, at),
@@ -52,8 +52,8 @@ fn expected_outside(alloc: Global, text: &str, at: usize) -> Result<Vec<Expected
 }
 
 /// Collects in `found` what could follow `before`, which ends outside of expressions. The literal
-/// `"a"` is tried for any item, which can be a name too, `_` for any name, and `$0._` for any rule.
-/// Fails with `NoMemory`.
+/// `"a"` is tried for any item, and `$0._` for any rule. `_` is tried for any name, unless an item
+/// could follow: names are items too. Fails with `NoMemory`.
 fn gather_outside(alloc: Global, before: &str, found: &mut Vec<Expected>) -> Result<(), NoMemory> {
     if can_follow(alloc, before, "\"a\"")? {
         found.push(Expected::Item)?;

@@ -41,7 +41,7 @@ fn line_of(text: &str, at: usize) -> usize
     1 + line_feeds(bytes)
 }
 
-/// Returns the fault of a text for a fault of the parser.
+/// Returns the fault of `read_grammar` for a fault of the parser: adds the line to a G2.
 fn fault_of_stop(text: &str, stop: Stop) -> TextFault
     ensures { result ≡ answers.fault_of text.now stop }
 {
@@ -67,10 +67,10 @@ fn read_characters(alloc: Global, text: &str) -> Result<RawGrammar, TextFault>
 /// Parses a text as a grammar.
 ///
 /// Fails with G4 if the text has more than 1,048,576 bytes, and otherwise with G1 if it is not
-/// UTF-8. Otherwise the fault is at the first token that cannot be accepted: G3 after the `=` of a
-/// rule, up to the next `;` (also at this `;`, and at the end of a text without one), and G2, with
-/// the line, elsewhere. Fails with `NoMemory` if memory runs out. With any other fault, the text is
-/// proved not to be a grammar.
+/// UTF-8. Otherwise the fault is at the first token that cannot be accepted. It is G3 if this token
+/// is after the `=` of a rule and not after the next `;`. Without a next `;`, it is G3 everywhere
+/// after the `=`, also at the end of the text. Elsewhere it is G2, with the line. Fails with
+/// `NoMemory` if memory runs out. With any other fault, the text is proved not to be a grammar.
 pub fn read_grammar(alloc: Global, text: &[u8]) -> Result<RawGrammar, TextFault>
     ensures exact { IsRead text.now result }
     ensures first { IfErr result (λ e. IsFirstOf text.now e) }

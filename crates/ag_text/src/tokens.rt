@@ -126,7 +126,7 @@ pub fn name(alloc: Global, cursor: &mut Cursor<'_>) -> Result<Named, Stop>
     }
 }
 
-/// Returns the token class with this reserved name, or `None`.
+/// Returns the number of the token class with this reserved name, or `None`.
 fn class(name: &str) -> Option<u16>
     ensures { result ≡ meanings.class_of name.now }
 {
@@ -190,7 +190,8 @@ fn named_item(alloc: Global, name: &str, at: usize) -> Result<Option<RawItem>, N
 }
 
 /// Returns the item of a right side for a token at the byte offset `at`, or `None` if the token
-/// cannot be one. Fails with `NoMemory` if memory runs out.
+/// cannot be one. Fails with `NoMemory` if memory runs out. (In the contract, `token.entry` is the
+/// argument `token`, as passed.)
 fn item_of(alloc: Global, token: GrammarToken<'_>, at: usize) -> Result<Option<RawItem>, NoMemory>
     ensures { IfOk result (λ found. found ≡ meanings.item_in at (token_of token.entry)) }
 {

@@ -14,7 +14,7 @@ pub data GrammarToken : Type 0 where
   Occurrence : ℕ → List ℕ → GrammarToken
   Punctuation : punctuation.Punctuation → GrammarToken
 
--- A token with a fixed text: punctuation, or a name, such as a reserved word.
+-- A token with a fixed text: punctuation (`mark`), or a name, such as a reserved word, by its bytes (`word`).
 pub data Sign : Type 0 where
   mark : punctuation.Punctuation → Sign
   word : List ℕ → Sign

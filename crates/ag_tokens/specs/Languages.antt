@@ -25,7 +25,7 @@ infixr 8 ◌or◌
 abbrev pub ◌or◌ : {T A : Type 0} → (List T → A → Type 0) → (List T → A → Type 0) → List T → A → Type 0
 (left or right) ts a = left ts a ⊎ right ts a
 
--- any number of items, one after the other
+-- any number of items, one after the other; the meaning is the list of their meanings
 pub data Many {T A : Type 0} (item : List T → A → Type 0) : List T → List A → Type 0 where
   none : Many item [] []
   more : (us vs : List T) (x : A) (xs : List A) → item us x → Many item vs xs → Many item (us ++ vs) (x ∷ xs)
@@ -35,7 +35,7 @@ abbrev pub IsFew : Bool → ℕ → Type 0
 IsFew true n = n ≤ 1
 IsFew false n = Unit {0}
 
--- The tokens are further items, at most one if `one_only` is true, else any number. `all` is `found`, followed
--- by these items.
+-- The tokens are further items, at most one if `one_only` is true, else any number. The meaning `all` is the list `found`,
+-- followed by the meanings of these items.
 abbrev pub further : {T A : Type 0} → Bool → List A → (List T → A → Type 0) → List T → List A → Type 0
 further {T} {A} one_only found item ts all = (xs : List A) × Many item ts xs × IsFew one_only (length xs) × (all ≡ found ++ xs)

@@ -1,6 +1,7 @@
--- The lexer as a plain function, `token_from`, which agrees with the definition of tokens (see the laws). A text is the list of
--- its characters, and a character is its code point: 34 is a double quote, 36 `$`, 46 a dot and 92 a backslash. To *cut* a text
--- is to read its tokens. `lent.GrammarToken` is the Rust type, whose tokens borrow their texts.
+-- The lexer as a plain function, `token_from`, which agrees with the definition of tokens (see the laws). Up to `token_from` a
+-- text is the list of its characters, and a character is its code point: 34 is a double quote, 36 `$`, 46 a dot and 92 a
+-- backslash. After `token_from`, the texts of the code are bytes, and `chars` are their characters. To *cut* a text is to read
+-- its tokens. `lent.GrammarToken` is the Rust type, whose tokens borrow their texts.
 use Rattle.std.specs.Option.{option_and_then}
 use Rattle.std.specs.Prelude.{◌≡◌, ℕ, zero, suc, pos, Bool, true, false, cond, ◌==◌, List, [], ◌∷◌, ◌++◌, length, take, drop}
 use Rattle.std.specs.Prelude.{Option, Some, None, Result, Ok, Err, encode_utf8, encode_utf8_all, chars, is_some, option_map}
@@ -40,7 +41,8 @@ prefix_in c cs = take (prefix_len (is_in c) cs) cs
 abbrev pub rest_in : Class → List ℕ → List ℕ
 rest_in c cs = drop (prefix_len (is_in c) cs) cs
 
--- the character that a backslash followed by the first character denotes, and the characters after it
+-- for characters after a backslash: the character that the escape denotes, and the characters after it; `None` if this is
+-- not an escape
 abbrev pub escape_from : List ℕ → Option (ℕ × List ℕ)
 escape_from [] = None
 escape_from (c ∷ cs) = option_and_then (λ d. Some (d, cs)) (escaped c)
@@ -51,8 +53,8 @@ abbrev pub piece_from : List ℕ → Option (ℕ × List ℕ)
 piece_from [] = None
 piece_from (c ∷ cs) = cond (c == 92) (escape_from cs) (Some (c, cs))
 
--- the bytes of the text that the body of a text literal denotes, up to the first backslash that does not
--- begin an escape
+-- The bytes of the text that the body of a text literal denotes, up to the first backslash that does not begin an escape.
+-- `after_backslash` is the same for the characters after a backslash.
 abbrev mutual
   pub unescaped : List ℕ → List ℕ
   unescaped [] = []
@@ -83,7 +85,8 @@ name_from (c ∷ cs) =
     cond (starts_name c)
     (Some (take (prefix_len is_xid_continue (c ∷ cs)) (c ∷ cs), drop (prefix_len is_xid_continue (c ∷ cs)) (c ∷ cs))) None
 
--- the punctuation that consists of this character alone, if no punctuation of two characters begins with it
+-- the punctuation that consists of this character alone, if no punctuation of two characters begins with it: `-`, `*`, `<`, `(`,
+-- `)`, `[`, `]`, `{`, `}`, `,` and `;`, in this order
 abbrev pub single_punctuation : ℕ → Option Punctuation
 single_punctuation c =
     cond (c == 45) (Some punctuation.Minus)
@@ -95,12 +98,13 @@ single_punctuation c =
     (cond (c == 123) (Some punctuation.OpenTable) (cond (c == 125) (Some punctuation.CloseTable)
     (cond (c == 44) (Some punctuation.Comma) (cond (c == 59) (Some punctuation.Semicolon) None))))))))))
 
--- after a first `twice`: `two` and the characters after the second one, if `twice` follows, else `one` and all these characters
+-- for characters after a first `twice`: if they begin with `twice`, `two` and the characters after that one, and else `one` and
+-- the same characters
 abbrev pub double_mark : ℕ → Punctuation → Punctuation → List ℕ → Punctuation × List ℕ
 double_mark twice two one [] = (one, [])
 double_mark twice two one (c ∷ cs) = cond (c == twice) (two, cs) (one, c ∷ cs)
 
--- the punctuation at the beginning, and the characters after it
+-- the punctuation at the beginning, and the characters after it (43 is `+`, and 61 `=`)
 abbrev pub punctuation_from : List ℕ → Option (Punctuation × List ℕ)
 punctuation_from [] = None
 punctuation_from (c ∷ cs) =
@@ -118,8 +122,9 @@ abbrev pub after_quote : List ℕ → Option (List ℕ)
 after_quote [] = None
 after_quote (c ∷ cs) = cond (c == 34) (Some cs) None
 
--- The text literal that denotes `prefix` so far, and the characters after it; `cs` is the rest after that part. `None` unless
--- fewer than `turns` characters come before the closing quote, where an escape counts as one.
+-- The text literal of which a part was read, and the characters after it. That part denotes the bytes `prefix`, and `cs` are the
+-- characters after it. `None` if there is a wrong escape or no closing quote. `turns` bounds the recursion: it must be greater
+-- than the number of characters before the closing quote (an escape is one). `length cs` is enough, since it counts the quote.
 unfoldable pub text_from : ℕ → List ℕ → List ℕ → Option (GrammarToken × List ℕ)
 text_from zero prefix cs = None
 text_from (suc turns) prefix cs =
@@ -131,7 +136,7 @@ abbrev pub after_dot : List ℕ → Option (List ℕ)
 after_dot [] = None
 after_dot (c ∷ cs) = cond (c == 46) (Some cs) None
 
--- the occurrence whose `$` has been read, and the characters after it
+-- the occurrence whose `$` has been read, and the characters after it; `None` if this is not an occurrence
 abbrev pub occurrence_from : List ℕ → Option (GrammarToken × List ℕ)
 occurrence_from cs =
     option_and_then
@@ -152,7 +157,7 @@ plain_from cs =
     (λ n. Some (token.Name (encode_utf8_all n.0), n.1)))
     (λ d. Some (token.Number (pos (digits_value 10 d.0)), d.1))
 
--- the first token, and the characters after it
+-- the first token, and the characters after it; `None` if no token begins there
 unfoldable pub token_from : List ℕ → Option (GrammarToken × List ℕ)
 token_from [] = None
 token_from (c ∷ cs) = cond (c == 34) (text_from (length cs) [] cs) (cond (c == 36) (occurrence_from cs) (plain_from (c ∷ cs)))
@@ -207,7 +212,8 @@ IsAfterEscape text None = escape_from (chars text) ≡ None
 IsAfterEscape text (Some rest) =
     (c : ℕ) × (is_some (escaped c) ≡ true) × (chars text ≡ c ∷ chars rest.now) × (text ≡ encode_utf8 c ++ rest.now)
 
--- The text begins with one character of a body, written as `piece`, and `rest` is the text after it.
+-- The text begins with one character of a body, written as `piece` (a character or an escape), which denotes `character`. `rest`
+-- is the text after it.
 pub record IsPast (text rest : List ℕ) : Type 0 where
   pub character : ℕ
   pub piece : List ℕ

@@ -82,7 +82,7 @@ Outcome Fault A = Result (A × Input) Fault
 abbrev pub Parser : Type 0 → Type 0 → Type 0
 Parser Fault A = Input → Outcome Fault A
 
--- runs the parser that f gives for the outcome's value, on its remaining input; a fault stays. `>>=`: the same for two parsers
+-- runs the parser `f a` on the remaining input, if a is the outcome's value; keeps a fault. `p >>= f` runs p before that
 abbrev pub and_then : {Fault A B : Type 0} → Outcome Fault A → (A → Parser Fault B) → Outcome Fault B
 and_then (Ok p) f = f p.0 p.1
 and_then (Err e) f = Err e
@@ -100,8 +100,8 @@ p >> q = p >>= (λ _. q)
 abbrev pub pure : {Fault A : Type 0} → A → Parser Fault A
 pure a = λ i. Ok (a, i)
 
--- the parser that accepts the next token, if its meaning is some a, and returns a; else it fails with the fault that `wrong`
--- gives
+-- The second argument is the meaning of the next token, or `None` if it has none. The parser skips the token and returns the
+-- meaning a; for `None` it fails with the fault `wrong i` for the input i.
 abbrev pub accept_as : {Fault A : Type 0} → (Input → Fault) → Option A → Parser Fault A
 accept_as wrong None = λ i. Err (wrong i)
 accept_as wrong (Some a) = λ i. Ok (a, next i)
@@ -120,13 +120,14 @@ one_from wrong meaning = λ i. accept_as wrong (meaning_of meaning (offset i) (n
 abbrev pub choose : {Fault A : Type 0} → (GrammarToken → Bool) → Parser Fault A → Parser Fault A → Parser Fault A
 choose test one other = λ i. if sees test i then one i else other i
 
--- repeats a parser as long as the next token begins another item, at most n times; `found` has the items so far, and is returned
--- with the others after it
+-- repeats the parser `item`, at most n times, as long as the next token passes the test `begins`, that is, begins another item;
+-- `found` has the items so far, and is returned with the others after it
 unfoldable pub many_from : {Fault A : Type 0} → (GrammarToken → Bool) → Parser Fault A → ℕ → List A → Parser Fault (List A)
 many_from begins item zero found = pure found
 many_from begins item (suc n) found = choose begins (item >>= λ x. many_from begins item n (found ++ x ∷ [])) (pure found)
 
--- a bound for the number of further items: 1, or the number of remaining tokens
+-- a bound for the number of further items: 1 if the first argument is true, else the number of remaining tokens (each item begins
+-- with one)
 abbrev pub item_bound : Bool → List PlacedToken → ℕ
 item_bound true ps = 1
 item_bound false ps = length ps

@@ -58,8 +58,9 @@ cut (suc turns) len cs = input_by (cut turns len) (len - width cs) cs (token_fro
 unfoldable pub input : ℕ → List ℕ → Input
 input len cs = cut (suc (length cs)) len cs
 
--- The state of a cursor is consistent: `leading` is the lexer's result for `rest`; `rest` has at most as many
--- bytes as the text; and the number of its bytes is the width of its characters.
+-- The state of a cursor, whose texts are bytes, is consistent: `leading` is the lexer's result for `rest`; `rest` has at most as
+-- many bytes as the text; and the number of its bytes is the width of its characters. (What a cursor returns depends on `rest`
+-- and on the text's length. So the invariant needn't say that `rest` is a suffix of the text.)
 pub record IsReady (text rest : List ℕ) (leading : Result (lent.GrammarToken × Bor (List ℕ)) TokenFault) : Type 0 where
   pub lexed : AgreesOnToken leading (token_from (chars rest))
   pub fewer : length rest ≤ length text

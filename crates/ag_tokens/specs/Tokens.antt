@@ -51,7 +51,7 @@ pub data IsBody : List ℕ → List ℕ → Type 0 where
   escape : (c d : ℕ) (body bytes : List ℕ) → escaped c ≡ Some d → IsBody body bytes
       → IsBody (92 ∷ c ∷ body) (encode_utf8 d ++ bytes)
 
--- the spelling of punctuation
+-- the characters of punctuation
 abbrev pub punctuation_text : Punctuation → List ℕ
 punctuation_text punctuation.Plus = 43 ∷ []
 punctuation_text punctuation.Minus = 45 ∷ []
@@ -69,7 +69,7 @@ punctuation_text punctuation.CloseTable = 125 ∷ []
 punctuation_text punctuation.Comma = 44 ∷ []
 punctuation_text punctuation.Semicolon = 59 ∷ []
 
--- The word is a spelling of this token. Numbers and places may have any size here.
+-- The word, a list of characters, is this token. Numbers and places may have any size here.
 abbrev pub IsToken : List ℕ → GrammarToken → Type 0
 IsToken word (token.Number n) = IsDigits word × (n ≡ pos (digits_value 10 word))
 IsToken word (token.Text bytes) = (body : List ℕ) × (word ≡ 34 ∷ (body ++ 34 ∷ [])) × IsBody body bytes
@@ -142,7 +142,7 @@ TooLargeAt from cs at = (there : AnyTokenAt from cs at) × (is_within there.toke
 abbrev pub TokenAt : ℕ → List ℕ → ℕ → Type 0
 TokenAt from cs at = (there : AnyTokenAt from cs at) × (is_within there.token ≡ true)
 
--- The characters end at this offset.
+-- Whole tokens and separators extend up to the offset `at`, where the characters end.
 abbrev pub EndsAt : ℕ → List ℕ → ℕ → Type 0
 EndsAt from cs at = Reaches from cs at []
 
@@ -166,7 +166,8 @@ pub record HasTooLarge (cs : List ℕ) : Type 0 where
   pub longest : IsLongest word following
   pub large : is_within token ≡ false
 
--- the characters after the tokens of a text agree with the ending, apart from its offset
+-- The characters `rest`, which come after the tokens of a text, are what the ending says: none, or some that begin with no token,
+-- or with one above its limit. The offset in the ending is not compared.
 abbrev pub Stops : Ending → List ℕ → Type 0
 Stops (ending.EndsAt at) rest = rest ≡ []
 Stops (ending.NoTokenAt at) rest = HasNoToken rest

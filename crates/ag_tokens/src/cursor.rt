@@ -20,7 +20,7 @@ use std::marker::Model;
 pub struct Cursor<'t> {
     /// The whole text.
     text: &'t str,
-    /// The rest of the text, from the next token on.
+    /// The rest of the text, from the next token on, or from where the tokens end.
     rest: &'t str,
     /// The next token and the text after it, or the reason why there is none.
     leading: Result<(GrammarToken<'t>, &'t str), TokenFault>,
@@ -39,7 +39,8 @@ impl<'t> Model for Cursor<'t> {
 }
 
 /// Returns why no token can be read at the beginning of `rest`, or `None` if `rest` is empty.
-/// `fault` is the fault with which `leading_token` failed for `rest`.
+/// `fault` is the fault with which `leading_token` failed for `rest`. The clause holds for every
+/// offset `at`, since the result contains no offset.
 #[tactic(auto, using(crate::proofs::States::no_width, crate::proofs::Lexed::wide))]
 fn fault_before(fault: TokenFault, rest: &str) -> Option<TokenFault>
     ensures { (at : ℕ) → result ≡ ending_fault (ending_by fault at (chars rest.now)) }
@@ -125,8 +126,8 @@ impl<'t> Cursor<'t> {
     {
         if let Ok((_, following)) = self.leading {
             self.rest = skip_separators(following);
-            // `quick_token` is inlined, and reads punctuation and short numbers; `leading_token`
-            // is not inlined, and reads tokens of every kind
+            // only for speed: `quick_token` is inlined, and reads punctuation and short numbers;
+            // `leading_token` is not inlined, and reads tokens of every kind
             match quick_token(self.rest) {
                 Some(cut) => self.leading = Ok(cut),
                 None => self.leading = leading_token(self.rest),

@@ -8,8 +8,8 @@ pub fn a_text_has_one_list_of_tokens()
     ensures { OneInput }
 {}
 
-/// States that `token_from` returns the longest token at the beginning of characters, and that no
-/// token begins there if it returns `None`.
+/// States that the function `token_from` of `specs/Lexing.antt` returns the longest token at the
+/// beginning of some characters, and `None` only if no token begins there.
 #[tactic(auto, using(crate::proofs::TokenLaws::longest_is_cut, crate::proofs::TokenLaws::nothing_is_cut))]
 pub fn cutting_agrees_with_tokens()
     ensures cut { LongestIsCut }

@@ -149,8 +149,8 @@ fn single_punctuation(c: char) -> Option<Punctuation>
     }
 }
 
-/// Reads `++`, `==`, `+` or `=`, whose first character, `twice`, has been read. Returns `two` and
-/// the text after `twice` if `text` begins with it again, and otherwise `one` and `text`.
+/// Reads `++`, `==`, `+` or `=`, whose first character, `twice`, has been read. If `text` begins with
+/// `twice`, returns `two` and the text after that character, and otherwise `one` and `text`.
 #[inline(always)]
 fn double_mark(twice: char, two: Punctuation, one: Punctuation, text: &str) -> (Punctuation, &str)
     ensures { (result.0, chars result.1.now) ≡ lexing.double_mark twice two one (chars text.now) }
@@ -246,8 +246,8 @@ fn after_dot(text: &str) -> Option<&str>
 }
 
 /// Returns the character that the beginning of the body of a text literal denotes, and the text
-/// after it. An escape denotes one character, and any other character denotes itself. That includes
-/// a quote, which the body of a token has only in escapes, but `unescaped` accepts any text.
+/// after it. An escape denotes one character, and any other character denotes itself. A quote does
+/// too: the body of a token has quotes only in escapes, but `unescaped` accepts any text.
 /// Returns `None` at the end and at a backslash that does not begin an escape.
 fn character(text: &str) -> Option<(char, &str)>
     ensures { option_map (λ x. (x.0, chars x.1.now)) result
@@ -263,8 +263,8 @@ fn character(text: &str) -> Option<(char, &str)>
 }
 
 /// Returns the text that a text literal denotes, given its body between the quotes. If a backslash
-/// begins no escape, returns the text before it (the body of a token has no such backslash). Fails
-/// with `NoMemory` if the text cannot be allocated.
+/// begins no escape, returns what the body before it denotes (the body of a token has no such
+/// backslash). Fails with `NoMemory` if the text cannot be allocated.
 #[tactic(auto, using(crate::proofs::TextTurns::piece_some, crate::proofs::TextTurns::piece_none,))]
 pub fn unescaped(alloc: Global, body: &str) -> Result<Text, NoMemory>
     ensures { IfOk result (λ text. text ≡ lexing.unescaped (chars body.now)) }
@@ -352,7 +352,8 @@ fn leading_digit(text: &str) -> Option<(char, &str)>
 }
 
 /// Returns the number whose digits are `digit` and the digits at the beginning of `text`, and the
-/// text after these; or `None` if the number is 10^18 or more.
+/// text after these; or `None` if the number is 10^18 or more. Below 10^18 no step can overflow, so
+/// no step is checked; `long_number` reads the others.
 fn short_number(digit: char, text: &str) -> Option<(i64, &str)>
     requires { is_ascii_digit digit ≡ true }
     ensures value { IfSome result (λ x. x.0

@@ -44,7 +44,8 @@ pub enum GrammarToken<'t> {
     Text(&'t str),
     /// A name. Reserved words, such as `let`, are names too.
     Name(&'t str),
-    /// An occurrence of an attribute, such as `$1.value`: `$`, its place, `.`, and its name.
+    /// An occurrence of an attribute, such as `$1.value`: the place (here 1), and the attribute's
+    /// name (here `value`).
     Occurrence(u16, &'t str),
     /// Punctuation.
     Punctuation(Punctuation),

@@ -13,7 +13,7 @@ use Rattle.ag_value.specs.declared.value.ErrorCode.{ErrorCode}
 use Rattle.ag_value.specs.declared.value.ErrorCode.TheVariants as code
 use Rattle.ag_value.specs.Well.{are_keys, key_of}
 
--- the value that is read, and the bytes after it; `None` if the bytes have no such prefix
+-- the result of reading: what was read, and the bytes after it; or `None` if the bytes don't begin with such a thing
 abbrev pub Read : Type 0 → Type 0
 Read A = Option (A × List ℕ)
 
@@ -22,7 +22,7 @@ infixl 10 ◌>>=◌
 abbrev pub ◌>>=◌ : {A B : Type 0} → Option A → (A → Option B) → Option B
 o >>= f = option_and_then f o
 
--- a fault other than NoMemory is returned only if reading fails
+-- what the fault of a function says of the result `read` of reading: after V1 it is `None`; after NoMemory nothing is claimed
 abbrev pub Fails : {Y : Type 0} → ValueFault → Option Y → Type 0
 Fails fault.Malformed read = read ≡ None
 Fails fault.NoMemory read = Unit {0}
@@ -42,7 +42,7 @@ unfoldable pub text_at : List ℕ → Read (List ℕ)
 text_at bytes = number_at w32 bytes >>= λ n.
     if nat_lt (length n.1) n.0 then None else (if is_utf8 (take n.0 n.1) then Some (take n.0 n.1, drop n.0 n.1) else None)
 
--- an error by its number
+-- the error with this number from 1 to 8; `None` for any other number
 abbrev pub code_at : ℕ → Option ErrorCode
 code_at zero = None
 code_at (suc zero) = Some code.Overflow
@@ -60,7 +60,7 @@ unfoldable pub fault_at : List ℕ → Read Value
 fault_at [] = None
 fault_at (b ∷ rest) = code_at b >>= λ c. Some (v.Fault c, rest)
 
--- the values in `prefix`, followed by n values read by `item`
+-- the list of the values in `prefix` and of n more, which `item` reads one after the other
 unfoldable pub all_at : {A : Type 0} → (List ℕ → Read A) → ℕ → List A → List ℕ → Read (List A)
 all_at item zero prefix bytes = Some (prefix, bytes)
 all_at item (suc n) prefix bytes = item bytes >>= λ first. all_at item n (prefix ++ first.0 ∷ []) first.1

@@ -17,7 +17,7 @@ number_of code.Number = 6
 number_of code.Big = 7
 number_of code.Deep = 8
 
--- four bytes of length, and that many bytes
+-- the number of the bytes in four bytes (its lowest four, if it is 2^32 or more, which no well value has), and then the bytes
 abbrev pub counted : List ℕ → List ℕ
 counted bytes = to_be_bytes w32 (length bytes) ++ bytes
 
@@ -45,7 +45,7 @@ spelling_of = fold-Value (List ℕ) spelling_step
 abbrev pub spelling_of_pair : List ℕ × Value → List ℕ
 spelling_of_pair p = counted p.0 ++ spelling_of p.1
 
--- `new` is `old` followed by the bytes `more`
+-- `new` is `old` followed by some bytes, `more`
 pub record Extends (old new : List ℕ) : Type 0 where
   pub more : List ℕ
   pub is : new ≡ old ++ more

@@ -7,28 +7,28 @@ use Rattle.ag_value.specs.declared.value.Value.{Value, fold-Value}
 use Rattle.ag_value.specs.declared.value.Value.TheOpen.{Value-F}
 use Rattle.ag_value.specs.Measure.{weight_of, depth_of, max_weight, max_value_depth}
 
--- a number from -2^63 to 2^63 - 1
+-- whether a number is from -2^63 to 2^63 - 1
 abbrev pub is_i64 : ℤ → Bool
 is_i64 (pos n) = nat_lt n (2 ^ 63)
 is_i64 (negsuc n) = nat_lt n (2 ^ 63)
 
--- one text comes before another by their bytes: the first byte in which they differ decides, and a proper
+-- whether one text comes before another, compared by their bytes: the first byte in which they differ decides, and a proper
 -- prefix comes first
 abbrev pub is_before : List ℕ → List ℕ → Bool
 is_before a b = is_lt (slice_cmp nat_cmp a b)
 
--- each key comes before the next
+-- whether each key comes before the next
 abbrev pub is_ascending : List (List ℕ) → Bool
 is_ascending [] = true
 is_ascending (a ∷ []) = true
 is_ascending (a ∷ b ∷ keys) = is_before a b && is_ascending (b ∷ keys)
 
--- all tests of a list are true
+-- whether all elements of a list are true
 abbrev pub all_true : List Bool → Bool
 all_true [] = true
 all_true (b ∷ bs) = b && all_true bs
 
--- the keys of a table: UTF-8, and each before the next
+-- whether these can be the keys of a well table, in its order: each is UTF-8 and comes before the next
 abbrev pub are_keys : List (List ℕ) → Bool
 are_keys keys = is_ascending keys && all_true (map is_utf8 keys)
 
@@ -61,7 +61,7 @@ fault_step (Value-F.List items) = false
 fault_step (Value-F.Table pairs) = false
 fault_step (Value-F.Fault code) = true
 
--- the value is an error
+-- whether a value is an error
 abbrev pub is_fault : Value → Bool
 is_fault = fold-Value Bool fault_step
 

@@ -34,8 +34,8 @@ pub record IsStuckOf (t : List ℕ) (s : StuckGrammar) : Type 0 where
   pub free : HasNoConflict s.grammar
   pub refused : IsRefused s.grammar s.stuck
 
--- The least plan of a grammar: an assignment that is legal and assigns no attribute a later pass than another legal
--- one does, and the code that agrees with it, each list of which is the one that `passcode` defines.
+-- The least plan of a grammar. `rows` has the passes of each symbol's attributes. They are legal, and no legal assignment gives
+-- an attribute an earlier pass. `code` agrees with them, and its lists of instructions are those that `passcode` defines.
 pub record IsLeastPlan (g : Grammar) (rows : List (List ℕ)) (code : Lists) : Type 0 where
   pub plan : IsPlan g rows code
   pub least : IsLeast g (passes_of rows)

@@ -14,7 +14,8 @@ use Rattle.ag_fault.specs.declared.fault.Fault.{Fault}
 use Rattle.ag_fault.specs.declared.fault.Fault.TheVariants as fault
 use Rattle.aggen.specs.declared.translations.report.Report.{Report}
 
--- The bytes of a reader, if they are known, are a job with this text of a grammar and this sentence.
+-- The bytes of a reader, if they are known, are a job with this text of a grammar and this sentence. If they are not known,
+-- nothing is claimed.
 abbrev pub HasJob : Option (List ℕ) → (text sentence : List ℕ) → Type 0
 HasJob known text sentence = IfSome known (λ bytes. IsJob bytes text sentence)
 

@@ -20,6 +20,7 @@ pub record IsTreeOfSentence (g : Grammar) (sentence : List ℕ) (t : Tree) : Typ
   pub cut : AreTokensOf (vocabulary_of g) sentence tokens
   pub tree : IsTreeWith g (words_of tokens) t
 
+-- the sentence has no derivation tree
 abbrev pub HasNoTree : Grammar → List ℕ → Type 0
 HasNoTree g sentence = (t : Tree) → IsTreeOfSentence g sentence t → ⊥
 

@@ -41,7 +41,7 @@ pub fn bytes_of<R: Read + Drop>(alloc: Global, reader: R) -> Result<Vec<u8>, Fau
     }
 }
 
-/// Returns the fault for an error of opening a file.
+/// Returns the fault for an error of opening a file: NoMemory if memory was refused, else F1.
 fn fault_of(error: &Error) -> Fault
     ensures { IsSourceFault result }
 {

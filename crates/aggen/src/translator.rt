@@ -206,7 +206,7 @@ impl Translator {
         ensures translates { IfOk result (λ report. TranslatesSentence self.now sentence.now
             (D.is_honest a.new) (D.is_honest b.new) (D.content a.new) (D.content b.new)
             (W.contents out.old) (W.contents out.new) report) }
-        // on any devices
+        // Ok, on any devices, honest or not: some text was written.
         ensures text { OnOk result (WritesText (W.contents out.old) (W.contents out.new)) }
 
         // Err: the fault is true of the sentence, as far as `IsTranslationFault` says.

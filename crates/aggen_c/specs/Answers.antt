@@ -43,14 +43,15 @@ pub record IsRefused (IsTrue : Fault → Type 0) (old new : List ℕ) (count sta
   pub unwritten : IsUnwritten old new count
 
 -- The answer of a call on a handle, by the grammar of the handle's translator: a result with status 0, or a refusal with a true
--- reason. If the handle has no translator, the status is 1.
+-- reason. `Is g bytes` says that the bytes are a result, and `IsTrue g f` that the fault f is true of the input. If the handle
+-- has no translator, the status is 1, and the refusal has no number and no offset.
 abbrev pub Answers : (Is : Grammar → List ℕ → Type 0) → (IsTrue : Grammar → Fault → Type 0) → Option Grammar → (old new : List ℕ)
     → (count status : ℕ) → RefusalFields → Type 0
 Answers Is IsTrue (Some g) old new count status fields =
     IsAnswered (Is g) old new count status fields ⊎ IsRefused (IsTrue g) old new count status fields
 Answers Is IsTrue None old new count status fields = (numbers status fields ≡ numbers 1 no_fields) × IsUnwritten old new count
 
--- The grammar is that of a text, it has no conflict, and an assignment of passes to its attributes is legal.
+-- The grammar is that of a text, it has no conflict, and some assignment of passes to its attributes is legal.
 pub record IsTranslatorOf (text : List ℕ) (g : Grammar) : Type 0 where
   pub is : IsGrammarOf text g
   pub free : HasNoConflict g

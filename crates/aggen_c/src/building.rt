@@ -16,7 +16,7 @@ use std::alloc::Global;
 const GRAMMAR: &str = "grammar";
 
 /// Puts the translator of a grammar's text into a handle. First frees the translator that the
-/// handle has, so that the handle has none after a refusal.
+/// handle has, so that the handle has none after a refusal. Fails as `build` does.
 pub fn build_handle(alloc: Global, grammar: &[u8], handle: &mut Handle) -> Result<(), Refusal>
     ensures built { OnOk result (IsSomeAnd handle.new.value (IsTranslatorOf grammar.now)) }
     ensures emptied { OnErr result (handle.new.value ≡ None) }

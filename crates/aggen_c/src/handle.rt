@@ -19,6 +19,7 @@ pub struct Handle {
     /// The allocator of the translator. A value of its type has no bytes, so C sees the pointer
     /// alone.
     alloc: Global,
+    // for proofs: the grammar of the translator, or `None`; only proofs use what follows `by`
     ghost value: { Option Plain } by { grammar_code },
 }
 
@@ -48,7 +49,7 @@ impl Handle {
         }
     }
 
-    /// Returns the translator of the handle, if it has one.
+    /// Returns the translator of the handle as a raw box, if the handle has one.
     fn into_raw_box(self) -> Option<RawBox<Translator, Global>>
         ensures { MatchOption result (self.value ≡ None) (λ t. self.value ≡ Some t.value) }
     {
@@ -63,7 +64,8 @@ impl Handle {
         }
     }
 
-    /// Takes the translator out of the handle, if it has one.
+    /// Takes the translator out of the handle, if it has one. `alloc` is for the empty handle that
+    /// is left in its place.
     pub fn take(&mut self, alloc: Global) -> Option<Box<Translator>>
         ensures emptied { self.new.value ≡ None }
         ensures taken { MatchOption result
@@ -83,7 +85,7 @@ impl Handle {
         *self = Handle::from_raw_box(RawBox::from_box(translator));
     }
 
-    /// Frees the translator, if the handle has one.
+    /// Frees the translator, if the handle has one. `alloc` is as in `take`.
     pub fn clear(&mut self, alloc: Global)
         ensures { self.new.value ≡ None }
     {

@@ -4,7 +4,8 @@ use Rattle.noted_file.specs.Calls.{replay}
 use Rattle.treefile.specs.devices.Device.{WhenHonest}
 use Rattle.treefile.specs.devices.Files.{FileDeviceState, content_of, is_honest_of}
 
--- the content of the file itself, by its calls: without the bytes that the device has only buffered
+-- The content of the file itself: the one that its recorded calls, replayed in their order, give. The bytes that the device has
+-- only buffered are not in it.
 abbrev pub stored_of : {F : Type 0} → FileDeviceState F → List ℕ
 stored_of device = (replay device.events).stored
 

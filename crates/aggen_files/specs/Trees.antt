@@ -14,17 +14,20 @@ use Rattle.ag_fault.specs.declared.fault.Fault.{Fault}
 use Rattle.ag_fault.specs.declared.fault.Fault.TheVariants as fault
 use Rattle.aggen.specs.declared.translations.report.Report.{Report}
 
--- The translation theorem for the tree in a file. The passes write to two honest devices in memory, and leave some tree files a
--- and b there.
+-- The translation theorem for the tree in a file. `content` is the content of the tree's device, and `honest_tree` whether it is
+-- honest. `old` and `new` are the output's bytes before and after the call, if a contract can name them. The passes write to two
+-- honest devices in memory, and leave some tree files a and b there.
 abbrev pub EvaluatesFile : Grammar → (honest_tree : Bool) → (content : List ℕ) → (old new : Option (List ℕ)) → Report → Type 0
 EvaluatesFile g honest content old new report = (a b : List ℕ) × EvaluatesTree g honest true true content a b old new report
 
--- the meaning of a fault: the same as for any device with the tree's file, with the other two devices honest
+-- The meaning of a fault of `evaluate_file`: that of a fault of `Translator::evaluate_tree`, with the two devices in memory
+-- honest. The arguments are those of `EvaluatesFile`.
 abbrev pub IsFileEvaluationFault : Grammar → (honest_tree : Bool) → List ℕ → (old new : Option (List ℕ)) → Fault → Type 0
 IsFileEvaluationFault g honest content old new e = IsEvaluationFault g honest true true content old new e
 
--- If the old file is honest, it has exactly one tree, with this number of nodes; the new file, if honest, has the same tree.
--- `between` is the content of the device in memory that the conversion uses.
+-- If the old file is honest, it has exactly one tree, with `count` nodes; the new file, if honest, has the same tree. `content`
+-- is the content of the old file, and `tree` that of the new one. `between` is the content of the device in memory that the
+-- conversion uses.
 abbrev pub UpgradesFile : Grammar → (honest_old : Bool) → List ℕ → (honest_tree : Bool) → List ℕ → ℕ → Type 0
 UpgradesFile g honest_old content honest_tree tree count =
     WhenHonest honest_old ((between : List ℕ) × IsUpgraded g content between honest_tree tree count)
@@ -37,7 +40,8 @@ pub record ParsesSentence (g : Grammar) (sentence : List ℕ) (honest : Bool) (c
   pub nodes : count ≡ node_count tree
 
 -- What a failed conversion leaves on the new device: the previous content, a prefix of a file of pass 0, or the whole converted
--- file. If the old device is not honest, this says nothing.
+-- file. If the old device is not honest, this says nothing, since `UpgradesFile` says nothing then. `content` is the content of
+-- the old device, and `old` and `new` are those of the new device before and after the call.
 abbrev pub LeavesConversion : Grammar → (honest_old : Bool) → List ℕ → (old new : List ℕ) → Type 0
 LeavesConversion g honest content old new =
     LeavesBeginning 0 old new ⊎ ((count : ℕ) × UpgradesFile g honest content true new count)

@@ -21,9 +21,10 @@ impl<F: Read + Write + Seek + OpenFile> WorkFiles<F> {
     /// content. Pass 1 writes b.agt, pass 2 a.agt, and so on. Prints the translation after both
     /// files are written out. Both are also written out after every failure but D1.
     ///
-    /// Fails with D1 if a file can't be written out, also if the translation failed, and otherwise
-    /// as `Translator::evaluate_tree` does; with NoMemory also if memory for the translation's
-    /// bytes cannot be allocated. Every failure but O2 leaves `out` unchanged.
+    /// Fails with D1 if a file can't be written out, even if the translation failed with another
+    /// fault. Otherwise fails as `Translator::evaluate_tree` does, and also with NoMemory if memory
+    /// for the translation's bytes cannot be allocated. Every failure but O2 leaves `out`
+    /// unchanged.
     pub fn evaluate<T: Device, W: Write>(
         &mut self,
         alloc: Global,

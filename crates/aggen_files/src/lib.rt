@@ -1,8 +1,11 @@
-//! The commands of the program over files. Each takes one or two devices over files
-//! (`WorkFiles::open` opens two) and calls the translator. If it writes to such a device, it also
-//! writes out the file, so that the file has the whole content unless D1 comes. Output goes to any
-//! writer, so contracts can name its bytes. `print_count` prints the line with the number of nodes
-//! for `parse_to_file` and `upgrade_file`.
+//! The commands of the program over files. A command calls the translator with one or two devices
+//! over files; `WorkFiles::evaluate` has a third device, of any kind, for the tree. If a command
+//! writes to a device over a file, it also writes out the file. So the file has the whole content of
+//! the device, unless D1 comes. A command prints to any writer, and its contract says what was
+//! printed if a contract can name the bytes of this writer.
+//!
+//! `WorkFiles::open` opens two files. `print_count` prints the line with the number of nodes for
+//! `parse_to_file` and `upgrade_file`.
 //!
 //! A `FileDevice` buffers bytes in memory before it writes them to its file. So contracts
 //! distinguish the content of the device (`content_of`) from that of the file itself (`stored_of`).

@@ -27,10 +27,10 @@ use std::fs::OpenFile;
 use std::io::{Read, Seek, Write};
 use treefile::{FileDevice, MemDevice, SharedDevice};
 
-/// Replaces the content of `tree` with the file of pass 0 of a sentence's tree. Then prints and
-/// returns the number of the tree's nodes.
+/// Replaces the content of `tree` with the file of pass 0 of a sentence's tree. Then prints a line
+/// with the number of the tree's nodes, and returns this number.
 ///
-/// Fails with D1 if the file can't be written out, also if the sentence is refused, and otherwise
+/// Fails with D1 if the file can't be written out, even if the sentence is refused. Otherwise fails
 /// as `Translator::parse_tree` and `print_count` do. After S1 to S4 the file has the content that
 /// its device had, and after P1 to P3 a prefix of a file of pass 0. After O2 the file has the tree,
 /// and a prefix of the line was printed.
@@ -110,15 +110,16 @@ pub fn evaluate_file<F: Read + Write + Seek + OpenFile, W: Write>(
 }
 
 /// Converts the tree file of version 1 on `old` to version 2, and replaces the content of `tree`
-/// with the converted file. Then prints and returns the number of the tree's nodes.
+/// with the converted file. Then prints a line with the number of the tree's nodes, and returns this
+/// number.
 ///
 /// All of `old` is read before `tree` is written; the converted records are kept in memory in the
 /// meantime. So both may be devices over one file. That file then has the new tree file, not the
 /// old one. The contracts don't see this: the device `old` is only read, so its content stays the
 /// same by the record of its own calls.
 ///
-/// Fails with D1 if the new file can't be written out, also if the conversion failed, and otherwise
-/// as `Translator::upgrade` and `print_count` do. After O2 the new file is the converted one, and a
+/// Fails with D1 if the new file can't be written out, even if the conversion failed with another
+/// fault. Otherwise fails as `Translator::upgrade` and `print_count` do. After O2 the new file is the converted one, and a
 /// prefix of the line was printed. After another failure the device `tree` has the content that it
 /// had, a prefix of a file of pass 0, or the whole converted file.
 pub fn upgrade_file<F: Read + Write + Seek + OpenFile, W: Write>(

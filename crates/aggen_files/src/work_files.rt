@@ -27,7 +27,7 @@ use treefile::{DeviceFault, FileDevice};
 
 /// The tree files a.agt and b.agt of a folder. The parser writes a.agt, pass 1 reads a.agt and
 /// writes b.agt, pass 2 reads b.agt and writes a.agt, and so on. In `evaluate` nothing is parsed:
-/// pass 1 reads the given device, and writes b.agt.
+/// pass 1 reads the given device, and writes b.agt. `F` is the type of an open file of the runtime.
 #[derive(Drop)]
 pub struct WorkFiles<F> {
     /// The device over a.agt.
@@ -47,8 +47,9 @@ fn path_in(alloc: Global, folder: &str, name: &str) -> Result<String, AllocError
 
 impl<F: Read + Write + Seek + OpenFile> WorkFiles<F> {
     /// Opens a.agt and b.agt in a folder, and creates those that are missing. Their contents stay
-    /// until a translation clears them. Contracts see the calls of the two files in the records
-    /// `first` and `second`. These occupy no memory; a caller passes `CallRecord::new()` for each.
+    /// until a translation clears them. The calls on a.agt are added to the record `first`, and
+    /// those on b.agt to `second`. Only contracts see these records, which occupy no memory: a
+    /// caller passes an empty one, `CallRecord::new()`, for each.
     ///
     /// Fails with F1 if a file can't be opened or created, and with NoMemory if memory cannot be
     /// allocated.
@@ -74,7 +75,8 @@ impl<F: Read + Write + Seek + OpenFile> WorkFiles<F> {
     }
 
     /// Writes to both files the bytes that their devices have buffered, to the second one also if
-    /// the first one fails. Fails with `Failed` if one of these writes or an earlier one failed.
+    /// the first one fails. Fails with `Failed` (D1) if one of these writes or an earlier one
+    /// failed.
     pub(crate) fn finish(&mut self) -> Result<(), DeviceFault>
         ensures a { OnOk result (StoresContent self.old.a self.new.a) }
         ensures b { OnOk result (StoresContent self.old.b self.new.b) }
@@ -98,12 +100,13 @@ impl<F: Read + Write + Seek + OpenFile> WorkFiles<F> {
     /// Translates a sentence with its tree files in the two files, and prints the translation after
     /// both files are written out. Both are also written out after every failure but D1.
     ///
-    /// Fails with D1 if a file can't be written out, also if the translation failed, and otherwise
-    /// as `Translator::translate` does; with NoMemory also if memory for the translation's bytes
-    /// cannot be allocated. Every failure but O2 leaves `out` unchanged. After O1 and O2 the files
-    /// are the last two tree files. After S1 to S4 both files have the contents that their devices
-    /// had. After P1 to P3 b.agt has the content that its device had, and a.agt has a prefix of a
-    /// file of pass 0.
+    /// Fails with D1 if a file can't be written out, even if the translation failed with another
+    /// fault. Otherwise fails as `Translator::translate` does, and also with NoMemory if memory for
+    /// the translation's bytes cannot be allocated. Every failure but O2 leaves `out` unchanged.
+    ///
+    /// After O1 and O2 the files are the last two tree files. After S1 to S4 both files have the
+    /// contents that their devices had. After P1 to P3 b.agt has the content that its device had,
+    /// and a.agt has a prefix of a file of pass 0.
     pub fn translate<W: Write>(
         &mut self,
         alloc: Global,

@@ -47,7 +47,8 @@ fn write_part<R: Print>(rt: &R, alloc: Global, text: &[u8], part: Part) -> Resul
     }
 }
 
-/// Prints the value of an expression. The value is written to a tree file in memory, and read back.
+/// Prints the value of an expression. The value is written to a tree file in memory, and read back, as `show_value` of
+/// `aggen` does with each device.
 /// Fails with X1 to X4 if the text is not an expression, with X2 if the expression has occurrences
 /// of attributes (`$1.a`), with O2 if the output fails, and if memory is refused.
 pub fn print_value<R: Print>(rt: &R, alloc: Global, text: &str) -> Result<(), FaultReport> {

@@ -49,7 +49,8 @@ fn main(rt: HostRuntime) -> ExitCode {
 }
 
 /// Runs the command of the command line, and returns the status. `is_terminal` says whether standard error is a
-/// terminal.
+/// terminal. If no command line is parsed, the message of a failure is printed without colour
+/// (`Screen::plain`).
 fn exit_code<R: Env + Files + Input + Print + Eprint + Clock + AllocGlobal>(
     rt: &R,
     is_terminal: bool,
@@ -95,9 +96,9 @@ fn fault_of(fault: CommandLineFault) -> Fault
     }
 }
 
-/// Runs the command of a request. Returns the status 0. But for `run` with `--out-dir`, returns the
-/// status of the first sentence that failed, if one did; the messages of all that failed were
-/// printed. Any other failure is returned as its report.
+/// Runs the command of a request. Returns the status 0 or, for `run` with `--out-dir`, the status of
+/// the first sentence that failed, if one did. The messages of all failed sentences were printed
+/// then. Any other failure is returned as its report.
 fn perform<R: Files + Input + Print + Eprint + Clock>(
     rt: &R,
     alloc: Global,

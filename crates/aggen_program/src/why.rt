@@ -18,8 +18,8 @@ use std::rt::Files;
 /// Prints why a grammar needs its passes or, for an attribute, why no pass before its own can
 /// compute it. If no assignment of passes is legal, prints why, and fails with A1.
 ///
-/// Also fails if the grammar can't be read or is refused, if it does not have the attribute, if the output fails (O2),
-/// and if memory is refused.
+/// Also fails if the grammar can't be read or is refused, if it does not have the attribute (`usage`), if the output
+/// fails (O2), and if memory is refused.
 pub fn explain_plan<R: Files + Input + Print>(
     rt: &R,
     alloc: Global,

@@ -71,10 +71,10 @@ production_text g x = flat_map (code_line g x.0.0 x.0.1) (enumerate_from 1 x.1)
 abbrev pub code_text : Grammar → Lists → List ℕ
 code_text g code = flat_map (production_text g) (zip (enumerate_from 0 g.productions) code)
 
--- the listing of an assignment was appended to a writer's bytes, if these are known
+-- the listing of an assignment was appended to a writer's bytes, if contracts can name these
 abbrev pub AppendsPlan : Grammar → List (List ℕ) → Option (List ℕ) → Option (List ℕ) → Type 0
 AppendsPlan g rows old new = (text : List ℕ) × IsPlanListing g rows text × Appends old new text
 
--- a prefix of the listing of an assignment was appended to a writer's bytes, if these are known
+-- a prefix of the listing of an assignment was appended to a writer's bytes, if contracts can name these
 abbrev pub AppendsPlanBeginning : Grammar → List (List ℕ) → Option (List ℕ) → Option (List ℕ) → Type 0
 AppendsPlanBeginning g rows old new = (text : List ℕ) × IsPlanListing g rows text × AppendsBeginning old new text

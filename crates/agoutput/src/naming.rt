@@ -1,4 +1,4 @@
-//! Numbers and the names of attributes, as they are written in listings.
+//! Appends numbers to listings, and finds the names of attributes for them.
 
 ghost use Rattle.std.specs.Prelude.{◌≡◌, ◌++◌, [], OnOk, decimal, slice_get, slice_index_or};
 ghost use Rattle.std.specs.Prelude.{string_bytes};

@@ -154,7 +154,7 @@ impl Back {
             (λ body. IsBody self.old.progress.version body.now)) }
         ensures room { IfOk result (λ found. IfSome found
             (λ body. length body.now + length_bytes ≤ self.old.progress.at)) }
-        // B1 is never a new fault: only a reader that already had it would repeat it.
+        // An unbroken reader never fails with B1.
         ensures file { IsErrOf result FrameFault.NotATreeFile → self.old.progress.fault ≢ None }
         ensures broken { IfSome self.old.progress.fault
             (λ fault. (result ≡ Err fault) × (device.new ≡ device.old)) }
@@ -190,7 +190,7 @@ impl Back {
 
     /// Lends the same body as the next call of `back` would, but from the memory of the device. Returns
     /// `None`, and changes nothing, if `back` has to be called instead: if the device doesn't lend the body
-    /// (`Device::lend_before`), at the header, in a file of version 1, after a permanent fault, and if no
+    /// (`Device::lend_before`), at the header, in a file of version 1, after B2 or D1, and if no
     /// frame ends at the offset. Requires the device of `start`, with the same content if it is honest.
     /// Takes no memory.
     #[inline(always)]
@@ -246,7 +246,7 @@ impl Back {
     }
 }
 
-/// Returns the fault if it is permanent; NoMemory is not.
+/// Returns the fault if each later call of `back` has to return it too, and `None` for NoMemory.
 fn permanent_fault(fault: FrameFault) -> Option<FrameFault>
     ensures { (old : Progress) → old.fault ≡ None →
         record old { fault = result } ≡ progress_after old (Err fault) }

@@ -83,8 +83,8 @@ impl Window {
         self.version == FileVersion::Two
     }
 
-    /// Skips the frame that ends at the offset, whose body has `length` bytes, without reading it.
-    /// Drops the unread bytes of the buffer.
+    /// Skips the frame that ends at the offset, whose body has `length` bytes, without reading it: the
+    /// device has lent it. Drops the unread bytes of the buffer.
     #[inline(always)]
     pub(crate) fn pass_over(&mut self, length: usize)
         requires { header_bytes + length + length_bytes ≤ self.old.at }
@@ -101,7 +101,8 @@ impl Window {
     ///
     /// Fails with B2 Damaged if no frame ends there, and with D1 Device if a call of the device
     /// failed. Takes memory for a frame that has more bytes than the buffer, and fails with
-    /// NoMemory if it is refused. The offset and the unread bytes are then as before.
+    /// NoMemory if it is refused. After NoMemory the offset and the unread bytes are as before, so the
+    /// call can be repeated.
     #[inline(always)]
     #[tactic(auto, unfolding(treefile::specs::framing::Backward::next_before))]
     pub(crate) fn next<D: Device>(&mut self, device: &mut D) -> Result<Option<usize>, FrameFault>

@@ -1,4 +1,4 @@
-//! Answers questions about `Carried`.
+//! Answers questions about `Carried`, a value that is passed from node to node: owners share a large one.
 
 ghost use Rattle.std.specs.Prelude.{IfOk};
 ghost use Rattle.ag_value.specs.Well.{IsWell};
@@ -85,8 +85,9 @@ fn same_answer(alloc: Global, carried: &Carried, other: &Value) -> Result<String
     Ok(format!(in alloc; "{} {}", carried.same(&other), carried.same(&shared))?)
 }
 
-/// Returns the encoding of the value, or what is read from the encoding followed by a zero byte: with
-/// `Carried::read` (`read`), with `read_beside` of the value (`beside`) or with `read_beside` of 7 (`apart`).
+/// Returns the encoding of the value (`encode`), or the value that is read from the encoding and a zero byte after it,
+/// which reading has to leave. It is read with `Carried::read` (`read`), with `read_beside` of the value (`beside`) or
+/// with `read_beside` of 7 (`apart`).
 fn encoding_answer(alloc: Global, call: &str, carried: &Carried) -> Result<String, Mistake>
     requires { IsWell carried.now }
 {

@@ -8,7 +8,8 @@ use rows::words::{
 use std::alloc::{AllocError, Global};
 use treefile::{Device, DeviceFault, FrameFault, Kind, MemDevice, Writer, last_body, split_body};
 
-/// The arities in trees of binary fractions.
+/// The number of children of each node in trees of binary fractions, by the number of its production in the grammar
+/// `examples/binary-fractions.ag`.
 struct Fractions {}
 
 impl Arity for Fractions {
@@ -105,8 +106,8 @@ fn file_answer(alloc: Global, count: u64, file: &[u8]) -> Result<String, Mistake
 }
 
 /// Writes the file of a pass with the records of a text, separated by `;`, and returns it. A record is spelled by its
-/// kind, its number and its values (none, one or three numbers), as `node 4 1` or `token 0 14`, or by its bytes, as
-/// `body 090807`.
+/// kind, its number and its values (none, one or three numbers: no row needs another number of them), as `node 4 1` or
+/// `token 0 14`, or by its bytes, as `body 090807`.
 pub fn write_answer(alloc: Global, text: &str) -> Result<String, Mistake> {
     let (pass, records) = halves(text, " : ")?;
     let mut device = used_device(alloc)?;

@@ -125,8 +125,8 @@ pub fn value_answer(alloc: Global, text: &str, lent: &Value) -> Result<String, M
     }
 }
 
-/// Evaluates an expression, whose value is not used, and returns the meter's count of evaluations, and
-/// whether the meter is full (2^64 - 1 evaluations).
+/// Evaluates an expression, whose value is not used. Returns the number of evaluations that the meter has counted (one
+/// for each call of `eval`), and whether the meter is full (2^64 - 1 evaluations).
 #[tactic(auto, using(ag_eval::proofs::Values::are_well))]
 fn meter_text(alloc: Global, expr: &Expr, lent: &Value) -> Result<String, Mistake> {
     if !is_well(lent) || occurrences(expr).len() > MAX_OCCURRENCES {

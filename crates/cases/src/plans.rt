@@ -77,7 +77,7 @@ fn rows_of_lists(alloc: Global, text: &str) -> Result<Vec<Vec<Vec<Instr>>>, Mist
     Ok(rows)
 }
 
-/// Returns the assignment of a text, with `/` between the symbols.
+/// Returns the assignment of a text: the passes of each symbol's attributes, with `/` between the symbols.
 pub fn assignment(alloc: Global, text: &str) -> Result<Assignment, Mistake> {
     let mut rows = Vec::new(alloc);
     for part in parts(alloc, text, " / ")?.as_slice() {
@@ -93,7 +93,7 @@ pub fn pair(alloc: Global, text: &str) -> Result<(Assignment, Code), Mistake> {
     Ok((assignment, Code::of_rows(rows_of_lists(alloc, lists)?)))
 }
 
-/// Returns the number of passes of an assignment and code, or their fault.
+/// Returns the number of passes of an assignment and code, or the fault for which `check_plan` refuses them.
 fn plan_verdict(
     alloc: Global,
     grammar: &Grammar,
@@ -106,7 +106,7 @@ fn plan_verdict(
     }
 }
 
-/// Returns the number of passes of the assignment and code of a row, or their fault.
+/// Returns the number of passes of the assignment and code of a row, or their fault (`plan_verdict`).
 pub fn plan_answer(alloc: Global, grammar: &Grammar, spelled: &str) -> Result<String, Mistake> {
     let (assignment, code) = pair(alloc, spelled)?;
     Ok(plan_verdict(alloc, grammar, assignment, code)?)

@@ -1,5 +1,5 @@
 //! Answers the question whether a raw grammar with a chain of symbols is accepted. The chain is
-//! appended to the raw grammar of a text, so it can have any length.
+//! appended to the raw grammar of a fixed text, so it can be longer than a row's text could spell.
 
 use crate::grammars::{raw_grammar, verdict};
 use ag_grammar::{Named, RawGrammar, RawItem, RawProduction, RawSymbol};

@@ -1,7 +1,7 @@
 //! Answers questions about least assignments, and about certificates that a grammar has no legal
 //! assignment. A certificate has attributes and strikes. A strike is a reason why a pass of some
 //! direction can't compute an attribute: a rule for this attribute, and an argument of this rule
-//! that is not computed before.
+//! that is not computed before the rule is evaluated.
 
 use ag_grammar::Grammar;
 use ag_value::Items;

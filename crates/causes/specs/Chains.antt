@@ -1,4 +1,6 @@
--- The chain of rules that passed an error on, from one rule to that in which the error arises. All of this is this project's.
+-- The chain of rules that passed an error on, from one rule to that in which the error arises. In these definitions `rules` are
+-- the rules of a node's production, e has the values at the node's places (`Table` of `origins`), and `target` is the attribute
+-- that a rule computes. All of this is this project's.
 use Rattle.std.specs.Prelude.{ℕ, suc, ◌≡◌, ◌<◌, ◌⊎◌, List, [], ◌∷◌, ◌++◌, map, Some, None, Ok, slice_get, true}
 use Rattle.ag_value.specs.declared.value.Value.{Value}
 use Rattle.ag_grammar.specs.declared.grammar.Production.{Production}
@@ -19,7 +21,7 @@ use Rattle.causes.specs.declared.chain.PathNode.{PathNode}
 use Rattle.causes.specs.declared.chain.Step.{Step}
 use Rattle.causes.specs.declared.chain.Step.TheVariants as step
 
--- the rule of a number is for a target
+-- The rule with this number, from 0, is one for the target.
 pub record IsNumberFor (rules : List Rule) (target : Target) (number : ℕ) : Type 0 where
   pub rule : Rule
   pub there : slice_get rules number ≡ Some rule
@@ -35,7 +37,7 @@ pub record PassesOn (rules : List Rule) (e : Table) (target argument : Target) :
   pub takes : slice_get rule.args index ≡ Some argument
   pub source : IsSource rule e index
 
--- An error arises in the rule of a number, which is for a target.
+-- The rule with this number is one for the target, and an error arises in it.
 pub record Arises (rules : List Rule) (e : Table) (target : Target) (number : ℕ) : Type 0 where
   pub rule : Rule
   pub there : slice_get rules number ≡ Some rule
@@ -52,7 +54,7 @@ HasNoError rules e target = (number : ℕ) (rule : Rule) → number < 65536 → 
 abbrev pub HasNoErrorAt : Grammar → ℕ → List Value → Target → Type 0
 HasNoErrorAt g p vs target = (q : Production) → IsProduction g p q → HasNoError q.rules (table_of g q vs) target
 
--- what the rule for a target does
+-- A rule for the target does this: it passes on the error of an argument, or the error arises in it.
 abbrev pub DoesNext : List Rule → Table → Target → Next → Type 0
 DoesNext rules e target (rule_does.Passes argument) = PassesOn rules e target argument
 DoesNext rules e target (rule_does.Arises number) = Arises rules e target number
@@ -63,8 +65,9 @@ pub record DoesNextAt (g : Grammar) (p : ℕ) (vs : List Value) (target : Target
   pub there : IsProduction g p production
   pub next : DoesNext production.rules (table_of g production vs) target does
 
--- A reading: a relation of what the rule for a target does at the node at the end of some places from the root. Contents and
--- trees have one.
+-- A *reading* R says what rules do: R places target does means that, at the node at the end of these places from the root, the
+-- rule for this target does this. It can be read in a content (`in_content`, and `in_file` of `Indexed.antt`) or in a tree
+-- (`in_tree` of `Laws.antt`).
 abbrev pub Reading : Type 1
 Reading = List ℕ → Target → Next → Type 0
 
@@ -86,15 +89,16 @@ in_content g content places target does = IsInRecord g content target does
 abbrev pub places_of : List PathNode → List ℕ
 places_of nodes = map (λ (n : PathNode). n.place) nodes
 
--- Where the rule for an argument of a rule is: at the parent for an attribute of the node itself, with the node's place as the
--- place of its target; at the child for an attribute of a child, with place 0. The places lead from the root to the nodes.
+-- A rule at the node at the end of `places` has the argument. The rule that computes it is the one for `target` at the node at
+-- the end of `there`. If the argument is an attribute of the node itself, that rule is at the parent, and its target has the
+-- node's place there. If the argument is an attribute of a child, that rule is at the child, and its target has place 0.
 abbrev pub GoesTo : List ℕ → Target → List ℕ → Target → Type 0
 GoesTo places argument there target =
     (target.attr ≡ argument.attr)
     × (((argument.place ≡ 0) × (places ≡ there ++ target.place ∷ []))
     ⊎ ((0 < argument.place) × (there ≡ places ++ argument.place ∷ []) × (target.place ≡ 0)))
 
--- The rule for a target at one node passes on the error of the rule for another target at another node.
+-- The rule for `target` at the end of `places` passes on the error of the rule for `from` at the end of `there`.
 pub record IsPassedFrom (R : Reading) (places : List ℕ) (target : Target) (there : List ℕ) (from : Target) : Type 0 where
   pub argument : Target
   pub passes : R places target (rule_does.Passes argument)

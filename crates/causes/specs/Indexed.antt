@@ -23,7 +23,8 @@ use Rattle.causes.specs.Laws.{IsInTree, in_tree}
 use Rattle.causes.specs.declared.chain.PathNode.{PathNode}
 use Rattle.causes.specs.declared.next_rule.Next.TheVariants as rule_does
 
--- The number of a node, in the order of an index, is that of the node of a tree at the end of some places, which count from 1.
+-- The node of a tree at the end of some places, which count from 1, has this number if the nodes are numbered, from 0, in the
+-- prefix order of direction d.
 pub record IsAtPlaces (d : Direction) (t : Tree) (v : Valuation) (places : List ℕ) (number : ℕ) : Type 0 where
   pub path : List ℕ
   pub counted : places ≡ map suc path
@@ -31,7 +32,7 @@ pub record IsAtPlaces (d : Direction) (t : Tree) (v : Valuation) (places : List 
   pub there : tree_at (Some t) path ≡ Some tree
   pub occurs : IsSubtreeAt d (nodes_of d t v) number tree (values_at v path)
 
--- `IsAtPlaces` holds of each tree of the grammar that the index has
+-- In each tree of the grammar that the index has, the node at the end of some places has this number.
 abbrev pub IsNumberAt : Grammar → TreeIndex → List ℕ → ℕ → Type 0
 IsNumberAt g index places number = (k : ℕ) (t : Tree) (v : Valuation) → HasNodes k t v index → IsTreeOf g t
     → IsAtPlaces (back_from k) t v places number
@@ -47,12 +48,13 @@ abbrev pub way : List PathNode → List ℕ
 way [] = []
 way (n ∷ ns) = way ns ++ n.place ∷ []
 
--- Each of these nodes has the number of the node at the end of its places.
+-- The number of each of these nodes is that of the node at the end of its places (`way`). Each node is a child of the next one in
+-- the list.
 abbrev pub AreLed : Grammar → TreeIndex → List PathNode → Type 0
 AreLed g index [] = Unit {0}
 AreLed g index (n ∷ ns) = IsNumberAt g index (way (n ∷ ns)) n.node × AreLed g index ns
 
--- the same of the nodes below the root from the outermost one on
+-- the same of a list that begins with the outermost node, a child of the root
 abbrev pub Leads : Grammar → TreeIndex → List PathNode → Type 0
 Leads g index nodes = AreLed g index (reverse nodes)
 
@@ -74,7 +76,7 @@ pub record IsCauseOf (g : Grammar) (places : List ℕ) (target : Target) (there 
   pub found : IsCause (in_tree g t v) places target there number n
   pub caused : (path : List ℕ) → places ≡ map suc path → HasCause g t v (place_path path target.place) target.attr
 
--- `IsCauseOf` holds of each tree whose file a content is, if the index is that of the content
+-- If the index is that of the content, `IsCauseOf` holds of each tree whose file of the last pass the content is.
 abbrev pub IsCauseIn : Grammar → TreeIndex → List ℕ → List ℕ → Target → List ℕ → ℕ → ℕ → Type 0
 IsCauseIn g index content places target there number n = IsIndexIn g content index
     → OfEachLast (IsCauseOf g places target there number n) g content

@@ -21,7 +21,7 @@ pub record IsInTree (g : Grammar) (t : Tree) (v : Valuation) (places : List ℕ)
   pub is : IsProduction g production of
   pub next : DoesNext of.rules (at (values_at v path)) target does
 
--- the reading of a tree with its values
+-- the reading (`Chains.antt`) of a tree with its values
 abbrev pub in_tree : Grammar → Tree → Valuation → Reading
 in_tree g t v places target does = IsInTree g t v places target does
 
@@ -42,7 +42,8 @@ pub record IsFound (g : Grammar) (t : Tree) (v : Valuation) (instance : List ℕ
   pub steps : ℕ
   pub cause : IsCause (in_tree g t v) (map suc path) target there number steps
 
--- In an accepted grammar, if the error of an attribute at a node has a cause, it has one that is found so.
+-- In an accepted grammar, if the error of an attribute at a node has a cause, it has one that is found along the nodes of the
+-- tree.
 abbrev pub CauseIsFound : Type 0
 CauseIsFound = (g : Grammar) (t : Tree) (v : Valuation) (instance : List ℕ) (attr : ℕ) → IsAccepted g
     → HasCause g t v instance attr → IsFound g t v instance attr

@@ -13,7 +13,7 @@ use Rattle.tree_index.specs.declared.index.TreeIndex.{TreeIndex}
 use Rattle.origins.specs.Causes.{place_path, tree_at, values_at}
 use Rattle.causes.specs.Indexed.{OfEachLast}
 
--- the production of the node of a tree at the end of a path
+-- The node of a tree at the end of a path is one of the production q.
 pub record IsNodeAt (g : Grammar) (t : Tree) (path : List ℕ) (q : Production) : Type 0 where
   pub number : ℕ
   pub trees : Forest
@@ -34,7 +34,8 @@ abbrev pub ComputesNoError : Grammar → List ℕ → Target → Tree → Valuat
 ComputesNoError g places target t v = node_count t ≤ max_nodes → Solves AnyRule g t v → (path : List ℕ) → places ≡ map suc path
     → HasRule g t path target → fault_of (values_at v (place_path path target.place) [] target.attr) ≡ None
 
--- `ComputesNoError` holds of each tree whose file a content is, if the grammar is accepted and the index is that of the content
+-- If the grammar is accepted and the index is that of the content, `ComputesNoError` holds of each tree whose file of the last
+-- pass the content is.
 abbrev pub ComputesNoErrorIn : Grammar → TreeIndex → List ℕ → List ℕ → Target → Type 0
 ComputesNoErrorIn g index content places target = IsAccepted g → IsIndexIn g content index
     → OfEachLast (ComputesNoError g places target) g content

@@ -18,7 +18,8 @@ use std::alloc::Global;
 use tree_index::{NodeKind, TreeFault, TreeIndex};
 use treefile::Device;
 
-/// The greatest number of rules of a chain that are followed: 16 attributes for each node.
+/// The greatest number of rules of a chain that are followed: one for each attribute of a tree. A symbol
+/// has at most 16 attributes.
 const MAX_STEPS: u32 = 16 * MAX_NODES;
 
 /// The cause of an error.
@@ -28,7 +29,7 @@ pub struct Cause {
     pub node: u32,
     /// The places of children, from 1, that lead from the root to that node.
     pub places: Vec<u16>,
-    /// The number of the rule, in the production of that node.
+    /// The number of the rule, from 0, in the production of that node.
     pub rule: u16,
     /// The number of rules that passed the error on.
     pub steps: u32,
@@ -59,11 +60,11 @@ pub(crate) enum Step {
     Arises(u16),
     /// The target has no rule, the rule's value is not an error, or the argument that passes its
     /// error on has no rule. Or the node is a token, is of a production that the grammar does not
-    /// have, or has no end of its record in the index.
+    /// have, is missing in the index, or has no end of its record there.
     Nothing,
 }
 
-/// A chain of rules, as far as it was followed.
+/// A chain of rules, as far as it was followed. It *is at* the node of the rule that is followed next.
 #[derive(Drop)]
 struct Chain<'a> {
     grammar: &'a Grammar,
@@ -75,8 +76,9 @@ struct Chain<'a> {
 
 impl<'a> Chain<'a> {
     /// Reads the record of the node at which the chain is, and returns what the rule for a target does there.
-    /// Returns `None` if `record` does, if the node has no such rule, or if the rule's value is not
-    /// an error. Fails with R1 if the record is damaged, with D1, and with NoMemory.
+    /// Returns `None` if `record` returns `None`, if the node has no such rule, or if the rule's value is
+    /// not an error. Fails with R1 if the record is damaged, with D1 if a call of the device fails, and
+    /// with NoMemory if memory is refused.
     fn read_next<D: Device>(
         &self,
         alloc: Global,
@@ -157,7 +159,8 @@ impl<'a> Chain<'a> {
         Some(productions[usize::from(number)].left)
     }
 
-    /// Goes to the child at a place. Returns whether there is one.
+    /// Goes to the child at a place. Returns whether there is one; if not, stays at the node. Fails with
+    /// NoMemory if memory is refused.
     fn go_to_child(&mut self, place: u16) -> Result<bool, TreeFault>
         requires leads { Leads self.old.grammar.now self.old.index.now self.old.nodes.items }
         ensures places { IfOk result (λ found. IsTrue found → places_of self.new.nodes.items
@@ -179,6 +182,7 @@ impl<'a> Chain<'a> {
     }
 
     /// Goes from the root to the node at the end of some places. Returns whether there is such a node.
+    /// Fails with NoMemory if memory is refused.
     fn go_down(&mut self, places: &[u16]) -> Result<bool, TreeFault>
         requires root { self.old.nodes.items ≡ [] }
         ensures places { IfOk result (λ found. IsTrue found
@@ -200,7 +204,7 @@ impl<'a> Chain<'a> {
 
     /// Goes to the node of the rule for an argument, and returns the target of that rule. Returns
     /// `None` if the argument is an attribute of the root itself, or of a child that the index does
-    /// not have.
+    /// not have. Fails with NoMemory if memory is refused.
     fn go_to(&mut self, argument: Target) -> Result<Option<Target>, TreeFault>
         requires leads { Leads self.old.grammar.now self.old.index.now self.old.nodes.items }
         ensures goes { IfOk result (λ target. IfSome target (GoesTo
@@ -240,7 +244,8 @@ impl<'a> Chain<'a> {
         })
     }
 
-    /// Follows the rule for a target, at the node at which the chain is, to the next rule.
+    /// Follows the rule for a target, at the node at which the chain is, to the next rule. Fails as
+    /// `read_next` does.
     fn step<D: Device>(
         &mut self,
         alloc: Global,
@@ -272,7 +277,8 @@ impl<'a> Chain<'a> {
         }
     }
 
-    /// Returns the places from the root to the node at which the chain is.
+    /// Returns the places from the root to the node at which the chain is. Fails with NoMemory if memory
+    /// is refused.
     fn places(&self, alloc: Global) -> Result<Vec<u16>, TreeFault>
         ensures places { IfOk result (λ places. places.items ≡ places_of self.now.nodes.items) }
         ensures device { IsErrOf result TreeFault.Device → ⊥ }
@@ -292,9 +298,9 @@ impl<'a> Chain<'a> {
 ///
 /// Returns `None` if the places lead to no node, the target has no rule there, or the rule's value
 /// is not an error. Also returns `None` if the chain stops later without a cause, or if 16,777,216
-/// rules passed the error on, 16 for each of `MAX_NODES` nodes. The last two cases do not occur for
-/// the index of the file, in an accepted grammar, if the file is that of a tree of at most
-/// `MAX_NODES` nodes whose values are a solution.
+/// rules passed the error on, 16 for each of `MAX_NODES` nodes. These two cases do not occur with the
+/// index of the file, in an accepted grammar, if the file is that of a tree of at most `MAX_NODES` nodes
+/// whose values are a solution.
 ///
 /// Fails with R1 if the record of a rule of the chain is damaged, with D1 if a call of the device
 /// fails, and with NoMemory if memory is refused. Reads a record for each rule in the chain.

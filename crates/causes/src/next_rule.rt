@@ -16,9 +16,9 @@ use std::alloc::Global;
 /// What a rule does with an error.
 #[derive(Clone, Copy)]
 pub(crate) enum Next {
-    /// It passes on the error of this argument.
+    /// The rule passes on the error of this argument.
     Passes(Target),
-    /// The error arises in it. This is its number in its production.
+    /// The error arises in the rule with this number, from 0, in its production.
     Arises(u16),
 }
 
@@ -38,7 +38,10 @@ pub fn rule_for(rules: &[Rule], target: Target) -> Option<u16>
 }
 
 /// Returns what the rule for a target does at a node. Returns `None` if the node has no such rule, or the
-/// rule's value is not an error.
+/// rule's value is not an error. Fails with NoMemory if memory is refused.
+///
+/// Requires that each rule has exactly one argument for each different occurrence in its expression (the
+/// list `r.expr.1`), and that no two rules have the same target. Both hold in an accepted grammar.
 fn next_in(alloc: Global, row: &Row<'_>, target: Target) -> Result<Option<Next>, NoMemory>
     requires arguments { Each (λ (r : TheRule). length r.args ≡ length r.expr.1)
         row.now.production.now.rules }
@@ -66,7 +69,8 @@ fn next_in(alloc: Global, row: &Row<'_>, target: Target) -> Result<Option<Next>,
 
 /// Returns what the rule for a target does at a node of the production `number`, with the values of
 /// the node's record. Returns `None` as `next_in` does, and if the grammar has no such production
-/// (`record_of`, from which the caller has the number, excludes that).
+/// (`record_of`, from which the caller has the number, excludes that). Fails with NoMemory if memory is
+/// refused.
 pub(crate) fn next_at(
     alloc: Global,
     grammar: &Grammar,

@@ -19,8 +19,8 @@ abbrev pub IsReason : List Clause → List ℕ → (there : ℕ → Type 0) → 
 IsReason clauses seeds there n (reason.Seed i) = slice_get seeds i ≡ Some n
 IsReason clauses seeds there n (reason.Clause p) = (q : Clause) × (slice_get clauses p ≡ Some q) × (q.head ≡ n) × All there q.body
 
--- No number is added twice. Each is added with a reason why it follows; if that is a clause, the numbers of its body are added
--- before.
+-- The list `xs` of additions has no number twice. Each number has a reason why it follows. If the reason is a clause, the numbers
+-- of its body are earlier in the list.
 pub record AreInOrder (clauses : List Clause) (seeds : List ℕ) (xs : List Addition) : Type 0 where
   pub once : (i j : ℕ) (x y : Addition) → slice_get xs i ≡ Some x → slice_get xs j ≡ Some y → x.number ≡ y.number → i ≡ j
   pub reasoned : (i : ℕ) (x : Addition) → slice_get xs i ≡ Some x → IsReason clauses seeds (IsAddedBefore xs i) x.number x.reason

@@ -1,5 +1,5 @@
--- The numbers that follow from clauses and seeds (Dowling and Gallier 1984): each seed does, and the head of
--- a clause if each number of its body does (`FollowAll`). No smaller set has the seeds and is closed under the clauses.
+-- The numbers that follow from clauses and seeds (Dowling and Gallier 1984). Each seed follows. The head of a clause follows if
+-- each number of its body does (`FollowAll`). No smaller set contains the seeds and is closed under the clauses.
 use Rattle.std.specs.Prelude.{ℕ, ◌≡◌, ◌↔◌, Bool, true, false, List, [], ◌∷◌, Some, slice_get, slice_index_or, Contains}
 use Rattle.closure.specs.declared.clause.Clause.{Clause}
 
@@ -13,7 +13,7 @@ mutual
     nothing : FollowAll clauses seeds []
     one_more : {s : ℕ} {xs : List ℕ} → Follows clauses seeds s → FollowAll clauses seeds xs → FollowAll clauses seeds (s ∷ xs)
 
--- a number is marked
+-- a test: the number n is marked (a number beyond the end of the list is not)
 abbrev pub is_marked : List Bool → ℕ → Bool
 is_marked marks n = slice_index_or marks n false
 

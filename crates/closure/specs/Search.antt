@@ -8,12 +8,14 @@ use Rattle.closure.specs.Following.{Follows, is_marked}
 use Rattle.closure.specs.declared.addition.Addition.{Addition}
 use Rattle.closure.specs.declared.clause.Clause.{Clause}
 
--- a number that is not marked, or that is added but not yet visited
+-- The number t is not marked, or it is added and its visit has not begun. A visit of a number visits the clauses whose bodies
+-- contain it. `visited` is the number of additions, from the first on, whose visit has begun.
 abbrev pub IsOpen : List Bool → List Addition → (visited : ℕ) → ℕ → Type 0
 IsOpen marks added visited t =
     (is_marked marks t ≡ false) ⊎ ((i : ℕ) × (x : Addition) × (visited ≤ i) × (slice_get added i ≡ Some x) × (x.number ≡ t))
 
--- a clause whose head is marked, or whose body has an open number
+-- A clause whose head is marked, or whose body has an open number. At the end of a search the visit of each marked number
+-- has begun and ended. So a settled clause whose whole body is marked then has a marked head.
 abbrev pub IsSettled : List Bool → List Addition → ℕ → Clause → Type 0
 IsSettled marks added visited q = (is_marked marks q.head ≡ true) ⊎ ((t : ℕ) × Contains q.body t × IsOpen marks added visited t)
 
@@ -25,8 +27,9 @@ pub record Grows (visited : ℕ) (marks : List Bool) (added : List Addition) (ma
   pub marked : (t : ℕ) → is_marked marks t ≡ true → is_marked marks' t ≡ true
   pub open_stays : (t : ℕ) → IsOpen marks added visited t → IsOpen marks' added' visited t
 
--- The invariant of a search: marked numbers follow, and are added once, each after the numbers of the body by which it follows.
--- `passed` has, for each clause, the length of a prefix of its body; the numbers of this prefix are marked.
+-- The invariant of a search over the numbers below the length of `marks`: marked numbers follow, and are added once, each after
+-- the numbers of the body by which it follows. `visited` is as in `IsOpen`. `passed` has, for each clause, the length of a prefix
+-- of its body; the numbers of this prefix are marked.
 pub record IsSearch (clauses : List Clause) (seeds : List ℕ) (marks : List Bool) (added : List Addition) (visited : ℕ)
     (passed : List ℕ) : Type 0 where
   pub below : All (IsClauseBelow (length marks)) clauses

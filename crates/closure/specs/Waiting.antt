@@ -19,8 +19,9 @@ pub record AddsClause (clause : ℕ) (old new : List (List ℕ)) : Type 0 where
   pub kept : (t p : ℕ) → Contains (row old t) p → Contains (row new t) p
   pub fits : (n : ℕ) → clause < n → ((t : ℕ) → All (λ p. p < n) (row old t)) → (t : ℕ) → All (λ p. p < n) (row new t)
 
--- The numbers of the clauses have rows. Each number's row contains the clauses whose bodies contain the number, and `facts` those
--- whose bodies are empty; all entries are indices of clauses.
+-- Each number that occurs in a clause has a row in `uses`. A number's row contains the indices of the clauses whose bodies
+-- contain the number, and `facts` those of the clauses whose bodies are empty. All entries of the rows and of `facts` are indices
+-- of clauses.
 pub record AreWaiting (clauses : List Clause) (uses : List (List ℕ)) (facts : List ℕ) : Type 0 where
   pub below : All (IsClauseBelow (length uses)) clauses
   pub listed : (p t : ℕ) (d : Clause) → p < length clauses → Contains (slice_index_or clauses p d).body t

@@ -5,7 +5,8 @@
 pub enum Reason {
     /// It is the seed with this index.
     Seed(usize),
-    /// It is the head of the clause with this index, and each number of the clause's body follows.
+    /// It is the head of the clause with this index, and each number of the clause's body was found
+    /// before.
     Clause(usize),
 }
 

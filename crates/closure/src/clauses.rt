@@ -18,8 +18,8 @@ use std::marker::Model;
 #[derive(Drop)]
 pub struct Clauses {
     clauses: Vec<Clause>,
-    /// For each number below the count, the indices of the clauses whose bodies contain it. If a
-    /// body contains the number several times, so does the row contain the index.
+    /// For each number below the count, its row: the indices of the clauses whose bodies contain
+    /// it. If a body contains the number several times, the row contains the index as often.
     uses: Vec<Vec<usize>>,
     /// The indices of the clauses with an empty body.
     facts: Vec<usize>,

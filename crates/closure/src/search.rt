@@ -1,5 +1,9 @@
-//! Searches for the numbers that follow. A number that is found is marked. The search traverses the
-//! body of each clause at most once, number by number.
+//! Searches for the numbers that follow. A number that is found is marked. The search tests the
+//! numbers of a clause's body from the first on, and stops at one that is not marked. The next test
+//! of this body begins at that number, so no number that was found to be marked is tested again.
+//!
+//! In contracts, `slice_index_or clauses p d` is the clause at index p. Its default d, for an index
+//! out of range, can be any clause.
 ghost use Rattle.std.specs.Prelude.{◌≡◌, ◌<◌, ◌≤◌, ◌⊎◌, ◌↔◌, ℕ, true, false, length, take, All};
 ghost use Rattle.std.specs.Prelude.{Contains, IfOk, OnOk, slice_index_or};
 ghost use Rattle.std.specs.List.{list_all};
@@ -56,8 +60,8 @@ struct Search<'g> {
 }
 
 impl<'g> Search<'g> {
-    /// Advances in the body of a clause to its first number that is not marked. Returns true if all
-    /// are marked.
+    /// Advances in the body of the clause with this index to its first number that is not marked.
+    /// Returns true if all are marked.
     fn advance(&mut self, clause: usize) -> bool
         requires clause { clause < length self.old.clauses.now }
         requires search { IsSearch self.old.clauses.now self.old.seeds.now self.old.marks.items
@@ -127,8 +131,8 @@ impl<'g> Search<'g> {
         Ok(())
     }
 
-    /// Adds and marks the head of a clause if its whole body is marked. Fails with NoMemory if a
-    /// request for memory is refused.
+    /// Adds and marks the head of the clause with this index, if its whole body is marked and the
+    /// head is not. Fails with NoMemory if a request for memory is refused.
     fn visit(&mut self, clause: usize) -> Result<(), NoMemory>
         requires clause { clause < length self.old.clauses.now }
         requires search { IsSearch self.old.clauses.now self.old.seeds.now self.old.marks.items
@@ -151,9 +155,9 @@ impl<'g> Search<'g> {
     }
 
     /// Visits clauses, given by their indices. A clause is settled (`IsSettled`) if its head is
-    /// marked, or a number of its body is still to be marked or visited. Afterwards these
-    /// clauses are settled, and clauses that were settled before still are. Fails with NoMemory if
-    /// a request for memory is refused.
+    /// marked, or a number of its body is not marked or not yet visited. Afterwards these clauses
+    /// are settled, and clauses that were settled before still are. Fails with NoMemory if a
+    /// request for memory is refused.
     fn visit_all(&mut self, waiting: &[usize]) -> Result<(), NoMemory>
         requires clauses { All (λ p. p < length self.old.clauses.now) waiting.now }
         requires search { IsSearch self.old.clauses.now self.old.seeds.now self.old.marks.items
@@ -178,11 +182,12 @@ impl<'g> Search<'g> {
     }
 }
 
-/// Returns the numbers that follow from clauses and seeds. `uses` has a row for each number below
-/// the count: the indices of the clauses whose bodies contain it. `facts` has the indices of the
-/// clauses with an empty body. Takes time linear in the number of clauses, the lengths of their
-/// bodies, the lengths of `uses`, of its rows, of `facts` and of `seeds`. Fails with NoMemory if a
-/// request for memory is refused.
+/// Returns the numbers that follow from clauses and seeds, each with its reason and after the
+/// numbers of the body by which it follows, and a mark for each number. `uses` has a row for each
+/// number below the count: the indices of the clauses whose bodies contain it. `facts` has the
+/// indices of the clauses with an empty body. Takes time linear in the number of clauses, the
+/// lengths of their bodies, the lengths of `uses`, of its rows, of `facts` and of `seeds`. Fails
+/// with NoMemory if a request for memory is refused.
 pub(crate) fn find<'g>(
     alloc: Global,
     clauses: &'g [Clause],

@@ -34,9 +34,9 @@ fn add_uses(uses: &mut Vec<Vec<usize>>, clause: usize, body: &[usize]) -> Result
     Ok(())
 }
 
-/// Returns the row of each number below `count`. If a body contains a number several times, so does
-/// the number's row contain the index of the clause. Fails with NoMemory if a request for memory is
-/// refused.
+/// Returns the row of each number below `count`. If a body contains a number several times, the
+/// number's row contains the index of the clause as often. Fails with NoMemory if a request for
+/// memory is refused.
 pub(crate) fn uses(
     alloc: Global,
     clauses: &[Clause],

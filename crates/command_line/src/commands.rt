@@ -1,41 +1,43 @@
-//! The commands of the program and their arguments, with the texts that help prints.
+//! The commands of the program and their arguments, with the texts that help prints. Each public constant is the name
+//! of an argument or of an option, by which clap finds its value. An option's name is also its word on the command
+//! line, after `--`.
 
 use crate::tree_options::{at, attributes, depth, errors, json, node, of_sentence, only, width};
 use clap::error::ErrorKind;
 use clap::{Arg, ArgAction, Command, Error};
 use std::alloc::{AllocError, Global};
 
-/// The argument that names the grammar's file.
+/// The name of the argument for the grammar's file.
 pub const GRAMMAR: &str = "G";
 
-/// The argument that names the sentence's file.
+/// The name of the argument for the sentence's file.
 pub const SENTENCE: &str = "S";
 
-/// The argument that names the tree file.
+/// The name of the argument for the tree file.
 pub const TREE: &str = "TREE";
 
-/// The argument that names the tree file of version 1.
+/// The name of the argument for the tree file of version 1.
 pub const OLD: &str = "OLD";
 
-/// The argument that is an expression.
+/// The name of the argument that is an expression.
 pub const EXPRESSION: &str = "EXPR";
 
-/// The argument that names an attribute.
+/// The name of the argument for an attribute.
 pub const ATTRIBUTE: &str = "SYMBOL.attribute";
 
-/// The option that names the folder for the tree files.
+/// The name of the option for the folder of the tree files.
 pub const WORK: &str = "work";
 
-/// The option that names the file for the translation.
+/// The name of the option for the file of the translation.
 pub const OUTPUT: &str = "output";
 
-/// The option that names the folder for translations.
+/// The name of the option for the folder of translations.
 pub const OUT_DIR: &str = "out-dir";
 
-/// The option that says when messages are marked with colour.
+/// The name of the option that says when messages are marked with colour.
 pub const COLOR: &str = "color";
 
-/// The option that hides the progress and the messages of refusals.
+/// The name of the option that hides the progress and the messages of refusals.
 pub const QUIET: &str = "quiet";
 
 /// The values of the option that says when messages are marked with colour.
@@ -138,7 +140,8 @@ const COMMANDS: &[Entry] = &[
     },
 ];
 
-/// A command, as help describes it.
+/// A command, as help describes it: its name, what it does, its arguments in their order, and an example, which comes
+/// last in the help.
 #[derive(Clone, Copy)]
 struct Entry {
     name: &'static str,
@@ -183,9 +186,9 @@ enum Argument {
     OfSentence,
     /// The option that names a node by a place in the sentence.
     At,
-    /// The option that names an attribute that is printed.
+    /// The option that names an attribute to print, without the others. It can be repeated.
     Only,
-    /// The option that limits the characters of a value that is not a number.
+    /// The option that limits the number of characters of each value that is not a number.
     Width,
     /// The option that prints nodes as JSON.
     Json,

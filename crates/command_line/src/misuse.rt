@@ -18,7 +18,8 @@ pub fn check_once(alloc: Global, command: &str, inputs: [InputPath<'_>; 2]) -> R
     }
 }
 
-/// Fails if the path of a tree file is `-`: only `eval` reads one from standard input.
+/// Fails if the path of a tree file is `-`. Only `eval`, which doesn't call this, reads a tree file from standard
+/// input, and no command writes one to standard output.
 pub fn check_tree(alloc: Global, command: &str, path: &str) -> Result<(), Error> {
     if path == STANDARD {
         return Err(misuse_of(
@@ -52,8 +53,8 @@ pub fn check_sentences(alloc: Global, paths: &[&str]) -> Result<(), Error> {
     }
 }
 
-/// Returns two paths for which `file_name_of` returns the same name, if there are two. Fails if
-/// memory is refused.
+/// Returns two paths for which `file_name_of` returns the same name, if there are two. If there are
+/// several such pairs, it can be any of them. Fails if memory is refused.
 fn doubled_name<'a>(
     alloc: Global,
     paths: &[&'a str],

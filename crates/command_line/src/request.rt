@@ -38,7 +38,8 @@ pub struct Messages {
 /// When the number and the place of a message are marked with colour.
 #[derive(Clone, Copy)]
 pub enum Color {
-    /// On a terminal only, if the environment (`NO_COLOR`, `TERM`) does not forbid it.
+    /// If standard error is a terminal, `TERM` is set and not `dumb`, and `NO_COLOR` is missing or
+    /// empty. The program tests this, not this crate.
     Auto,
     /// Always.
     Always,
@@ -71,9 +72,9 @@ pub enum Request<'a> {
     Code(InputPath<'a>),
     /// The tree file of a sentence.
     Parse(ParsePaths<'a>),
-    /// The tree in a tree file as text.
+    /// The tree in a tree file as text or JSON.
     Show(ShowWords<'a>),
-    /// The rules that computed the values in a tree file.
+    /// The rules that computed the values of a node in a tree file, or those in which errors arise.
     Explain(ExplainWords<'a>),
     /// The conversion of a tree file of version 1 to version 2.
     Upgrade(UpgradePaths<'a>),
@@ -92,7 +93,7 @@ pub struct RunPaths<'a> {
     pub work: Option<&'a str>,
 }
 
-/// The words that `run` takes for sentences with a folder for their translations.
+/// The words that `run` takes with `--out-dir`: several sentences, or one.
 #[derive(Drop)]
 pub struct BatchPaths<'a> {
     /// The grammar.
@@ -178,7 +179,7 @@ impl<'a> CommandLine<'a> {
     }
 }
 
-/// Parses the words of a command line. Fails with the error that clap prints: help, the version, or what is wrong.
+/// Parses the words of a command line. Fails with an error of clap: help, the version, what is wrong, or refused memory.
 fn parse<'a>(alloc: Global, words: &'a [String]) -> Result<CommandLine<'a>, Error> {
     let matches = program(alloc)?.try_get_matches_from(words)?;
     match matches.subcommand() {
@@ -206,8 +207,9 @@ fn messages_of(matches: &ArgMatches<'_>) -> Messages {
     }
 }
 
-/// Returns the request that a command makes, by its name and its matches. Fails with the error that
-/// clap prints if the words are wrong although clap accepts them, or with that of refused memory.
+/// Returns the request that a command makes. `name` is the command's name, and `matches` are its arguments as clap has
+/// parsed them. Fails with the error that clap prints if the words are wrong although clap accepts them, or with that
+/// of refused memory.
 fn request_of<'a>(
     alloc: Global,
     name: &str,
@@ -307,7 +309,7 @@ fn input_of<'a>(matches: &ArgMatches<'a>, name: &str) -> InputPath<'a> {
     InputPath::of(value_of(matches, name))
 }
 
-/// Returns the file for the translation, if one is named. `-` is standard output.
+/// Returns the file for the translation. None if the translation is printed: no file is named, or the word is `-`.
 fn output_of<'a>(matches: &ArgMatches<'a>) -> Option<&'a str> {
     match matches.get_str(OUTPUT) {
         Some(path) if path != STANDARD => Some(path),
@@ -317,7 +319,7 @@ fn output_of<'a>(matches: &ArgMatches<'a>) -> Option<&'a str> {
 
 /// Returns the value of an argument, or the empty text if it is missing. Clap accepts no command
 /// line without a required argument. Only `request_of` reads an argument that a command doesn't
-/// have: G for `value`. It doesn't use the empty text then.
+/// have (G for `value`), and it doesn't use the empty text then.
 fn value_of<'a>(matches: &ArgMatches<'a>, name: &str) -> &'a str {
     matches.get_str(name).unwrap_or("")
 }

@@ -1,33 +1,34 @@
-//! The options of the commands that print tree files: `show` and `explain`.
+//! The options of the commands that print tree files: `show` and `explain`. Each constant is the name of an option or of
+//! an argument, as in `commands`.
 
 use clap::{Arg, ArgAction};
 use std::alloc::{AllocError, Global};
 
-/// The option that limits the levels that are printed.
+/// The name of the option that limits the levels that are printed.
 pub const DEPTH: &str = "depth";
 
-/// The option that names a node by its path.
+/// The name of the option for the path of a node.
 pub const NODE: &str = "node";
 
-/// The option that names an attribute that is printed.
+/// The name of the option for an attribute to print, without the others.
 pub const ONLY: &str = "only";
 
-/// The option that limits the number of characters of a value that is not a number.
+/// The name of the option that limits the number of characters of each value that is not a number.
 pub const WIDTH: &str = "width";
 
-/// The option that prints nodes as JSON.
+/// The name of the option that prints nodes as JSON.
 pub const JSON: &str = "json";
 
-/// The option that lists the rules in which errors arise.
+/// The name of the option that lists the rules in which errors arise.
 pub const ERRORS: &str = "errors";
 
-/// The option that names a sentence's file.
+/// The name of the option for the sentence's file.
 pub const OF_SENTENCE: &str = "sentence";
 
-/// The option that names a place in a sentence.
+/// The name of the option for a place in the sentence.
 pub const AT: &str = "at";
 
-/// The argument that names attributes of a node.
+/// The name of the argument for attributes of a node.
 pub const ATTRIBUTES: &str = "ATTRIBUTE";
 
 /// Returns the option that limits the levels that are printed.
@@ -44,7 +45,7 @@ pub fn node<'a>(alloc: Global) -> Arg<'a> {
     )
 }
 
-/// Returns the option that names an attribute that is printed.
+/// Returns the option that names an attribute to print, without the others.
 pub fn only<'a>(alloc: Global) -> Arg<'a> {
     Arg::new(alloc, ONLY)
         .long(ONLY)
@@ -53,7 +54,7 @@ pub fn only<'a>(alloc: Global) -> Arg<'a> {
         .help("Prints only this attribute, and only nodes that have it; can be repeated")
 }
 
-/// Returns the option that limits the characters of a value that is not a number.
+/// Returns the option that limits the number of characters of each value that is not a number.
 pub fn width<'a>(alloc: Global) -> Arg<'a> {
     Arg::new(alloc, WIDTH).long(WIDTH).value_name("N").help(
         "Prints at most N characters of a value, 60 without it; 0 prints whole values. Numbers are printed whole",

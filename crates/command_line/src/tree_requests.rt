@@ -17,10 +17,10 @@ pub struct ShowWords<'a> {
     pub grammar: InputPath<'a>,
     /// The tree file.
     pub tree: &'a str,
-    /// The greatest level that is printed, which is 1 less than `--depth`. The level of the first
-    /// node is 0.
+    /// The greatest level that is printed: 1 less than `--depth` or, if this is missing, a number
+    /// above all levels. The level of the first node is 0.
     pub depth: u32,
-    /// The path of the first node. If there is none, it is the root.
+    /// The path of the first node that is printed. If it is missing, the first node is the root.
     pub node: Option<&'a str>,
     /// The names of the attributes that are printed. If there are none, all are.
     pub only: Vec<&'a str>,
@@ -61,14 +61,15 @@ pub struct ExplainWords<'a> {
     pub tree: &'a str,
     /// The node.
     pub node: NodeWords<'a>,
-    /// Whether the rules in which errors arise are printed instead of a node.
+    /// Whether the rules of the whole tree in which errors arise are printed instead of a node. The
+    /// fields `node` and `attributes` are then only checked: they have no effect on the output.
     pub errors: bool,
     /// The names of the attributes. If there are none, all are explained.
     pub attributes: Vec<&'a str>,
 }
 
-/// Returns the words that `show` takes. Fails with the error that clap prints if one of them is
-/// wrong, or with that of refused memory.
+/// Returns the words that `show` takes. Fails with the error that clap prints if the tree file is `-`, or `--depth` or
+/// `--width` is out of range. Fails with that of refused memory if memory is refused.
 pub fn show_words<'a>(alloc: Global, matches: &ArgMatches<'a>) -> Result<ShowWords<'a>, Error> {
     let tree = matches.get_str(TREE).unwrap_or("");
     check_tree(alloc, "show", tree)?;
@@ -101,8 +102,9 @@ fn number_of(matches: &ArgMatches<'_>, name: &str, other: u32) -> Option<u32> {
     }
 }
 
-/// Returns the words that `explain` takes. Fails with the error that clap prints if one of them is
-/// wrong, or with that of refused memory.
+/// Returns the words that `explain` takes. Fails with the error that clap prints if the tree file is `-`, if `--at` is
+/// not two numbers from 1, or if both the grammar and the sentence are `-`. Fails with that of refused memory if memory
+/// is refused.
 pub fn explain_words<'a>(
     alloc: Global,
     matches: &ArgMatches<'a>,

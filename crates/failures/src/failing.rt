@@ -1,7 +1,7 @@
 //! Devices of which one call fails: first call 1, then call 2, and so on, until a run makes too few
 //! calls to reach the failing one. A run is a call of `translate`, `evaluate_tree` or `upgrade`. A
-//! run with a failed call must write no translation, and the next run with the same translator and
-//! devices must succeed.
+//! run in which a call of a device fails must fail with D1 and write no translation, and the next
+//! run with the same translator and devices must succeed.
 
 use crate::endings::Ending;
 use crate::fractions::{

@@ -24,7 +24,8 @@ B = \"0\" { $0.bit = 0; }
 B = \"1\" { $0.bit = 1; }
 ";
 
-/// A sentence of this grammar, 13.25. Its translation is 868352.
+/// A sentence of this grammar, which is 13.25 in binary. Its translation is 868352, the number of
+/// 65536ths.
 pub const FRACTION_SENTENCE: &[u8] = b"1101.01";
 
 /// The file of its tree before the first pass: the header `AGT2` with pass 0, and after it the
@@ -82,7 +83,7 @@ fn parsed_without(alloc: Global, translator: &Translator, call: u64) -> Ending {
 }
 
 /// Builds a translator, parses `1` over a device that fails at the row's call, and returns how
-/// `parse_tree` ends.
+/// `parse_tree` ends. Fails with `Misspelt` if the row is no number.
 pub fn parse_without_answer(alloc: Global, call: &str) -> Result<String, Mistake> {
     let call = number(call)? as u64;
     let translator = translator(alloc, FRACTIONS)?;

@@ -28,7 +28,8 @@ enum Lie {
     Changing,
 }
 
-/// A device that lies.
+/// A device that lies. Contracts claim nothing of the content of a device that isn't honest, so the
+/// content that it states can be any. Its calls never fail with D1, so it counts no failures.
 #[derive(Drop)]
 struct LyingDevice {
     file: MemDevice,
@@ -87,7 +88,8 @@ fn lie_named(word: &str) -> Result<Lie, Mistake> {
     }
 }
 
-/// An arity by which each record has one child.
+/// An arity by which each record has one child. `turn` needs some arity. Which one doesn't matter
+/// here, since the test is only that `turn` returns.
 struct Chain {}
 
 impl Arity for Chain {
@@ -138,8 +140,8 @@ fn evaluation(alloc: Global, translator: &Translator, lie: Lie) -> Result<String
 }
 
 /// Runs the first pass, and then all passes, over devices that lie. The results are not used: the
-/// test is that the calls return. The `if` is there only for the contracts of the two calls: the
-/// plan of binary fractions has passes.
+/// test is that the calls return. The plan of binary fractions has passes. The `if` is there only
+/// because the contract of `run_pass` requires that the pass is one of the plan's.
 fn run_passes(alloc: Global, translator: &Translator, a: &mut LyingDevice, b: &mut LyingDevice) {
     let (grammar, plan) = (translator.grammar(), translator.plan());
     if plan.assignment().passes() == 0 {
@@ -190,8 +192,8 @@ pub fn lie_answer(alloc: Global, word: &str) -> Result<String, Mistake> {
     Ok(format!(in alloc; "{is_clean}")?)
 }
 
-/// Reverses a file over devices that lie. The result is not used: the test is that the call
-/// returns.
+/// Reverses a file over devices that lie, into one with pass 1 in its header. The result is not
+/// used: the test is that the call returns.
 fn reverse_lying(alloc: Global, lie: Lie) -> Result<(), Mistake> {
     let mut from = lying_device(alloc, FRACTION_TREE, lie)?;
     let mut to = empty_lying_device(alloc, lie);

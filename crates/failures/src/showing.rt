@@ -17,14 +17,15 @@ fn shown_over<D: Device>(alloc: Global, text: &str, device: &mut D) -> Result<St
 
 /// Shows 14 over a device that fails at the row's call, counted from 1. Returns how `show_value`
 /// ends, and what was written. `show_value` makes eight calls of the device: they clear it, append
-/// to it, return its length, and read it.
+/// to it, return its length, and read it. Fails with `Misspelt` if the row is no number.
 pub fn show_without_answer(alloc: Global, call: &str) -> Result<String, Mistake> {
     let call = number(call)? as u64;
     let mut device = FuseDevice::new(MemDevice::new(alloc), call);
     shown_over(alloc, "14", &mut device)
 }
 
-/// A device that ignores what is written, and returns the bytes of another file.
+/// A device that ignores what is written, and returns the bytes of another file. So it isn't
+/// honest.
 #[derive(Drop)]
 struct OtherFileDevice {
     file: MemDevice,

@@ -5,7 +5,7 @@ use Rattle.ag_value.specs.Well.{IsWell}
 use Rattle.ag_value.specs.declared.value.Value.{Value}
 use Rattle.ag_value.specs.declared.value.Value.TheVariants as value
 
--- the items of a well list, and the encodings of the items, one after the other
+-- `items` are the items of a well list, and `encodings` consists of the encodings of the items, one after the other
 pub record IsList (items : List Value) (encodings : List ℕ) : Type 0 where
   pub well : IsWell (value.List items)
   pub encoded : encodings ≡ joined (map spelling_of items)

@@ -4,7 +4,7 @@ use Rattle.ag_value.specs.declared.value.Value.{Value}
 use Rattle.list_tree.specs.declared.items.ItemNode.{ItemNode}
 use Rattle.list_tree.specs.declared.items.ItemNode.TheVariants.{Empty, Fork, Item}
 
--- the items in their order
+-- the items of a tree in their order; `left` and `right` are trees, of which definitions see the lists of their items
 abbrev pub items_of : ItemNode → List Value
 items_of Empty = []
 items_of (Item item) = item.value ∷ []
@@ -16,7 +16,8 @@ pub record IsCut (items left right : List Value) : Type 0 where
   pub some_left : 0 < length left
   pub some_right : 0 < length right
 
--- neither side of a fork is empty, and the number stored beside them is that of the items of both
+-- Neither side of a fork is empty, and the number stored beside them is that of the items of both. Nothing is required of an
+-- empty tree, of a single item, or of the height.
 abbrev pub IsNode : ItemNode → Type 0
 IsNode Empty = Unit {0}
 IsNode (Item item) = Unit {0}

@@ -1,5 +1,6 @@
-//! The balance of a tree: the heights of the two sides of a node differ by at most one. No contract
-//! depends on it. All functions of this module may fail with NoMemory.
+//! Joining two trees into a balanced tree: the heights of the two sides of each node differ by at
+//! most one. No contract depends on the balance. Each function of this module may fail with
+//! NoMemory.
 
 ghost use Rattle.std.specs.Prelude.{◌≡◌, ◌++◌, ◌+◌, ◌<◌, ◌^◌, length, IfOk};
 
@@ -21,7 +22,8 @@ impl ItemTree {
         }
     }
 
-    /// Returns these items and then those of a tree that is not higher.
+    /// Returns these items and then those of `after`. Callers pass a tree `after` that is not higher
+    /// than this one; otherwise the result could be unbalanced.
     fn with_after(&self, alloc: Global, after: &ItemTree) -> Result<ItemTree, NoMemory>
         requires { length self.now + length after.now < 2 ^ 64 }
         ensures { IfOk result (λ tree. tree ≡ self.now ++ after.now) }
@@ -35,7 +37,8 @@ impl ItemTree {
         ItemTree::pair(alloc, self.share()?, after.share()?)
     }
 
-    /// Returns the items of a tree that is not higher, and then these.
+    /// Returns the items of `before` and then these. Callers pass a tree `before` that is not higher
+    /// than this one; otherwise the result could be unbalanced.
     fn with_before(&self, alloc: Global, before: &ItemTree) -> Result<ItemTree, NoMemory>
         requires { length before.now + length self.now < 2 ^ 64 }
         ensures { IfOk result (λ tree. tree ≡ before.now ++ self.now) }
@@ -65,8 +68,9 @@ fn balanced(alloc: Global, left: ItemTree, right: ItemTree) -> Result<ItemTree, 
     ItemTree::pair(alloc, left, right)
 }
 
-/// Returns the same items. If the right side of their tree is higher, the tree is rotated to the
-/// left.
+/// Returns a tree with the same items: if the right side of `tree` is higher than the left one,
+/// `tree` rotated to the left, and otherwise `tree` itself. This is the first half of a double
+/// rotation, before `turned_right`.
 fn with_high_left(alloc: Global, tree: ItemTree) -> Result<ItemTree, NoMemory>
     requires { length tree < 2 ^ 64 }
     ensures { IfOk result (λ same. same ≡ tree) }
@@ -79,8 +83,9 @@ fn with_high_left(alloc: Global, tree: ItemTree) -> Result<ItemTree, NoMemory>
     }
 }
 
-/// Returns the same items. If the left side of their tree is higher, the tree is rotated to the
-/// right.
+/// Returns a tree with the same items: if the left side of `tree` is higher than the right one,
+/// `tree` rotated to the right, and otherwise `tree` itself. This is the first half of a double
+/// rotation, before `turned_left`.
 fn with_high_right(alloc: Global, tree: ItemTree) -> Result<ItemTree, NoMemory>
     requires { length tree < 2 ^ 64 }
     ensures { IfOk result (λ same. same ≡ tree) }

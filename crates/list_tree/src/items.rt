@@ -26,7 +26,8 @@ enum ItemNode {
     Fork(Rc<ItemBranch>),
 }
 
-/// Items, and the items after them. Neither side is empty.
+/// A node with two sides: the tree of the first items, and the tree of the items after them. Neither
+/// side is empty.
 #[cycle(items)]
 #[derive(Drop)]
 struct ItemBranch {
@@ -43,6 +44,7 @@ impl Model for ItemTree {
     ghost use Rattle.std.specs.Prelude.{List, length};
     ghost use Rattle.std.specs.Coded.{codes};
     ghost use Rattle.ag_value.specs.declared.value.Value.{Value as AttributeValue};
+    // what the prover knows of the Rust type `Value`; only `coded` uses it
     ghost use Rattle.ag_value.specs.contracts.value.Value as value_row;
 
     ghost Value = { List AttributeValue };
@@ -163,8 +165,9 @@ impl ItemTree {
         }
     }
 
-    /// Returns the items of two trees, one after the other, as a node with two sides; if one is
-    /// empty, the other alone. Takes memory for that node. Fails with NoMemory.
+    /// Returns the items of two trees, one after the other, as a node that has these trees as its
+    /// sides. If one of the trees is empty, returns the other one, and takes no memory. Fails with
+    /// NoMemory.
     pub fn pair(alloc: Global, left: ItemTree, right: ItemTree) -> Result<ItemTree, NoMemory>
         requires { length left + length right < 2 ^ 64 }
         ensures { IfOk result (λ tree. tree ≡ left ++ right) }

@@ -18,13 +18,14 @@ use std::fmt;
 use std::marker::Model;
 use std::rc::Rc;
 
-/// The number of bytes of the encoding before the first item: the kind of a list, and the number of
-/// items.
+/// The number of bytes of the encoding before the first item: one for the kind of a list, and four
+/// for the number of items.
 const HEADER_LENGTH: usize = 5;
 
 /// A well list with several owners: its items in a balanced tree, beside the encodings of the items
-/// in a rope. Contracts see the list of the items. A list made of others shares with them all nodes
-/// but those on the way to the place where they meet, which are made anew.
+/// in a rope. Contracts see the list of the items. A list that `join` makes of two others shares its
+/// nodes with them, except those on the way to the place where the two lists meet and those that a
+/// rotation changes: these are made anew.
 #[derive(Drop)]
 pub struct ListTree {
     parts: Rc<ListParts>,
@@ -42,6 +43,7 @@ impl Model for ListTree {
     ghost use Rattle.std.specs.Prelude.{List};
     ghost use Rattle.std.specs.Coded.{codes};
     ghost use Rattle.ag_value.specs.declared.value.Value.{Value as AttributeValue};
+    // what the prover knows of the Rust type `Value`; only `coded` uses it
     ghost use Rattle.ag_value.specs.contracts.value.Value as value_row;
 
     ghost Value = { List AttributeValue };
@@ -69,7 +71,7 @@ impl ListTree {
         requires { IsWell (v.List items) }
         ensures { IfOk result (λ list. list ≡ items) }
     {
-        // `encode` takes a `Value`
+        // `encoded` takes a `Value`, and returns the encoding of the whole list
         let list = Value::List(items);
         let encoding = encoded(alloc, &list)?;
         let Some(items) = items_in(list) else {
@@ -88,7 +90,7 @@ impl ListTree {
         })
     }
 
-    /// Lends the items and their encodings.
+    /// Lends the tree of the items, which contracts see as their list, and the encodings.
     #[inline(always)]
     fn parts(&self) -> &ListParts
         ensures items { result.now.items ≡ self.now }
@@ -111,7 +113,7 @@ impl ListTree {
     }
 
     /// Returns the weight of the list, which is the length of its encoding in bytes. Takes constant
-    /// time.
+    /// time. `encoding_len` returns the same number as a `usize`, with a clause on the bytes.
     pub fn weight(&self) -> u64
         ensures weight { result ≡ weight_of (v.List self.now) }
         ensures well { IsWell (v.List self.now) }
@@ -125,6 +127,7 @@ impl ListTree {
         ensures item { option_copied result ≡ slice_get self.now index }
         ensures well { IfSome result (λ item. IsWell item.now) }
     {
+        // not returned directly, since the proof of the clause `well` names `item`
         let item = self.parts().items.get(index)?;
         Some(item)
     }
@@ -170,7 +173,7 @@ impl ListTree {
         self.len() == other.len() && self.parts().encodings.same(&other.parts().encodings)
     }
 
-    /// Returns whether a value is this list. Takes no memory.
+    /// Returns whether a value is the flat list of the same items. Takes no memory.
     pub fn is_value(&self, value: &Value) -> bool
         ensures { IsTrue result ↔ (v.List self.now ≡ value.now) }
     {
@@ -215,7 +218,8 @@ impl ListTree {
         copy_after(&self.header(), &self.parts().encodings, from, out);
     }
 
-    /// Returns the length of the encoding in bytes. Takes constant time.
+    /// Returns the length of the encoding in bytes, as `weight` does. Takes constant time. The clause
+    /// `bytes` says that each number in the encoding is below 256: contracts see bytes as numbers.
     pub fn encoding_len(&self) -> usize
         ensures len { result ≡ length (spelling_of (v.List self.now)) }
         ensures bytes { (i : ℕ) → slice_index (spelling_of (v.List self.now)) i < 256 }
@@ -225,8 +229,8 @@ impl ListTree {
         byte_count(&header) + self.parts().encodings.len()
     }
 
-    /// Returns the bytes of the encoding before the first item: 2, the kind of a list, and the
-    /// number of items, big-endian.
+    /// Returns the bytes of the encoding before the first item: a 2, with which each encoding of a
+    /// list begins, and the number of items in four bytes, big-endian.
     #[tactic(auto, using(crate::proofs::Encoded::header_is))]
     fn header(&self) -> [u8; HEADER_LENGTH]
         ensures { spelling_of (v.List self.now) ≡ result ++ joined (map spelling_of self.now) }
@@ -286,7 +290,8 @@ fn copy_after(header: &[u8; HEADER_LENGTH], rope: &Rope, from: usize, out: &mut 
     rope.copy_part(0, rest);
 }
 
-/// Returns the number of bytes. The clause `bytes` says that each of them is below 256.
+/// Returns the number of bytes. It is a function for its clause `bytes`, which says that each of
+/// them is below 256: the clause `bytes` of `encoding_len` needs this.
 fn byte_count(bytes: &[u8]) -> usize
     ensures len { result ≡ length bytes.now }
     ensures bytes { (i : ℕ) → slice_index bytes.now i < 256 }

@@ -10,7 +10,7 @@ use Rattle.ag_grammar.specs.grammars.Yield.{Lexeme}
 use Rattle.llparse.specs.declared.ahead.Ahead.{Ahead}
 use Rattle.llparse.specs.declared.ahead.Ahead.TheVariants as ahead
 
--- A symbol is nullable: it has a production whose items all are. A terminal is not.
+-- A symbol is nullable: it has a production whose items all are. A terminal is not. AreNullable: all items of a list are.
 mutual
   pub data IsNullable (g : Grammar) : ℕ → Type 0 where
     by_production : (p : ℕ) (q : Production) {s : ℕ} → IsProduction g p q → q.left ≡ s → AreNullable g q.items → IsNullable g s
@@ -51,7 +51,7 @@ IsInFirstOf g xs ahead.End = ⊥
 abbrev pub Predicts : Grammar → Production → Ahead → Type 0
 Predicts g q x = IsInFirstOf g q.items x ⊎ (AreNullable g q.items × InFollow g q.left x)
 
--- Two productions of one symbol, by their numbers and the lesser one first, are predicted by the same look-ahead.
+-- A conflict: two productions of one symbol, by their numbers and the lesser one first, are predicted by the same look-ahead.
 pub record IsConflict (g : Grammar) (first second : ℕ) (x : Ahead) : Type 0 where
   pub one : Production
   pub other : Production

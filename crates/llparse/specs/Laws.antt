@@ -12,7 +12,8 @@ use Rattle.llparse.specs.sentence.Sentences.{IsTreeWith, LeavesOnly}
 abbrev pub OneTree : Type 0
 OneTree = (g : Grammar) → HasNoConflict g → (t u : Tree) → IsTreeOf g t → IsTreeOf g u → yield_of g t ≡ yield_of g u → t ≡ u
 
--- If words leave only trees beyond a limit, each tree of these words is beyond it.
+-- If words leave only trees beyond a limit, each tree of these words is beyond it. `LeavesOnly` explains `size`, `begun` and
+-- `limit`.
 abbrev pub LeftTreesAreBeyondTheLimit : Type 0
 LeftTreesAreBeyondTheLimit = (g : Grammar) (words : List Lexeme) (size : Tree → ℕ) (begun : List Open → ℕ) (limit : ℕ) (t : Tree)
     → LeavesOnly g words size begun limit → IsTreeWith g words t → limit < size t

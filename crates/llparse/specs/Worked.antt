@@ -1,5 +1,5 @@
--- Examples: a grammar with a conflict, L = L "x" .. L = "x" .., in which L is symbol 0 and "x" literal 0 (its
--- symbols and rules are left out, since they don't matter here), and tables.
+-- Examples: tables, and a grammar with a conflict. Its productions are L = L "x" and L = "x", in which L is symbol 0 and "x" is
+-- literal 0. Its list of symbols and its lists of rules are empty, since they don't matter here.
 use Rattle.std.specs.Prelude.{List, [], ◌∷◌, Some, None}
 use Rattle.ag_grammar.specs.declared.grammar.Item.TheVariants as item
 use Rattle.ag_grammar.specs.declared.grammar.Item.{Item}

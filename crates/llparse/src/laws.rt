@@ -15,8 +15,9 @@ pub fn one_tree()
     ensures { OneTree }
 {}
 
-/// States that if words leave only trees beyond a limit (`LeavesOnly`, which P2 and P3 state of the
-/// words of a sentence), each tree of these words is beyond the limit.
+/// States that if words (terminals with their texts) leave only trees beyond a limit, each tree of
+/// these words is beyond the limit. P2 and P3 state this premise, `LeavesOnly`, of a sentence's
+/// words.
 pub fn left_trees_are_beyond_the_limit()
     ensures { LeftTreesAreBeyondTheLimit }
 {}
@@ -44,7 +45,7 @@ pub fn left_recursion_is_least()
     ensures { IsLeastConflict left_recursive 0 0 1 (ahead.Terminal (Literal 0)) }
 {}
 
-/// Worked example: the production `L = L "x"` is a choice of its symbol at `x`.
+/// Worked example: the look-ahead `x` predicts the production `L = L "x"`.
 #[tactic(auto, using(crate::proofs::Examples::first_choice))]
 pub fn left_recursion_is_a_choice()
     ensures { IsChoice left_recursive 0 (ahead.Terminal (Literal 0)) 0 }

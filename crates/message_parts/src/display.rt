@@ -5,11 +5,12 @@ use std::fmt;
 /// How a message names the end of a text, also of a sentence.
 pub const END: &str = "the end of the text";
 
-/// The greatest number of names in a list of terminals, symbols or occurrences in a message. Lists
-/// of other things have other limits, or none.
+/// The greatest number of names in a message's list of terminals, of symbols, or of occurrences
+/// (attributes with their places, such as `$1.sum`). The rest of such a list is only counted or
+/// mentioned. Lists of other things have other limits, or none.
 pub const MAX_NAMED: usize = 12;
 
-/// The greatest number of characters of a token or a value that a message shows.
+/// The greatest number of characters that `FoundText` prints.
 const MAX_SHOWN: usize = 24;
 
 /// A number that prints in groups of three digits, as in `1,048,576`. It prints with at most two
@@ -67,8 +68,9 @@ impl fmt::Display for QuotedText<'_> {
     }
 }
 
-/// The text at an offset, or None at the end of the text, which prints as `END`. A text prints in backquotes, as by
-/// `PlainText`; if it has more than `MAX_SHOWN` characters, only these and `..`.
+/// What was found, such as a token or a value. It prints in backquotes, as by `PlainText`. If it has more than
+/// `MAX_SHOWN` characters, only the first `MAX_SHOWN` print, and `..` after them. None means that the text ended there,
+/// and prints as `END`.
 #[derive(Clone, Copy)]
 pub struct FoundText<'a>(pub Option<&'a str>);
 
@@ -91,8 +93,9 @@ impl fmt::Display for FoundText<'_> {
     }
 }
 
-/// Returns whether a character is in a list of those that have no shape of their own, or change the direction of
-/// those beside them: a byte order mark, some others of Unicode's category Cf, and unassigned ones between them.
+/// Returns whether a character is in a fixed list of characters that have no shape, or that change the direction of
+/// the text beside them. The list has the byte order mark, other characters of Unicode's category Cf (but not all),
+/// and unassigned ones in the same ranges.
 fn is_unseen(character: char) -> bool {
     matches!(
         character,

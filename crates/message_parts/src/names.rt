@@ -12,7 +12,8 @@ use ag_grammar::{Grammar, Symbol};
 use ag_value::Text;
 use std::alloc::AllocError;
 
-/// The numbers of an attribute, from 0: the number of its symbol, and its own in the symbol.
+/// The numbers of an attribute, from 0: the number of its symbol, and its own number in the symbol. The synthesized
+/// attributes of a symbol come first, then the inherited ones.
 pub type Attribute = (u16, u16);
 
 /// Why a text is not the name of an attribute.
@@ -68,7 +69,8 @@ fn has_name(symbol: &Symbol, attr: u16, name: &str) -> bool
     }
 }
 
-/// Returns the number of a symbol's attribute of this name, if there is one.
+/// Returns the number of a symbol's first attribute of this name, if there is one. A symbol of an accepted grammar has
+/// at most `MAX_ATTRIBUTES` attributes.
 fn attribute_number(symbol: &Symbol, name: &str) -> Option<u16>
     ensures { IfSome result (λ a. slice_get (attribute_names symbol.now) a ≡ Some name.now) }
 {
@@ -123,7 +125,8 @@ fn write_symbols(out: &mut String, symbols: &[Symbol]) -> Result<(), AllocError>
     }
 }
 
-/// Writes that a symbol has no attribute of this name, and the names that it has.
+/// Writes that a symbol has no attribute of this name, and the names of those that it has. Writes nothing if the
+/// grammar has no symbol of this number.
 fn write_attributes(
     out: &mut String,
     grammar: &Grammar,

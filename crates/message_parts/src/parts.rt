@@ -7,13 +7,14 @@ use std::alloc::{AllocError, Global};
 /// Where a fault is.
 #[derive(Clone, Copy)]
 pub enum Location {
-    /// In the whole of a text or a file. The message prints no position, and a space before its
-    /// parts.
+    /// In the whole of a text or a file. The message prints no position, and a space before the
+    /// first part.
     Whole,
-    /// At an offset or names that the fault itself prints after its number, or not known. The
-    /// message prints no position, and a colon and a space before its parts.
+    /// The fault itself prints an offset or names after its number, or the location is not known.
+    /// The message prints no position, and a colon and a space before the first part.
     InFault,
-    /// At a line and a column, which the message prints with its file, if it has one.
+    /// At a line and a column. The message prints them, with the name of the file if it has one,
+    /// and a colon and a space before the first part.
     At(Position),
 }
 
@@ -45,13 +46,15 @@ impl Parts {
         self.help.clear();
     }
 
-    /// Appends one text to `found`, and one to `help`.
+    /// Appends the text `found` to the part of this name, and `help` likewise. Fails if memory is
+    /// refused.
     pub fn add(&mut self, found: &str, help: &str) -> Result<(), AllocError> {
         self.found.push_str(found)?;
         self.help.push_str(help)
     }
 
-    /// Appends to `found` that `subject` has more than `bytes` bytes, and `help` to what to do.
+    /// Appends to the part `found` that `subject` has more than `bytes` bytes, and the text `help`
+    /// to the part of this name. Fails if memory is refused.
     pub fn add_size_limit(
         &mut self,
         subject: &str,
@@ -63,8 +66,9 @@ impl Parts {
         self.help.push_str(help)
     }
 
-    /// Appends to `found` that `subject`, a sentence or a file, has no tree within a limit, and
-    /// `help` to what to do. The unit of the limit is levels or nodes.
+    /// Appends to the part `found` that `subject` (a sentence or a file) has no tree of at most
+    /// `limit` levels or nodes, and the text `help` to the part of this name. `unit` is the word
+    /// `levels` or `nodes`. Fails if memory is refused.
     pub fn add_tree_limit(
         &mut self,
         limit: usize,

@@ -3,7 +3,7 @@
 use crate::display::{PlainText, utf8_prefix};
 use std::fmt;
 
-/// The name of standard input instead of a file's name.
+/// The word that names standard input in place of a file.
 const STANDARD_INPUT: &str = "-";
 
 /// A line of a text, or of the file that contains the text, and a column in characters. Both count

@@ -63,7 +63,8 @@ pub fn offset_in(fault: ExprFault) -> Option<usize> {
     }
 }
 
-/// Describes a fault of an expression. `expected` is what could be at its offset.
+/// Describes a fault of an expression. `context` is the text around the fault's offset, and `expected` is what could be
+/// at this offset.
 pub fn describe_fault(
     parts: &mut Parts,
     fault: ExprFault,
@@ -89,7 +90,7 @@ fn describe_no_token(parts: &mut Parts, context: &Context<'_>) -> Result<(), All
     parts.help.push_str(context.token_hint())
 }
 
-/// Describes a number that is too large.
+/// Describes a number, or a place after `$`, that is too large.
 fn describe_number(parts: &mut Parts, context: &Context<'_>) -> Result<(), AllocError> {
     write!(parts.found, "found {}", FoundText(context.found))?;
     if begins_with(context.found, '$') {
@@ -113,9 +114,8 @@ fn describe_depth(parts: &mut Parts) -> Result<(), AllocError> {
         .push_str("compute a part of it in another attribute")
 }
 
-/// Describes X2: the token that was found, what could be there instead (`expected`), and a hint.
-/// For a name that no `let` binds, and for an occurrence outside a grammar, describes what is wrong
-/// with it in place of what could be there.
+/// Describes X2: the token that was found, what could be there instead (`expected`) or what is wrong
+/// with the token (as `describe_expected` does), and a hint.
 fn describe_unexpected(
     parts: &mut Parts,
     context: &Context<'_>,
@@ -126,8 +126,8 @@ fn describe_unexpected(
     parts.help.push_str(context.expression_hint(expected))
 }
 
-/// Describes what could be in place of the token that was found. If that token is a name that no
-/// `let` binds, or an occurrence outside a grammar, describes instead what is wrong with it.
+/// Describes what could be in place of the token that was found. If this token is a name that no
+/// `let` binds, or an occurrence outside a grammar, says this instead.
 fn describe_expected(
     parts: &mut Parts,
     context: &Context<'_>,

@@ -37,12 +37,12 @@ impl<'a> GrammarText<'a> {
         Location::At(self.source.position(at))
     }
 
-    /// Reads the text once more, and returns the grammar with numbers in place of names. None if the text reads as
-    /// no accepted grammar, or memory is refused.
+    /// Reads the text once more (since `check` consumes what was read), and returns the grammar with numbers in place
+    /// of names. None if the text reads as no accepted grammar, or memory is refused.
     pub fn numbered(&self) -> Option<Grammar> {
         let raw = read_grammar(self.alloc, self.source.bytes).ok()?;
-        // Every grammar that was read from a text is readable. The test is for the `requires` of
-        // `check`.
+        // Every grammar that was read from a text is readable: its literals are not empty and have
+        // no white space, and its classes exist. `check` requires this, so it is tested here.
         if !is_readable(&raw) {
             return None;
         }

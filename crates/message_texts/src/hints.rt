@@ -52,12 +52,12 @@ const SIGNS: [(&str, &str); 8] = [
     ("|", "`a < b || c < d` is written `(a < b) + (c < d)`"),
 ];
 
-/// The text around the offset at which it is refused.
+/// A text that is refused at an offset, in two parts: before the offset, and from it on.
 #[derive(Clone, Copy)]
 pub struct Context<'a> {
-    /// What is before the offset.
+    /// The part before the offset.
     before: &'a str,
-    /// What is from the offset on.
+    /// The part from the offset on.
     rest: &'a str,
     /// The token at the offset, or the characters up to the next separator, as `found_at` returns them. None at the
     /// text's end, or if there is no offset.
@@ -65,7 +65,7 @@ pub struct Context<'a> {
 }
 
 impl<'a> Context<'a> {
-    /// Returns the text around an offset in bytes, or empty texts if there is no offset.
+    /// Returns the two parts of a text at an offset in bytes. They are empty if there is no offset.
     pub fn of(text: &'a str, at: Option<usize>) -> Context<'a> {
         match at {
             Some(at) => Context {

@@ -42,7 +42,7 @@ fn describe_shown(parts: &mut Parts, value: &Value, shown: &str) -> Result<(), A
     }
 }
 
-/// Writes which limit a value exceeded.
+/// Writes the limit for the size of values, which the error `big` says was exceeded.
 fn write_size(out: &mut String) -> Result<(), AllocError> {
     let (most, max_of_text) = (
         GroupedNumber(MAX_WEIGHT as usize),

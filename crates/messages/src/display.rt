@@ -9,10 +9,10 @@ use crate::report::FaultReport;
 use message_parts::{Location, Parts, Position};
 use std::fmt;
 
-/// Prints `N8 at 95 (grammar.ag:4:47): ..`: the fault, the position, and after a colon what was expected,
-/// what was found and what to do, with commas between. Empty parts are left out. A report
-/// without a position ends with its file, if it has one. For a fault in the whole of its input, the colon before the
-/// parts is left out.
+/// Prints `N8 at 95 (grammar.ag:4:47): ..`: the fault, the position, and after a colon what was
+/// expected, what was found and what to do, with commas between. Empty parts are left out. A report
+/// without a position ends with a colon and its file, if it has one. For a fault in the whole of
+/// its input, the colon before the parts is left out.
 impl fmt::Display for FaultReport {
     ghost use Rattle.std.specs.Prelude.{Some};
     ghost use Rattle.messages.specs.Printed.{line_of};

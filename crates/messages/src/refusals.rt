@@ -24,13 +24,16 @@ use treefile::{Device, FileVersion};
 /// The names of an old tree file (one of version 1) and of the file that it is converted to.
 #[derive(Clone, Copy)]
 pub struct ConvertedPaths<'a> {
+    /// The path of the old file.
     pub old: &'a str,
+    /// The path of the file that it is converted to.
     pub new: &'a str,
 }
 
 impl FaultReport {
     /// Returns the report of a fault of the file at `path`, or of its content. The report names the
-    /// file if the fault is F1 or D1, or one of the tree in the file: R1, P2 or P3.
+    /// file if the fault is F1 or D1, or R1, P2 or P3 of the tree in the file (`Fault::Run`;
+    /// `Fault::from` makes `Fault::Device` and `Fault::NoMemory` of the other faults of a pass).
     pub fn of_file(alloc: Global, fault: Fault, path: &str) -> FaultReport {
         let is_named = matches!(fault, Fault::File | Fault::Device | Fault::Run(_));
         let report = FaultReport::new(alloc, fault);
@@ -104,7 +107,8 @@ impl FaultReport {
     ) -> FaultReport
         ensures content { LeavesContent (D.is_honest tree.new)
             (D.content tree.old) (D.content tree.new) }
-        // the last argument, `failed`, is ⊥: a report does not say that a call of the device failed
+        // the last argument of `Persists` is a premise: if it holds, the number of failures rose.
+        // It is ⊥ (false) here, so that is not claimed of any report
         ensures persists { Persists (D.is_honest tree.old) (D.is_honest tree.new)
             (D.failures tree.old) (D.failures tree.new) ⊥ }
     {
@@ -128,7 +132,8 @@ impl FaultReport {
     ) -> FaultReport
         ensures content { LeavesContent (D.is_honest old.new)
             (D.content old.old) (D.content old.new) }
-        // the last argument, `failed`, is ⊥: a report does not say that a call of the device failed
+        // the last argument of `Persists` is a premise: if it holds, the number of failures rose.
+        // It is ⊥ (false) here, so that is not claimed of any report
         ensures persists { Persists (D.is_honest old.old) (D.is_honest old.new)
             (D.failures old.old) (D.failures old.new) ⊥ }
     {
@@ -145,8 +150,9 @@ impl FaultReport {
         FaultReport::of_file(alloc, fault, path).with_tree(alloc, format, old)
     }
 
-    /// Returns the report with parts that say what is wrong with the tree in a file, or with the
-    /// translation of this tree. After P2 and P3 of the file, the location is the whole file.
+    /// Returns the report with parts that say what is wrong with the tree in a file (R1, P2 or P3),
+    /// or with the translation of this tree (O1). After P2 and P3 of the file, the location is the
+    /// whole file. For any other fault the report has no parts.
     fn with_tree<D: Device>(
         mut self,
         alloc: Global,
@@ -176,7 +182,8 @@ impl FaultReport {
     }
 }
 
-/// Returns the location of a fault of the text of a grammar.
+/// Returns the location of a fault of the text of a grammar; `InFault` for A1 and for any other
+/// fault.
 fn locate_fault_of_grammar(fault: &Fault, text: &GrammarText<'_>) -> Location {
     match fault {
         Fault::Text(fault) => locate_in_text(*fault, text),
@@ -186,7 +193,7 @@ fn locate_fault_of_grammar(fault: &Fault, text: &GrammarText<'_>) -> Location {
     }
 }
 
-/// Returns the location of a fault of a sentence.
+/// Returns the location of a fault of a sentence; `InFault` for any other fault.
 fn locate_fault_of_sentence(fault: &Fault, sentence: &Source<'_>) -> Location {
     match fault {
         Fault::Scan(fault) => locate_token(*fault, sentence),
@@ -195,7 +202,8 @@ fn locate_fault_of_sentence(fault: &Fault, sentence: &Source<'_>) -> Location {
     }
 }
 
-/// Describes a fault of the text of a grammar.
+/// Writes what was expected, what was found and what to do, for a fault of the text of a grammar.
+/// Writes nothing for any other fault.
 fn describe_fault_of_grammar(
     parts: &mut Parts,
     fault: &Fault,
@@ -210,7 +218,8 @@ fn describe_fault_of_grammar(
     }
 }
 
-/// Describes a fault of a sentence, or of its translation.
+/// Writes what was expected, what was found and what to do, for a fault of a sentence or of its
+/// translation. Writes nothing for any other fault.
 fn describe_fault_of_sentence(
     alloc: Global,
     parts: &mut Parts,

@@ -29,8 +29,8 @@ impl FaultReport {
         }
     }
 
-    /// Returns the report with the name of its file. Takes memory; if that is refused, the name is left
-    /// out.
+    /// Returns the report with the name of its file, in which characters such as control characters
+    /// are escaped. Takes memory; if that is refused, the name is left out.
     pub fn with_file(mut self, alloc: Global, path: &str) -> FaultReport {
         self.file = PlainText(path).to_string(alloc).ok();
         self

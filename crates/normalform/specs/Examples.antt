@@ -16,6 +16,7 @@ use Rattle.normalform.specs.declared.fault.NormalFault.{NormalFault}
 use Rattle.normalform.specs.declared.fault.NormalFault.TheVariants as fault
 use Rattle.normalform.specs.faults.Faults.{first_wrong, naming_checks, further_checks}
 
+-- the name of one character c, at the offset `at`
 abbrev name_at : ℕ → ℕ → Named
 name_at c at = record { name = c ∷ []; at = at }
 
@@ -28,10 +29,11 @@ second_symbol = record { name = name_at 65 34; syn = []; inh = name_at 105 40 �
 abbrev the_symbols : List RawSymbol
 the_symbols = first_symbol ∷ second_symbol ∷ []
 
--- the start symbol is at offset 6
+-- no productions, and these symbols; `start` is the one character of the start symbol's name, which is at offset 6
 abbrev with_symbols : ℕ → List RawSymbol → RawGrammar
 with_symbols start symbols = record { start = name_at start 6; symbols = symbols; productions = [] }
 
+-- One production, whose left side is the symbol with the one character `left`, at offset 46. The start symbol is S, at offset 6.
 abbrev with_production : ℕ → List RawItem → List RawRule → RawGrammar
 with_production left items rules = record {
   start = name_at 83 6;
@@ -39,11 +41,11 @@ with_production left items rules = record {
   productions = record { left = name_at left 46; items = items; rules = rules } ∷ [];
 }
 
--- the occurrence of an attribute at the left side
+-- the occurrence of the attribute named `attr` at the left side, at the offset `at`
 abbrev here : List ℕ → ℕ → Occ
 here attr at = record { place = 0; attr = attr; at = at }
 
--- a rule for an attribute of the left side, whose expression has these occurrences
+-- a rule for the attribute named `attr` of the left side, at the offset `at`; its expression is the tree e with `occurrences`
 abbrev rule_at : Node → List ℕ → ℕ → List Occ → RawRule
 rule_at e attr at occurrences = record { target = here attr at; expr = (e, occurrences) }
 

@@ -12,21 +12,27 @@ use Rattle.normalform.specs.declared.fault.NormalFault.{NormalFault}
 use Rattle.normalform.specs.faults.Faults.{IsFirstFault, HasNoFault, IsReadable, AreListedIn}
 use Rattle.normalform.specs.numbers.Numbers.{numbered}
 
+-- The numbered grammar of a raw grammar is accepted, if the raw one has no fault and is readable, and if each numbered expression
+-- lists its occurrences and has no unbound name.
 abbrev pub AcceptedWithoutFault : Type 0
 AcceptedWithoutFault = (raw : RawGrammar) → IsReadable raw → All AreListedIn (numbered raw).productions → HasNoFault raw
     → IsAccepted (numbered raw)
 
+-- A raw grammar has no fault if its numbered grammar is accepted.
 abbrev pub NoFaultWhereAccepted : Type 0
 NoFaultWhereAccepted = (raw : RawGrammar) → IsAccepted (numbered raw) → HasNoFault raw
 
+-- A raw grammar has at most one first fault.
 abbrev pub OneFirstFault : Type 0
 OneFirstFault = (raw : RawGrammar) (f h : NormalFault) → IsFirstFault raw f → IsFirstFault raw h → f ≡ h
 
+-- No raw grammar without a fault has a first fault.
 abbrev pub NoFirstFaultWithoutFault : Type 0
 NoFirstFaultWithoutFault = (raw : RawGrammar) (f : NormalFault) → IsFirstFault raw f → HasNoFault raw → ⊥
 
--- The production S = "x" NAME "y" "x" S of one symbol S: the second "x" has the number of the first, and S the number 0.
--- Texts are lists of ASCII codes: 83 is S, 120 is x, and 121 is y.
+-- The worked example: the production S = "x" NAME "y" "x" S of one symbol S. In the numbered grammar the second "x" has the
+-- number of the first, and S the number 0. Texts are lists of ASCII codes: 83 is S, 120 is x, and 121 is y. `named c` is the name
+-- of one character c, at offset 0.
 abbrev named : ℕ → Named
 named c = record { name = c ∷ []; at = 0 }
 
@@ -45,6 +51,7 @@ worked_symbol = record { name = named 83; syn = []; inh = [] }
 abbrev worked_grammar : RawGrammar
 worked_grammar = record { start = named 83; symbols = worked_symbol ∷ []; productions = worked ∷ [] }
 
+-- the numbered grammar of the example
 abbrev pub WorkedNumbers : Type 0
 WorkedNumbers = numbered worked_grammar ≡ record {
   symbols = record { name = 83 ∷ []; syn = []; inh = [] } ∷ [];

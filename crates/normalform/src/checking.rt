@@ -108,7 +108,10 @@ fn further_fault(
     first_limit(alloc, declared, symbols, productions)
 }
 
-/// Returns the number of the first symbol that is not productive (N4), if there is one.
+/// Returns the number of the first symbol that is not productive (N4), if there is one. `clauses`
+/// has the clause of each production: its left side is productive if each symbol of its right side
+/// is. Without N1 to N3 all these symbols are declared, so their numbers are below the count of
+/// symbols.
 fn unproductive(
     alloc: Global,
     raw: &RawGrammar,
@@ -125,7 +128,9 @@ fn unproductive(
     first_underivable(alloc, &clauses, &[])
 }
 
-/// Returns the number of the first symbol that is not reached (N5), if there is one.
+/// Returns the number of the first symbol that is not reached (N5), if there is one. `start` is the
+/// number of the start symbol. `edges` leads from the left side of each production to each symbol
+/// of its right side. The grammar must have none of N1 to N4.
 fn unreachable(
     alloc: Global,
     raw: &RawGrammar,
@@ -183,7 +188,8 @@ fn first_fault(alloc: Global, raw: &RawGrammar) -> Result<Option<Found>, NoMemor
     structure_fault(alloc, raw, &declared)
 }
 
-/// Returns the number of the start symbol, and the numbered productions; the expressions are moved.
+/// Returns the number of the start symbol, and the numbered productions. Moves the expressions of
+/// rules into them. Each expression lists its occurrences, and has no unbound name (`listed`).
 fn number_productions(
     alloc: Global,
     symbols: &[RawSymbol],
@@ -204,7 +210,7 @@ fn number_productions(
     Ok((start, productions))
 }
 
-/// Returns the numbered grammar of a raw one; names and expressions are moved. `Grammar::new`
+/// Returns the numbered grammar of a raw one. Moves names and expressions into it. `Grammar::new`
 /// requires an accepted grammar: the numbered one is accepted, since the raw one has no fault and
 /// is readable.
 fn number(alloc: Global, raw: RawGrammar) -> Result<Grammar, NoMemory>

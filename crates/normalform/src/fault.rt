@@ -53,7 +53,8 @@ pub enum NormalFault {
     RuleMissing(usize, usize, usize),
     /// N7: the target at this offset is that of an earlier rule of the production.
     RuleDoubled(usize),
-    /// N8: the target at this offset is inherited at place 0, or synthesized at a later place.
+    /// N8: the target at this offset is inherited at place 0, or synthesized at a later place. The
+    /// attribute `lex` of a token counts as synthesized.
     NotDefinedHere(usize),
     /// N9: the argument of a rule at this offset is synthesized at place 0, or inherited at a later
     /// place.

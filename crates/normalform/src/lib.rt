@@ -1,6 +1,7 @@
-//! Numbering the names of a grammar, and checking that it is accepted: that its names are declared
-//! once, that its start symbol has a synthesized `out` and no inherited attribute, and that it is
-//! complete, normal, reduced and within the limits.
+//! Numbers the names of a grammar, and checks that it is accepted: that each name in it has exactly
+//! one declaration, that its start symbol has a synthesized `out` and no inherited attribute, that
+//! it is complete and normal, that each symbol derives something and is reachable, and that it is
+//! within the limits. docs/THEOREM.md explains these words.
 //!
 //! A function whose error is the type `NoMemory` fails only if memory is refused; no contract says
 //! so.

@@ -57,7 +57,7 @@ after_call (suc (suc (suc (suc zero)))) at ok bytes file =
     record file { is_honest = file.is_honest && (not ok || has_bytes_at file.stored at bytes) }
 after_call (suc (suc (suc (suc (suc more))))) number ok bytes file = record file { stored = if ok then [] else file.stored }
 
--- the replay of these calls; the list has the newest call first
+-- the replay of these calls; the list has the newest call first; an empty list is the replay of an empty file
 abbrev pub replay : List Event → Replay
 replay [] = record { stored = []; is_honest = true }
 replay (e ∷ earlier) = after_call e.0 e.1 e.2 e.3 (replay earlier)

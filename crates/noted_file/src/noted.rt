@@ -3,7 +3,7 @@
 //! and reads), and then adds one entry with the result to the record. An `open` that fails records
 //! nothing. One clause says what the file itself received: `taken` of `append`, where a contract
 //! can name the file's bytes. No other clause can say that an operation was performed as recorded:
-//! a reviewer has to compare the two in each body.
+//! a reviewer has to compare the operation and the entry in each body.
 ghost use Rattle.std.specs.Prelude.{◌≡◌, ◌∷◌, true, false, is_ok, length, IfOk, MatchResult, OnOk};
 ghost use Rattle.std.specs.Io.KnownBytes.{Appends};
 ghost use Rattle.noted_file.specs.Calls.{append_event, length_event, open_event, read_event};
@@ -51,8 +51,9 @@ fn fill_from<F: Read + Seek>(file: &mut F, at: u64, out: &mut [u8]) -> io::Resul
 }
 
 impl<F: Read + Write + Seek + OpenFile> NotedFile<F> {
-    /// Opens the file at `path` with the options `how`, and continues the record `before`. Fails with the
-    /// system's error if the file can't be opened; nothing is recorded then.
+    /// Opens the file at `path` with the options `how`, and continues the record `before`. `rt` is the
+    /// runtime, which provides files. Fails with the system's error if the file can't be opened; nothing
+    /// is recorded then.
     pub fn open<Rt: Files<File = F>>(
         rt: &Rt,
         how: &OpenOptions,

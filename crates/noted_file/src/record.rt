@@ -7,7 +7,7 @@ use std::marker::{Model, PhantomData};
 
 /// The calls on one file with their results, newest first. The oldest entry has an initial content
 /// of the file. No clause says that the file had this content when it was first opened. The record
-/// occupies no memory: only contracts can read it.
+/// occupies no memory, since `marker` has no bytes, and `events` exists only for proofs.
 #[derive(Drop)]
 pub struct CallRecord {
     marker: PhantomData<u8>,

@@ -13,11 +13,13 @@ use Rattle.ag_grammar.specs.declared.syntax.node.Node.{Node}
 use Rattle.ag_grammar.specs.expressions.Evaluation.{value_of}
 use Rattle.ag_value.specs.operations.Arguments.{fault_of}
 
--- The values at the places of a node: place 0 is the node itself, 1, 2, .. are its children.
+-- The values at the places of a node, by place and by number of the attribute there. Place 0 is the node itself, 1, 2, .. are
+-- its children.
 abbrev pub Table : Type 0
 Table = ℕ → ℕ → Value
 
--- one value in the place of the error overflow, and another in that of every other error; a value that is not an error stays
+-- The value `first` in the place of the error overflow (number 1), and `other` in that of every other error. The third argument
+-- is the error code of the value v, or None if v is not an error: then v stays.
 abbrev pub exchanged_to : Value → Value → Option ErrorCode → Value → Value
 exchanged_to first other None v = v
 exchanged_to first other (Some c) v = if nat_eq (number_of c) 1 then first else other
@@ -26,19 +28,19 @@ exchanged_to first other (Some c) v = if nat_eq (number_of c) 1 then first else 
 abbrev pub exchanged : Value → Value
 exchanged v = exchanged_to (value.Fault Divide) (value.Fault Overflow) (fault_of v) v
 
--- both are an error, and the same one
+-- a test: both are an error, and the same one (None: not an error)
 abbrev pub is_same_error : Option ErrorCode → Option ErrorCode → Bool
 is_same_error None d = false
 is_same_error (Some c) None = false
 is_same_error (Some c) (Some d) = nat_eq (number_of c) (number_of d)
 
 -- An error arises in an expression: its value is an error, and would be the same one if every error among the values of its
--- occurrences were another error. So it comes from none of them.
+-- occurrences were exchanged. So it comes from none of them.
 unfoldable pub arises : Node → (ℕ → Value) → Bool
 arises e env = is_same_error (fault_of (value_of e env)) (fault_of (value_of e (λ k. exchanged (env k))))
 
--- The value of the argument that an occurrence refers to. An occurrence without an argument has the number 0; a rule of an
--- accepted grammar has no such occurrence.
+-- The value of the argument that an occurrence refers to. The value is 0 if the occurrence has no argument; a rule of an accepted
+-- grammar has no such occurrence.
 abbrev pub value_at : Table → Option Target → Value
 value_at e None = Num (pos 0)
 value_at e (Some o) = e o.place o.attr

@@ -44,16 +44,17 @@ abbrev pub AnswersSource : Rule → Table → Option Target → Type 0
 AnswersSource r e None = (fault_of (value_of r.expr.0 (environment r e)) ≡ None) ⊎ (is_arising e r ≡ true)
 AnswersSource r e (Some o) = (k : ℕ) × (slice_get r.args k ≡ Some o) × IsSource r e k
 
--- the tree at the end of a path, and the values in it
+-- the tree at the end of a path of child numbers, if there is one
 abbrev pub tree_at : Option Tree → List ℕ → Option Tree
 tree_at t [] = t
 tree_at t (i ∷ path) = tree_at (child_of t i) path
 
+-- the values of the tree at the end of a path, from those of the whole tree
 abbrev pub values_at : Valuation → List ℕ → Valuation
 values_at v [] = v
 values_at v (i ∷ path) = values_at (below i v) path
 
--- A rule of a node of a tree: the node's production, and its values.
+-- r is a rule of the production of the node at the end of a path, and e has the values at the places of this node.
 pub record IsRuleAt (g : Grammar) (t : Tree) (v : Valuation) (path : List ℕ) (r : Rule) (e : Table) : Type 0 where
   pub production : ℕ
   pub trees : Forest
@@ -72,8 +73,9 @@ pub data HasCause (g : Grammar) (t : Tree) (v : Valuation) : List ℕ → ℕ �
       → slice_get r.args k ≡ Some o → HasCause g t v (place_path path o.place) o.attr
       → HasCause g t v (place_path path r.target.place) r.target.attr
 
--- R holds of the path of each node of a tree and a list with the pass of each attribute of the node. (The list says which
--- attributes the node has.) For a token it is the list of the one pass 0, that of its `lex`.
+-- R path ps holds at each node of a tree, where `path` leads to the node, and ps has the pass of each of its attributes, by
+-- number. (So ps shows which attributes the node has.) A token has one attribute, `lex`, of pass 0. `HoldsAt` has the path of the
+-- tree's root, and `HoldsIn` the path of a node and the number n of the first of the children that it is about.
 abbrev mutual
   pub HoldsAt : (List ℕ → List ℕ → Type 0) → Grammar → Passes → Tree → List ℕ → Type 0
   HoldsAt R g m (leaf c x) path = R path (0 ∷ [])

@@ -26,32 +26,32 @@ IsLike (Some c) v w = has_fault (fault_of w) ≡ true
 pub record AreAlike (base env : ℕ → Value) : Type 0 where
   pub each : (k : ℕ) → IsLike (fault_of (base k)) (base k) (env k)
 
--- what is known is true of a value in an environment
+-- What is known is true of a value. `ErrorOf k` speaks of the value of occurrence k in the environment env.
 abbrev pub Holds : (ℕ → Value) → Known → Value → Type 0
 Holds env (known.Number n) v = v ≡ value.Num n
 Holds env known.Clean v = fault_of v ≡ None
 Holds env (known.ErrorOf k) v = (fault_of v ≡ fault_of (env k)) × (has_fault (fault_of (env k)) ≡ true)
 Holds env known.Nothing v = Unit {0}
 
--- what is known is true of a value that depends on no environment
+-- What is known is true of a value that depends on no environment, such as that of a literal. So `ErrorOf` is not true of it.
 abbrev pub States : Value → Known → Type 0
 States v (known.Number n) = v ≡ value.Num n
 States v known.Clean = fault_of v ≡ None
 States v (known.ErrorOf k) = ⊥
 States v known.Nothing = Unit {0}
 
--- the same as `States`, as a record
+-- the same as `States`, as a statement with a named fact
 pub record IsStated (v : Value) (r : Known) : Type 0 where
   pub states : States v r
 
--- what is known is true of the value v of occurrence k
+-- What is known is true of the value v of occurrence k. `ErrorOf` can then only name k itself.
 abbrev pub Describes : Value → ℕ → Known → Type 0
 Describes v k (known.Number n) = v ≡ value.Num n
 Describes v k known.Clean = fault_of v ≡ None
 Describes v k (known.ErrorOf j) = (j ≡ k) × (has_fault (fault_of v) ≡ true)
 Describes v k known.Nothing = Unit {0}
 
--- A value is a text that spells a number, if a number is known.
+-- If a number is known, v is a text that spells this number. If nothing is known, nothing is claimed; nothing else can be known.
 abbrev pub Spells : Value → Known → Type 0
 Spells v (known.Number n) = (text : List ℕ) × (v ≡ value.Text text) × (spelled_number text ≡ Some n)
 Spells v known.Clean = ⊥
@@ -62,29 +62,35 @@ Spells v known.Nothing = Unit {0}
 pub record IsKnown (base : ℕ → Value) (e : Node) (r : Known) : Type 0 where
   pub holds : (env : ℕ → Value) (bound : List Value) → AreAlike base env → Holds env r (value_in e env bound)
 
--- In a chain of operators, if a is known of the value of the operands before `others`, then r is known of the chain's value.
+-- In a chain of operators, `others` are the last operands, each with the operator before it. If a is known of the value of what
+-- comes before them, then r is known of the chain's value.
 pub record Continues (base : ℕ → Value) (a : Known) (others : List (Operator × Node)) (r : Known) : Type 0 where
   pub holds : (env : ℕ → Value) (bound : List Value) (v : Value) → AreAlike base env → Holds env a v
       → Holds env r (chain_value env bound v (map (λ p. (p.0, value_in p.1)) others))
 
--- In a chain, a is known of the value before the operands `others`, and b of the value before `rest`, the last few of these
--- operands. If b and `rest` show that r is known of the whole chain, then so do a and `others`.
+-- The state of a loop over the operands `others`, of which `rest` are still to come: a is known of the value before `others`, and
+-- b of the value before `rest`. What b and `rest` show of the whole chain, a and `others` show too.
 pub record Reaches (base : ℕ → Value) (a : Known) (others : List (Operator × Node)) (b : Known) (rest : List (Operator × Node))
     : Type 0 where
   pub onward : (r : Known) → Continues base b rest r → Continues base a others r
 
--- What is known of the result of an operator, of a call, of an `if` or of a `put` follows from what is known of its arguments.
+-- The five definitions below say: if the first values (of type `Known`) are known of the operands or arguments, in their order,
+-- then the last one, r, is known of the result. This one is about an operator.
 pub record StepsTo (o : Operator) (a b r : Known) : Type 0 where
   pub holds : (env : ℕ → Value) (v w : Value) → Holds env a v → Holds env b w → Holds env r (operation_result o v w)
 
+-- a call with one argument
 pub record CallsTo (call : UnaryCall) (a r : Known) : Type 0 where
   pub holds : (env : ℕ → Value) (v : Value) → Holds env a v → Holds env r (unary_call_result call v)
 
+-- a call with two arguments
 pub record CallsBoth (call : BinaryCall) (a b r : Known) : Type 0 where
   pub holds : (env : ℕ → Value) (v w : Value) → Holds env a v → Holds env b w → Holds env r (binary_call_result call v w)
 
+-- an `if`: c is known of the condition, a of the part after `then`, b of the part after `else`
 pub record ChoosesTo (c a b r : Known) : Type 0 where
   pub holds : (env : ℕ → Value) (u v w : Value) → Holds env c u → Holds env a v → Holds env b w → Holds env r (choice_of u v w)
 
+-- a call of `put`: t is known of the table, k of the key, a of the item
 pub record PutsTo (t k a r : Known) : Type 0 where
   pub holds : (env : ℕ → Value) (u v w : Value) → Holds env t u → Holds env k v → Holds env a w → Holds env r (put u v w)

@@ -9,7 +9,7 @@ use Rattle.treefile.specs.records.TreeFile.{body_from, body_of}
 use Rattle.origins.specs.declared.record.LastRecord.{LastRecord}
 use Rattle.origins.specs.declared.record.LastRecord.TheVariants as record_of
 
--- a body is the record of a node of a production, with well values
+-- a body is the record of a node of the production with number p, with the values vs, which are well
 pub record IsNode (g : Grammar) (body : List ℕ) (p : ℕ) (vs : List Value) : Type 0 where
   pub production : Production
   pub there : IsProduction g p production
@@ -22,6 +22,7 @@ pub record IsTokenBody (body : List ℕ) : Type 0 where
   pub spelling : List ℕ
   pub same : body ≡ body_from Token class spelling
 
+-- a body is the record that `record_of` returns
 abbrev pub IsRecord : Grammar → List ℕ → LastRecord → Type 0
 IsRecord g body (record_of.Node p vs) = IsNode g body p vs
 IsRecord g body record_of.Token = IsTokenBody body

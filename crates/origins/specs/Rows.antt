@@ -12,11 +12,12 @@ use Rattle.ag_grammar.specs.grammars.AttributeGrammar.{Grammar, attribute_names,
 use Rattle.treefile.specs.records.Records.{synthesized_count}
 use Rattle.origins.specs.Arising.{Table}
 
--- the number of attributes of a symbol
+-- the number of attributes of a symbol; 0 if there is none
 abbrev pub count_of_symbol : Option Symbol → ℕ
 count_of_symbol None = 0
 count_of_symbol (Some s) = length (attribute_names s)
 
+-- the same for the symbol with number s of a grammar
 abbrev pub attribute_count : Grammar → ℕ → ℕ
 attribute_count g s = count_of_symbol (slice_get g.symbols s)
 
@@ -47,8 +48,8 @@ abbrev pub argument : Grammar → Production → List Value → Value → Option
 argument g q vs spare None = spare
 argument g q vs spare (Some o) = get_or vs (slot g q o) spare
 
--- The values at the places of a node that a rule may use, by the values of the node's record: those of the left side, and the
--- synthesized ones of the children. An inherited attribute of a child, which no rule of the node may use, has some value here.
--- If the list is too short, the value is 0.
+-- The values at the places of a node, taken from the list vs of the values of the node's record. They are right for the
+-- attributes that a rule of the node may use: those of the left side, and the synthesized ones of the children. For an inherited
+-- attribute of a child the value has no meaning. If the list is too short, the value is 0.
 abbrev pub table_of : Grammar → Production → List Value → Table
 table_of g q vs j a = get_or vs (start g q j + a) (Num (pos 0))

@@ -1,4 +1,6 @@
--- A walk over the file of the last pass from its end: what was read, and what is still to come. All of this is this project's.
+-- A walk over the file of the last pass from its end: what was read, and what is still to be read. In these definitions g is a
+-- grammar, m an assignment of passes, k the number of a pass, d the direction of the walk, t a tree and v its values. All of this
+-- is this project's.
 use Rattle.std.specs.Prelude.{ℕ, zero, suc, ◌≡◌, ◌+◌, ◌-◌, ◌^◌, ◌<◌, ◌≤◌, ◌⊎◌, Bool, false, List, [], ◌∷◌, ◌++◌, Option, Some}
 use Rattle.std.specs.Prelude.{None, Ok, drop, reverse, length, if◌then◌else◌}
 use Rattle.std.specs.List.{flat_map}
@@ -55,15 +57,17 @@ upcoming d o f = drop o.visited (in_order d (kids 0 f.trees f.values))
 abbrev pub last_of : Direction → Open → ℕ
 last_of d o = nth d o.children (o.visited - 1)
 
--- The path from the root to the child that was visited last of the innermost open node. The list begins with the innermost one.
+-- The path from the root to the child that was visited last of the innermost open node. The list of open
+-- nodes begins with the innermost one.
 abbrev pub way : Direction → List Open → List ℕ
 way d [] = []
 way d (o ∷ os) = way d os ++ last_of d o ∷ []
 
--- the bodies of records, in the order of the walk: of a child's tree, and of the unvisited children of all open nodes
+-- the bodies of the records of a child's tree, in the order of the walk
 abbrev pub bodies_of_kid : Grammar → Passes → ℕ → Direction → Kid → List (List ℕ)
 bodies_of_kid g m k d kid = prefix d (bodies_of version_two g m k kid.tree kid.values)
 
+-- the same, for the unvisited children of all open nodes (the innermost one first), with the family of each of these nodes
 abbrev pub pending_bodies : Grammar → Passes → ℕ → Direction → List Open → List Family → List (List ℕ)
 pending_bodies g m k d [] fs = []
 pending_bodies g m k d (o ∷ os) [] = []
@@ -104,15 +108,15 @@ AreOpen g m k (o ∷ os) (f ∷ fs) =
     × SolvesAll NoRule g f.trees f.values × AtEachNodeOf (WellAt (λ p. p ≤ k)) g m f.trees f.values f.values
     × (o.children ≡ length (stored_items q.items)) × AreOpen g m k os fs
 
--- The argument is `Some` of the path of an origin, and `path` does not come before it.
+-- The first argument is `Some` of a path, and the second one, `path`, does not come before it.
 abbrev pub IsNotBefore : Option (List ℕ) → List ℕ → Type 0
 IsNotBefore None path = ⊥
 IsNotBefore (Some first) path = is_before path first ≡ false
 
--- What is true between two steps of the walk over a tree. Left to read are the records of the subtrees of all unvisited children
--- of open nodes. The rules that were counted and those to come are all rules of the tree in which an error arises. The first
--- origin that was found, and those to come, are origins of the tree. Each origin of the tree is to come, or does not come before
--- the first one that was found.
+-- What is true between two steps of the walk over a tree. Before the offset `at` are the records of the *pending* subtrees, those
+-- of the unvisited children of open nodes. The count, added to the number of pending rules in which an error arises, is that of
+-- all such rules. The first origin that was found, and the pending ones, are origins of the tree. Each origin of the tree is
+-- pending, or does not come before the first one that was found.
 pub record IsSoFar (g : Grammar) (m : Passes) (k : ℕ) (d : Direction) (t : Tree) (v : Valuation) (content : List ℕ) (at : ℕ)
     (open_nodes : List Open) (first : Option (List ℕ)) (count : ℕ) : Type 0 where
   pub families : List Family
@@ -123,7 +127,7 @@ pub record IsSoFar (g : Grammar) (m : Passes) (k : ℕ) (d : Direction) (t : Tre
   pub pending : (path : List ℕ) → ArePending g d open_nodes families path → HasOrigin g path (Some t) v
   pub all : (path : List ℕ) → HasOrigin g path (Some t) v → ArePending g d open_nodes families path ⊎ IsNotBefore first path
 
--- The tree of an item is read next, below open nodes. The other facts are as in `IsSoFar`.
+-- The subtree of the item x, below the open nodes, is read next. The other facts are as in `IsSoFar`.
 pub record IsPending (g : Grammar) (m : Passes) (k : ℕ) (d : Direction) (t : Tree) (v : Valuation) (content : List ℕ) (at : ℕ)
     (x : Item) (open_nodes : List Open) (first : Option (List ℕ)) (count : ℕ) : Type 0 where
   pub tree : Tree
@@ -157,7 +161,8 @@ abbrev pub IsNextRecord : Grammar → Direction → List ℕ → ℕ → Item �
 IsNextRecord g d content at x open_nodes first count =
     OfEach (λ m k t v. IsPending g m k d t v content at x open_nodes first count) g content
 
--- A reader reads this content as a file of version 2, and has no permanent fault.
+-- A reader reads a file of version 2, and has no permanent fault. If the device is honest, this content is what it
+-- reads.
 pub record IsReady (honest : Bool) (content : List ℕ) (state : BackState) : Type 0 where
   pub over : WhenHonest honest (IsOver content state)
   pub version : state.progress.version ≡ version_two

@@ -20,7 +20,8 @@ use ag_value::{ErrorCode, NoMemory, Value};
 use std::alloc::Global;
 
 impl<'a> Row<'a> {
-    /// Evaluates a rule at the node.
+    /// Evaluates a rule at the node. An argument that the record lacks has the value 0. Fails with
+    /// NoMemory if memory is refused.
     fn evaluate(&self, alloc: Global, rule: &Rule) -> Result<Value, NoMemory>
         requires arguments { length rule.now.args ≡ length rule.now.expr.1 }
         ensures { IfOk result (λ v. v ≡ value_of rule.now.expr.0 (environment rule.now
@@ -36,7 +37,8 @@ impl<'a> Row<'a> {
         eval(alloc, &rule.expr, &arguments, &mut meter)
     }
 
-    /// Evaluates a rule with each error among its arguments exchanged, as by `ExchangedErrors`.
+    /// Evaluates a rule with each error among its arguments exchanged, as by `ExchangedErrors`. Fails
+    /// as `evaluate` does.
     fn evaluate_exchanged(&self, alloc: Global, rule: &Rule) -> Result<Value, NoMemory>
         requires arguments { length rule.now.args ≡ length rule.now.expr.1 }
         ensures { IfOk result (λ v. v ≡ value_of rule.now.expr.0 (λ k. exchanged (environment rule.now
@@ -59,7 +61,8 @@ impl<'a> Row<'a> {
         eval(alloc, &rule.expr, &exchanged, &mut meter)
     }
 
-    /// Evaluates a rule with each error among its first `count` arguments exchanged.
+    /// Evaluates a rule with each error among its first `count` arguments exchanged. Fails as
+    /// `evaluate` does.
     fn evaluate_first_exchanged(
         &self,
         alloc: Global,
@@ -115,7 +118,8 @@ impl<'a> Row<'a> {
         Ok(is_same_error(Some(code), error_of(&other)))
     }
 
-    /// Returns the number of rules of the node's production in which an error arises.
+    /// Returns the number of rules of the node's production in which an error arises. Fails as
+    /// `is_arising` does.
     pub(crate) fn arising_count(&self, alloc: Global) -> Result<usize, NoMemory>
         requires arguments { Each (λ (r : TheRule). length r.args ≡ length r.expr.1)
             self.now.production.now.rules }
@@ -146,7 +150,8 @@ impl<'a> Row<'a> {
         error_of(arguments.lend(number)).is_some()
     }
 
-    /// Evaluates a rule, and returns the error that its value is, if it is one.
+    /// Evaluates a rule, and returns its value's error code; `None` if the value is not an error.
+    /// Fails as `evaluate` does.
     fn error_in(&self, alloc: Global, rule: &Rule) -> Result<Option<ErrorCode>, NoMemory>
         requires arguments { length rule.now.args ≡ length rule.now.expr.1 }
         ensures { IfOk result (λ code. code ≡ fault_of (value_of rule.now.expr.0 (environment rule.now
@@ -159,7 +164,7 @@ impl<'a> Row<'a> {
     /// Returns whether a rule, whose value is the error `code`, has the same error with the errors
     /// among its first `number + 1` arguments exchanged. Requires that it has the same error with
     /// those among the first `number` exchanged. Evaluates the rule only if the argument `number`,
-    /// from 0, is an error.
+    /// from 0, is an error. Fails as `evaluate` does.
     #[tactic(auto, using(crate::proofs::Sources::still_clean), unfolding(crate::specs::Causes::is_still))]
     fn is_still(
         &self,
@@ -185,7 +190,8 @@ impl<'a> Row<'a> {
         Ok(is_same_error(Some(code), error_of(&other)))
     }
 
-    /// Returns what is known of the value of a rule without an evaluation.
+    /// Returns what is known of the value of a rule without an evaluation (`Known` lists what can be
+    /// known).
     fn known(&self, rule: &Rule) -> Known
         ensures { IsKnown (environment rule.now (table_of self.now.grammar.now
             self.now.production.now self.now.values.now)) rule.now.expr.0 result }
@@ -231,6 +237,7 @@ impl<'a> Row<'a> {
     }
 
     /// Returns the argument that passes its error on to a rule, as `source_of` does, but always by evaluations.
+    /// Fails as `source_of` does.
     #[tactic(auto, using(crate::proofs::Caused::still_none, crate::proofs::Caused::arises_here))]
     fn evaluated_source(&self, alloc: Global, rule: &Rule) -> Result<Option<Target>, NoMemory>
         requires arguments { length rule.now.args ≡ length rule.now.expr.1 }

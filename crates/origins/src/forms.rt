@@ -1,4 +1,5 @@
-//! What is known of the value of a rule without an evaluation: often which argument passes its error on.
+//! What is known of the value of a rule without an evaluation. If the value is known to be the error of an argument, this
+//! argument passes its error on.
 
 ghost use Rattle.std.specs.Prelude.{IfSome, ◌≡◌, ◌+ℤ◌, ◌-ℤ◌, ◌*ℤ◌, ℕ};
 ghost use Rattle.ag_value.specs.declared.value.Value.{Value as AttributeValue};
@@ -28,7 +29,8 @@ pub(crate) enum Known {
 }
 
 impl<'a> Row<'a> {
-    /// Returns what is known of the value of a part of a rule.
+    /// Returns what is known of the value of a part of a rule: of its expression, or of a subexpression.
+    /// Of a name that `let` binds, and of a list, nothing is known.
     #[cycle(knowing)]
     #[tactic(auto, using(crate::proofs::Knowing::parts))]
     pub(crate) fn known_of(&self, rule: &Rule, part: &Node) -> Known
@@ -84,7 +86,8 @@ impl<'a> Row<'a> {
         known
     }
 
-    /// Returns what is known of `number(part)`.
+    /// Returns what is known of `number(part)`. If the part is an argument whose value is a text that
+    /// spells a number, this number is known.
     #[cycle(knowing)]
     #[tactic(auto, using(crate::proofs::Knowing::known_unary))]
     fn number_known(&self, rule: &Rule, part: &Node) -> Known
@@ -188,7 +191,8 @@ fn literal_known(literal: &Literal) -> Known
     literal_stated(literal)
 }
 
-/// Returns the same as `literal_known`; the contract states it of the literal's value.
+/// Returns the same as `literal_known`. The contract is about the value of the literal, which is the
+/// error big or deep if the literal exceeds the limits of values.
 fn literal_stated(literal: &Literal) -> Known
     ensures { States (fit literal.now) result }
 {
@@ -203,7 +207,8 @@ fn literal_stated(literal: &Literal) -> Known
     }
 }
 
-/// Returns what is known of the result of an operator.
+/// Returns what is known of the result of an operator from what is known of its operands. If the left
+/// operand is an error, the result is this error; otherwise, if the right one is an error, it is that.
 #[tactic(auto, using(crate::proofs::Knowing::steps))]
 fn step_known(operator: Operator, left: Known, right: Known) -> Known
     ensures { StepsTo operator left right result }
@@ -260,7 +265,8 @@ fn product_known(left: i64, right: i64) -> Known
     }
 }
 
-/// Returns what is known of a call with one argument.
+/// Returns what is known of a call with one argument. Its result is the argument's error, if that is
+/// one; only `iserr` accepts errors.
 #[tactic(auto, using(crate::proofs::Knowing::unary_calls))]
 fn unary_known(call: UnaryCall, argument: Known) -> Known
     ensures { CallsTo call argument result }
@@ -276,7 +282,8 @@ fn unary_known(call: UnaryCall, argument: Known) -> Known
     }
 }
 
-/// Returns what is known of a call with two arguments.
+/// Returns what is known of a call with two arguments. Except for `orelse`, its result is the first
+/// argument's error if that is one, and otherwise the second argument's, if that is one.
 #[tactic(auto, using(crate::proofs::Knowing::binary_calls))]
 fn binary_known(call: BinaryCall, first: Known, second: Known) -> Known
     ensures { CallsBoth call first second result }
@@ -292,7 +299,8 @@ fn binary_known(call: BinaryCall, first: Known, second: Known) -> Known
     }
 }
 
-/// Returns what is known of `orelse(first, second)`.
+/// Returns what is known of `orelse(first, second)`, which is `second` if `first` is an error, and
+/// `first` otherwise.
 #[tactic(auto, using(crate::proofs::Knowing::others))]
 fn other_known(first: Known, second: Known) -> Known
     ensures { CallsBoth BinaryCall.OrElse first second result }
@@ -305,7 +313,8 @@ fn other_known(first: Known, second: Known) -> Known
     }
 }
 
-/// Returns what is known of `if condition then one else other`.
+/// Returns what is known of `if condition then one else other`. It is `other` if the condition is 0,
+/// `one` if the condition is another number, and the condition's error if that is one.
 #[tactic(auto, using(crate::proofs::Knowing::choices))]
 fn choice_known(condition: Known, one: Known, other: Known) -> Known
     ensures { ChoosesTo condition one other result }
@@ -317,7 +326,8 @@ fn choice_known(condition: Known, one: Known, other: Known) -> Known
     }
 }
 
-/// Returns what is known of `put(table, key, item)`.
+/// Returns what is known of `put(table, key, item)`. Its result is the leftmost error among the
+/// arguments, if there is one.
 #[tactic(auto, using(crate::proofs::Knowing::puts))]
 fn put_known(table: Known, key: Known, item: Known) -> Known
     ensures { PutsTo table key item result }

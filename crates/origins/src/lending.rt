@@ -1,4 +1,4 @@
-//! Environments over the values in a node's record.
+//! Environments over the values in a node's record. From an environment an evaluation gets the values of a rule's arguments.
 
 ghost use Rattle.std.specs.Prelude.{◌≡◌};
 ghost use Rattle.ag_value.specs.Spelling.{number_of};
@@ -15,8 +15,11 @@ use ag_value::{ErrorCode, Value};
 /// argument that the record does not have.
 #[derive(Drop)]
 pub(crate) struct Arguments<'a> {
+    /// The values of the record.
     pub(crate) row: &'a Row<'a>,
+    /// The rule's arguments, by the numbers with which they are lent.
     pub(crate) arguments: &'a [Target],
+    /// The value of an argument that the record lacks.
     pub(crate) spare: &'a Value,
 }
 
@@ -64,6 +67,7 @@ impl<'a> Environment for ExchangedErrors<'a> {
         let value = self.arguments.lend(k);
         match error_of(value) {
             None => value,
+            // 1 is the number of the error overflow
             Some(code) => if number_of(code) == 1 {
                 self.divide
             } else {

@@ -44,8 +44,7 @@ fn copied(grammar: &Grammar, item: Item) -> usize
     }
 }
 
-/// Returns the number of copies that a record has of the values at the first `children` children of a right
-/// side.
+/// Returns the number of values that a record copies from the first `children` children of a right side.
 fn copies_before(grammar: &Grammar, items: &[Item], children: u16) -> usize
     requires { length items.now ≤ max_items }
     ensures count { result ≡ copies_before grammar.now (stored_items items.now) children }

@@ -21,8 +21,8 @@ use backreader::Back;
 use std::alloc::Global;
 use treefile::Device;
 
-/// A bound of the number of turns of the loop in `find_origins`: one for each record but the
-/// root's, one to leave each node, and one in which no node is open.
+/// A bound of the number of turns of the loop in `find_origins`, for a tree of `MAX_NODES` nodes: one
+/// for each record but the root's, one to leave each node, and one in which no node is open.
 const MAX_TURNS: u32 = 2 * MAX_NODES + 1;
 
 /// Where errors arise in a tree.
@@ -105,7 +105,8 @@ pub(crate) struct Open {
 }
 
 impl Open {
-    /// Returns the number of the child that was visited last, from 0, counted from the left.
+    /// Returns the number, from 0 and from the left, of the child that was visited last. If none was
+    /// visited, returns the number of the child that is visited first.
     pub(crate) fn last(self, direction: Direction) -> u16
         ensures { result ≡ last_of direction self }
     {
@@ -144,7 +145,8 @@ pub(crate) fn stored_among(items: &[Item]) -> u16
 }
 
 /// Returns the item of the child with index `index`, from 0, of a node of the production `number`,
-/// or `None` if the production or the child does not exist.
+/// or `None` if the production or the child does not exist. The index has to be below 65,535, since
+/// `item_at` gets the child's place, which is one more.
 pub(crate) fn child_at(grammar: &Grammar, number: u16, index: u16) -> Option<Item>
     requires { index < 65535 }
     ensures { IfSome result (λ x. (q : TheProduction) → IsProduction grammar.now number q
@@ -283,8 +285,9 @@ impl Walk {
         }
     }
 
-    /// Visits the next child of the innermost open node, or leaves the node if it has no other. The
-    /// caller took `node` from the list of open nodes. Fails as `read`.
+    /// Visits the next child of the innermost open node, or leaves the node if all its children were
+    /// visited. The caller removed `node` from the list of open nodes. It is put back before a child is
+    /// read. Fails as `read`, and with R1 if the grammar does not have the node's production.
     fn turn<D: Device>(
         &mut self,
         alloc: Global,
@@ -327,8 +330,9 @@ impl Walk {
         self.read(alloc, context, item, device)
     }
 
-    /// Ends the walk when no node is open. Fails with R1 if anything is left to read, and with D1
-    /// if the device fails.
+    /// Ends the walk when no node is open. Fails with R1 if bytes are left between the header and the
+    /// records that were read, with D1 if a call of the device fails, and with NoMemory if memory is
+    /// refused.
     fn end<D: Device>(mut self, device: &mut D) -> Result<Origins, WalkFault>
         requires ready { IsReady (D.is_honest device.old) (D.content device.old) self.back }
         ensures found { IfOk result (λ found. found ≡ self.found) }
@@ -368,6 +372,7 @@ pub fn find_origins<D: Device>(
         (D.failures device.old) (D.failures device.new) (IsErrOf result WalkFault.Device) }
 {
     let back = Back::start(alloc, device)?;
+    // a file that is read from its end has the children in the direction opposite to that of its pass
     let context = WalkContext {
         grammar,
         direction: Direction::of_pass(back.pass()).turned(),

@@ -77,7 +77,8 @@ abbrev pub AgreesSoFar : Setting → Production → ℕ → Table → Table → 
 AgreesSoFar c q n e s = (j a p : ℕ) (x : Item) → slice_get (stored_items q.items) j ≡ Some x
     → slice_get (copied_passes c x) a ≡ Some p → p ≤ c.write → (p < c.write) ⊎ IsReached c q n (suc j) → s (suc j) a ≡ e (suc j) a
 
--- The valuations of the trees of the first i visited children (of n) give their roots the values in the table.
+-- The valuations of the trees of the first i visited children (of n) give their roots the values in the table. `ws b` is that of
+-- the b-th of these children from the left, from 0 on.
 abbrev pub Roots : Direction → ℕ → ℕ → (ℕ → Valuation) → Table → Type 0
 Roots d n i ws e = (b a : ℕ) → b < i → ws b [] a ≡ e (suc (leftmost d n i + b)) a
 

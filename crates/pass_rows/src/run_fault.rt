@@ -12,17 +12,17 @@ use treefile::{DeviceFault, FrameFault};
 /// documents what its devices contain after a failure.
 #[derive(Clone, Copy, Debug, PartialEq, Eq)]
 pub enum RunFault {
-    /// R1: the file is that of no tree of the grammar after the pass before the first one that runs;
-    /// for `upgrade`, that of no tree of the grammar in version 1 before all passes. The offset in bytes
-    /// is 0 if the content does not begin as a tree file of the version that is read, and 4 if it is the
-    /// file of another pass. Otherwise it is the end of the frame that shows the damage, or the offset at
-    /// which a frame should end.
+    /// R1: the file that was to be read is the file of no tree of the grammar. For pass k, and for all
+    /// passes from k on, that would be a file of pass k - 1; for `upgrade`, a file of version 1 and
+    /// pass 0. The offset in bytes is 0 if the content does not begin as a tree file of the version that
+    /// is read, and 4 if it is the file of another pass. Otherwise it is the end of the frame that shows
+    /// the damage, or the offset at which a frame should end.
     Damaged(u64),
     /// P2: the file encodes no tree of at most `MAX_DEPTH` levels (`MAX_REVERSED_LEVELS` for
-    /// `upgrade`): the next record would be one level deeper.
+    /// `upgrade`): the node of the next record would be one level below the limit.
     TooDeep,
     /// P3: the file encodes no tree of at most `MAX_NODES` nodes (`MAX_REVERSED_RECORDS` for
-    /// `upgrade`): the next record would be one too many.
+    /// `upgrade`): that many records were read, and another one is expected.
     TooManyNodes,
     /// D1: a call of one of the devices failed.
     Device,

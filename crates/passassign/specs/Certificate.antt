@@ -36,10 +36,11 @@ IsOneOf some (Some (item.Terminal t)) a = ⊥
 abbrev pub IsSameOrLater : Direction → (j i : ℕ) → Type 0
 IsSameOrLater d j i = (1 ≤ j) × (1 ≤ i) × ((i ≡ j) ⊎ IsBefore d j i)
 
--- Argument o is a reason why a pass of this direction can't compute the target, at place j, of a rule of production q.
--- There are two cases. The argument is struck itself. Or it is a candidate, so it has no earlier pass, and is at the target's
--- child or at one that the pass visits later; so it is not computed before the pass enters the target's child (after Jazayeri
--- and Walter 1975, where every argument at a later child is a reason).
+-- Argument o is a reason why a pass of direction d can't compute the target, at place j, of a rule of production q. `candidate`
+-- are the attributes that have no earlier pass, and `struck` those of them that are struck. There are two cases: the argument is
+-- struck; or it is a candidate, and is at the target's child or at one that the pass visits later. In the second case it is not
+-- computed before the pass enters the target's child (after Jazayeri and Walter 1975; there every argument at a later child is a
+-- reason, here one that an earlier pass has computed is none).
 abbrev pub IsReasonWhere : Direction → (candidate struck : Attributes) → Production → ℕ → Target → Type 0
 IsReasonWhere d candidate struck q j o =
     IsOneOf struck (item_at q o.place) o.attr
@@ -62,11 +63,12 @@ pub record IsGoodWhere (g : Grammar) (d : Direction) (candidate struck : Attribu
   pub attr : rule.target.attr ≡ x.attr
   pub reason : IsReasonWhere d candidate struck production rule.target.place argument
 
--- a strike that is good after those of a list
+-- a strike that is good after the strikes `struck`
 abbrev pub IsGood : Grammar → Direction → Attributes → List Strike → Strike → Type 0
 IsGood g d candidate struck x = IsGoodWhere g d candidate (IsStruckBy struck) x
 
--- Strikes one after the other: each is of a candidate that is not struck before, and is good after those before it.
+-- Strikes one after the other, after the strikes `struck`: each is of a candidate that is not struck before, and is good after
+-- those before it.
 abbrev pub AreGood : Grammar → Direction → Attributes → List Strike → List Strike → Type 0
 AreGood g d candidate struck [] = Unit {0}
 AreGood g d candidate struck (x ∷ xs) =

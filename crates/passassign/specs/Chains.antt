@@ -46,8 +46,8 @@ pub record WaitsFor (g : Grammar) (d : Direction) (x : Strike) (s a : ℕ) : Typ
   pub symbol : item_at production argument.place ≡ Some (item.Symbol s)
   pub attr : argument.attr ≡ a
 
--- a strike waits for no attribute: its argument, if it is an attribute of a symbol, is at the target's child or at one that is
--- visited later
+-- A strike waits for no attribute: its argument is at the target's child or at one that is visited later, or it is not an
+-- attribute of a symbol, or the strike names no argument that exists.
 abbrev pub WaitsForNone : Grammar → Direction → Strike → Type 0
 WaitsForNone g d x = (q : Production) (u : Rule) (o : Target) (s : ℕ) → Names g x q u o → item_at q o.place ≡ Some (item.Symbol s)
     → IsSameOrLater d u.target.place o.place

@@ -12,7 +12,7 @@ use Rattle.passassign.specs.declared.stuck.Strike.{Strike}
 use Rattle.passassign.specs.declared.dependency.Dependency.{Dependency}
 use Rattle.passassign.specs.Tables.{slot_of}
 
--- the productions of an accepted grammar
+-- the productions of an accepted grammar: 16 bits can index them, their rules and the arguments of these
 abbrev pub AreAccepted : List Production → Type 0
 AreAccepted productions = (g : Grammar) × IsAccepted g × (g.productions ≡ productions)
 
@@ -39,11 +39,12 @@ abbrev pub table_slot : Option ℕ → ℕ → Option ℕ
 table_slot None a = None
 table_slot (Some s) a = Some (slot_of s a)
 
--- the dependency of a rule's target at place j on argument i, which has slot k and place `from`
+-- the dependency of a rule's target at place j on argument i, which has slot k and place `from`; `head` is a strike of the target
+-- by this rule
 abbrev pub dependency_of : Strike → (j i k from : ℕ) → Dependency
 dependency_of head j i k from = record { strike = record head { arg = i }; place = j; argument = k; from = from }
 
--- the relation R holds of y and of some element of a list and its index
+-- for some index i of the list xs and the element x there, the relation R holds of i, x and y
 abbrev pub OfEach : {X Y : Type 0} → (ℕ → X → Y → Type 0) → List X → Y → Type 0
 OfEach {X} R xs y = (i : ℕ) × (x : X) × (slice_get xs i ≡ Some x) × R i x y
 
@@ -57,27 +58,27 @@ pub record Adds {X : Type 0} (P : X → Type 0) (old new : List X) : Type 0 wher
   pub all : (x : X) → P x → Has new x
   pub only : (x : X) → Has new x → Has old x ⊎ P x
 
--- the dependency of the target at place j on argument i, which is o and an attribute of a symbol; `places` has the item at each
--- place
+-- u is the dependency of the target at place j on argument i, which is o and an attribute of a symbol. `places` has the item at
+-- each place, and `head` is a strike of the target by its rule.
 abbrev pub IsByArgument : List Item → Strike → ℕ → ℕ → Target → Dependency → Type 0
 IsByArgument places head j i o u =
     (k : ℕ) × (table_slot (symbol_of (slice_get places o.place)) o.attr ≡ Some k) × (u ≡ dependency_of head j i k o.place)
 
--- a strike of a rule's target, whose place has this symbol, by argument 0
+-- the strike of the target of rule r of production p, an attribute of symbol s, by argument 0
 abbrev pub head_of : ℕ → ℕ → Rule → ℕ → Strike
 head_of p r rule s = record { symbol = s; attr = rule.target.attr; production = p; rule = r; arg = 0 }
 
--- a dependency of rule r of production p
+-- u is a dependency of rule r of production p
 abbrev pub IsByRule : List Item → ℕ → ℕ → Rule → Dependency → Type 0
 IsByRule places p r rule u =
     (s : ℕ) × (symbol_of (slice_get places rule.target.place) ≡ Some s)
     × OfEach (IsByArgument places (head_of p r rule s) rule.target.place) rule.args u
 
--- a dependency of production p
+-- u is a dependency of production p
 abbrev pub IsByProduction : ℕ → Production → Dependency → Type 0
 IsByProduction p q u = OfEach (IsByRule (places_of q) p) q.rules u
 
--- a dependency of some productions
+-- u is a dependency of some productions
 abbrev pub IsDependency : List Production → Dependency → Type 0
 IsDependency productions u = OfEach IsByProduction productions u
 

@@ -43,7 +43,7 @@ MadeIsLegal = (g : Grammar) (k : ℕ) (m : Partial) → Each (IsComplete g) g.pr
     → IsMade g k m → IsLegalPartial g m
 
 -- If the passes before pass k assign a pass to every attribute, and each production is complete and normal, their assignment is
--- the least one.
+-- the least one. It is n as a partial assignment, and m as rows: m has a row of the right length for each symbol, and equals n.
 abbrev pub WholeIsLeast : Type 0
 WholeIsLeast = (g : Grammar) (k : ℕ) (n : Partial) (m : Passes) → Each (IsComplete g) g.productions
     → Each (IsNormal g) g.productions → IsMade g k n → ((s : ℕ) → length (m s) ≡ length (symbol_kinds (slice_get g.symbols s)))
@@ -79,7 +79,8 @@ StrikesGrow = (g : Grammar) (d : Direction) (m : Partial) (xs : List Strike) (x 
     → IsOpen g m x.symbol x.attr → (IsStruckBy xs x.symbol x.attr → ⊥) → IsGood g d (IsOpen g m) xs x
     → AreGood g d (IsOpen g m) [] (xs ++ x ∷ [])
 
--- Good strikes to which no other can be added make a pass, if marks are those of the struck attributes.
+-- Good strikes xs to which no other can be added make pass k: it leads from m to `after`, in which the attributes without a pass
+-- that are not marked as struck have pass k. The marks `hit` are those of the struck attributes.
 abbrev pub MarksMakePass : Type 0
 MarksMakePass = (g : Grammar) (k : ℕ) (m after : Partial) (xs : List Strike) (hit : ℕ → ℕ → Bool) → AssignsOnlyAttributes g m
     → AssignsOnlyAttributes g after → AreGood g (direction_of k) (IsOpen g m) [] xs
@@ -104,7 +105,7 @@ CertificatesAreStrikes = (g : Grammar) (c : Stuck) (m : Passes) (k : ℕ) → Is
     → AreStrikesAt g m k (list_for c (direction_of k))
 
 -- If an assignment has strikes, the first attribute of a chain for one of its passes has a later pass than this one in every
--- legal assignment. In the statement this pass is k + 1.
+-- legal assignment. In the statement this pass is k + 1. It may also be the one after the last pass, but has no chain then.
 abbrev pub ChainsShowLater : Type 0
 ChainsShowLater =
     (g : Grammar) (rows : List (List ℕ)) (lists : List (List Strike)) (k s a : ℕ) (xs : List Strike) (other : Passes)

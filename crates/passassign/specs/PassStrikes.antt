@@ -47,7 +47,8 @@ HasNoPassBelow g m k s a = IsAttribute g s a × ((p : ℕ) → m s a ≡ Some p 
 abbrev pub HasNoPassUpTo : Grammar → Partial → (k s a : ℕ) → Type 0
 HasNoPassUpTo g m k s a = IsAttribute g s a × ((p : ℕ) → m s a ≡ Some p → k < p)
 
--- Lists are the strikes of the passes before `next`, which have made a partial assignment.
+-- The lists are the strikes of the passes before `next`, which made the partial assignment m. An attribute without a pass counts
+-- as one that has a later pass.
 pub record AreStrikesSoFar (g : Grammar) (next : ℕ) (m : Partial) (lists : List (List Strike)) : Type 0 where
   pub count : length lists + 1 ≡ next
   pub each : (i : ℕ) (xs : List Strike) → slice_get lists i ≡ Some xs

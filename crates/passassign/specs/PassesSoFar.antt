@@ -36,7 +36,7 @@ pub record IsNext (g : Grammar) (all : List Dependency) (old new : PassesSoFar) 
   pub progress : IsProgress g all new
   pub pass : IsPass g old.next (table_passes old.states.items) (table_passes new.states.items) strikes
 
--- no slot becomes open
+-- no slot becomes open from the table `old` to the table `new`
 abbrev pub KeepPasses : List State → List State → Type 0
 KeepPasses new old = (k : ℕ) → state_at new k ≡ Open → state_at old k ≡ Open
 

@@ -14,7 +14,8 @@ use Rattle.passassign.specs.Least.{Partial}
 abbrev pub strike : (symbol attr production rule : ℕ) → Strike
 strike s a p r = record { symbol = s; attr = a; production = p; rule = r; arg = 0 }
 
--- A's `i` is struck by this rule of this production, A's `s` by `i`, and R's `out` by `s`
+-- A's `i` is struck by this rule of this production, A's `s` by `i`, and R's `out` by `s`. R is symbol 0, with `out` as attribute
+-- 0; A is symbol 1, with `s` as attribute 0 and `i` as attribute 1.
 abbrev pub strikes_by : (production rule : ℕ) → List Strike
 strikes_by p r = strike 1 1 p r ∷ strike 1 0 1 0 ∷ strike 0 0 0 0 ∷ []
 

@@ -37,7 +37,8 @@ edge_of u = record { from = u.argument; to = target_of u }
 abbrev pub edges_of : List Dependency → ℕ → Clauses
 edges_of all count = clauses_of_edges (map edge_of all) count
 
--- The edges are those of the dependencies, for a table of this many slots, and each dependency's slots are in it.
+-- The edges in `found` are those of its dependencies, between the `count` slots of a table. The slots of each dependency are
+-- among these.
 pub record AreReady (found : Dependencies) (count : ℕ) : Type 0 where
   pub edges : found.edges ≡ edges_of found.all.items count
   pub within : (u : Dependency) → Has found.all.items u → (u.argument < count) × (target_of u < count)

@@ -21,7 +21,7 @@ max_slots = max_symbols * max_attributes
 abbrev pub state_at : List State → ℕ → State
 state_at states k = slice_index_or states k Absent
 
--- the state of an attribute
+-- the state of attribute a of symbol s, Absent if a is not below `max_attributes`
 abbrev pub state_of : List State → ℕ → ℕ → State
 state_of states s a = cond (nat_lt a max_attributes) (state_at states (slot_of s a)) Absent
 

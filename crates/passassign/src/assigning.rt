@@ -42,24 +42,29 @@ impl From<NoMemory> for AssignFault {
     }
 }
 
-/// The state between two passes: the table of the attributes, the number of the next pass, from 1,
-/// and its direction.
+/// The state between two passes.
 #[derive(Debug, Drop)]
 pub(crate) struct PassesSoFar {
+    /// The table of all attributes, indexed by slot, with their passes so far.
     pub states: Vec<State>,
+    /// The number of the next pass, from 1.
     pub next: u16,
+    /// The direction of the next pass.
     pub direction: Direction,
 }
 
 /// The strikes of the passes made so far, if the caller of `assign_all` wants them.
 #[derive(Debug, Drop)]
 pub(crate) struct StrikeLog {
+    /// Whether the caller wants the strikes.
     pub is_wanted: bool,
+    /// One list of strikes for each pass made so far, or no list if they are not wanted.
     pub lists: Vec<Items<Strike>>,
 }
 
 impl StrikeLog {
-    /// Appends the strikes of a pass, if they are wanted.
+    /// Appends the strikes of a pass, if they are wanted. Otherwise changes nothing (the contract
+    /// says nothing of `lists` then).
     fn keep(&mut self, strikes: Vec<Strike>) -> Result<(), NoMemory>
         ensures wanted { OnOk result (self.new.is_wanted ≡ self.old.is_wanted) }
         ensures kept { OnOk result (self.old.is_wanted ≡ true
@@ -73,7 +78,8 @@ impl StrikeLog {
 }
 
 /// Makes the next pass: each attribute without a pass gets this pass if the pass can compute it.
-/// Returns the strikes of the pass: one for each attribute that still has no pass.
+/// Returns the strikes of the pass: one for each attribute that still has no pass. The number of
+/// the pass after it must fit in 16 bits.
 fn make_pass(
     alloc: Global,
     dependencies: &Dependencies,

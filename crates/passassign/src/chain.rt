@@ -171,8 +171,8 @@ impl Strikes {
     /// the attribute. `attribute` is the number of the symbol and that of the attribute in the
     /// symbol.
     ///
-    /// Allocates the chain, and fails with NoMemory. Reads each strike of the pass at most once for
-    /// each strike of the chain, and once more.
+    /// Allocates the chain. Reads each strike of the pass at most once for each strike of the
+    /// chain, and once more.
     pub fn chain_of(
         &self,
         alloc: Global,
@@ -210,7 +210,7 @@ impl Stuck {
     /// Returns why no pass in a direction can compute an attribute of the set: a chain for the
     /// direction, as `Strikes::chain_of` does for a pass. The result is a chain if this is a
     /// certificate of this grammar. It is empty if the list for the direction does not strike the
-    /// attribute. Allocates the chain, and fails with NoMemory.
+    /// attribute. Allocates the chain.
     pub fn chain_of(
         &self,
         alloc: Global,

@@ -15,8 +15,8 @@ use ag_grammar::{Item, Production, Rule, Target, occurrences};
 use ag_value::NoMemory;
 use std::alloc::Global;
 
-/// A dependency of a rule's target on an argument of the rule, both of which are attributes of
-/// declared symbols (Knuth 1968).
+/// A dependency of a rule's target on an argument of the rule (Knuth 1968). Both are attributes of
+/// symbols: an argument that is the text of a token is known before all passes, and makes none.
 #[derive(Clone, Copy, Debug, PartialEq, Eq)]
 pub(crate) struct Dependency {
     /// The strike of the target by this argument.
@@ -103,8 +103,9 @@ fn append_arguments(
 }
 
 /// Returns the arguments of a rule: one for each of the distinct occurrences in its expression. The
-/// call of `occurrences` changes nothing. Its contract says that the occurrences are distinct, so
-/// there are few enough arguments for 16 bits to index.
+/// result of `occurrences` is not used. The call is there for its contract, which says that the
+/// occurrences are distinct (`different`). So the rule has at most `max_rules` arguments, and 16
+/// bits can index them.
 fn arguments(rule: &Rule) -> &[Target]
     ensures lent { result.now ≡ rule.now.args }
     ensures different { AreDifferent rule.now.expr.1 }

@@ -19,11 +19,13 @@ use ag_value::NoMemory;
 use closure::{Addition, Clauses, Edge, Reason};
 use std::alloc::Global;
 
-/// All dependencies of a grammar, and the same as edges between the slots of a table: if an
-/// argument is struck, the target is.
+/// All dependencies of a grammar, in two forms.
 #[derive(Drop)]
 pub(crate) struct Dependencies {
+    /// The dependencies, in the order of productions, rules and arguments.
     pub all: Vec<Dependency>,
+    /// The same dependencies as edges between the slots of a table, from the argument to the
+    /// target: if the argument is struck, the target is.
     pub edges: Clauses,
 }
 
@@ -71,7 +73,9 @@ impl Dependencies {
 /// The strikes of a pass, and marks of the struck attributes.
 #[derive(Debug, Drop)]
 pub(crate) struct Struck {
+    /// The strikes, in the order in which the attributes are struck.
     pub strikes: Vec<Strike>,
+    /// For each slot of the table, whether its attribute is struck.
     pub marks: Vec<bool>,
 }
 
@@ -151,8 +155,8 @@ fn dependency_for(all: &[Dependency], barred: &[Dependency], reason: Reason) -> 
     }
 }
 
-/// Returns a strike for each `Addition`, a slot that `closure` found and the reason, in the same
-/// order: the strike of the dependency that is the reason.
+/// Returns a strike for each `Addition`, in the same order. An addition is a slot that `closure`
+/// found, with its reason. The strike is that of the dependency that is the reason.
 fn strikes_of(
     alloc: Global,
     all: &[Dependency],

@@ -21,15 +21,15 @@ pub record State : Type 0 where
   pub turn : ℕ
   pub done : List ℕ
 
--- the number of children that were read, of a node in this phase with t complete children
+-- the number of children that the pass has read (by `Get`) at a node in this phase with t complete children
 abbrev pub read_count : Phase → ℕ → ℕ
 read_count Between t = t
 read_count Got t = suc t
 read_count Gone t = suc t
 read_count Ended t = t
 
--- the number of children in which the pass has run, of a node in this phase with t complete children; a token counts after its
--- `Get`, since the pass has nothing to do in it
+-- the number of children in which the pass has run (by `Go`) at a node in this phase with t complete children; a token counts
+-- after its `Get`, since the pass has nothing to do in it
 abbrev pub run_count : Phase → ℕ → ℕ
 run_count Between t = t
 run_count Got t = t
@@ -44,17 +44,17 @@ arity q = length (stored_items q.items)
 abbrev pub place_of : Production → ℕ → ℕ → ℕ
 place_of q k t = suc (nth (direction_of k) (arity q) t)
 
--- pass k visits the child at a place among the first n
+-- the child at place j is one of the first n that pass k visits
 abbrev pub IsVisited : Production → ℕ → ℕ → ℕ → Type 0
 IsVisited q k n j = (t : ℕ) × (t < n) × (j ≡ place_of q k t)
 
--- The value of an argument of pass p, at most k, at a place doesn't change any more in pass k: p is an earlier pass, or the
--- argument is on the left side, or at a child in which the pass has run. (That p is at most k is added by `IsAvailable`.) An
+-- In state s of pass k, an argument at place j that has pass p has got its value. One of three facts holds: p is an earlier pass;
+-- the argument is on the left side; or it is at a child in which pass k has run. (`IsAvailable` adds that p is at most k.) An
 -- argument on the left side is inherited, since the grammar is normal, so its value was set before the pass came to this node.
 abbrev pub IsFinal : Production → ℕ → State → ℕ → ℕ → Type 0
 IsFinal q k s j p = (p < k) ⊎ ((j ≡ 0) ⊎ IsVisited q k (run_count s.phase s.turn) j)
 
--- An attribute at a place is available, as an argument: it has no later pass, and its value is final.
+-- The argument o is available in state s of pass k: it has pass k or an earlier one, and has got its value (`IsFinal`).
 abbrev pub IsAvailable : Passes → Production → ℕ → State → Target → Type 0
 IsAvailable m q k s o = (p : ℕ) × HasPass m q o p × (p ≤ k) × IsFinal q k s o.place p
 
@@ -68,7 +68,7 @@ pub record MayCompute (m : Passes) (q : Production) (k : ℕ) (s : State) (j a r
   pub available : (o : Target) → IsArgument rule o → IsAvailable m q k s o
   pub fresh : Has s.done r → ⊥
 
--- each rule of the pass with a target at a place was run
+-- each rule of pass k with a target at place j was run
 abbrev pub AreDone : Passes → Production → ℕ → State → ℕ → Type 0
 AreDone m q k s j = (r : ℕ) (u : Rule) → IsRuleAt q r u → u.target.place ≡ j → HasPass m q u.target k → Has s.done r
 

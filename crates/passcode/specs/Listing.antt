@@ -1,5 +1,6 @@
--- The rest of the list for a production and a pass in a state of a node: the instructions that were not run. At the start it
--- is the list that `generate` returns. In all of these, `done` has the numbers of the rules that were run.
+-- The rest of the list for a production and a pass in a state of a node: the instructions that were not run. At the start it is
+-- the list that `generate` returns. In this file, m is an assignment, q a production, k a pass, j a place of q, and o an
+-- attribute at a place; `done` has the numbers of the rules that were run.
 use Rattle.std.specs.Prelude.{ℕ, suc, ◌≡◌, ◌-◌, Bool, false, cond, nat_eq, List, [], ◌∷◌, ◌++◌, Option, Some, None, length}
 use Rattle.std.specs.List.{flat_map, list_any, position, range_with_len}
 use Rattle.ag_grammar.specs.declared.grammar.Item.{Item}
@@ -37,7 +38,7 @@ abbrev pub remaining_at : Passes → Production → ℕ → List ℕ → ℕ →
 remaining_at m q k done j = flat_map (λ a. remaining_for m q k done (record { place = j; attr = a }))
     (range_with_len 0 (length (item_passes m (item_at q j))))
 
--- the instructions of a child after its `Get`, if a declared symbol is there and not a token class (`IsChild`)
+-- the instructions of the child at place j after its `Get`, if it is a symbol and not a token
 abbrev pub child_part : Passes → Production → ℕ → List ℕ → ℕ → List Instr
 child_part m q k done j = remaining_at m q k done j ++ instr.Go j ∷ instr.Put j ∷ []
 
@@ -55,7 +56,7 @@ visits m q k done t n = flat_map (λ t. visit m q k done (place_of q k t) (item_
 abbrev pub own_part : Passes → Production → ℕ → List ℕ → List Instr
 own_part m q k done = remaining_at m q k done 0 ++ instr.End ∷ []
 
--- all instructions from those of the place that is visited after t others
+-- the instructions of all places but the first t that the pass visits, then those of the node's own attributes, and `End`
 abbrev pub remaining_from : Passes → Production → ℕ → List ℕ → ℕ → List Instr
 remaining_from m q k done t = visits m q k done t (arity q - t) ++ own_part m q k done
 

@@ -152,8 +152,8 @@ impl<'a> ListContext<'a> {
         Ok(())
     }
 
-    /// Returns the list for the production in the pass. `children` is the production's `arity`. Fails
-    /// with NoMemory if memory is refused.
+    /// Returns the list for the production in the pass. `children` is the production's `arity`,
+    /// which the caller computes once for all passes. Fails with NoMemory if memory is refused.
     pub(crate) fn list(&self, alloc: Global, children: usize) -> Result<Vec<Instr>, NoMemory>
         requires planned { IsPlanned (passes_of self.now.assignment.now) self.now.production.now }
         requires children { children ≡ arity self.now.production.now }

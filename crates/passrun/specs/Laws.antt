@@ -31,7 +31,7 @@ PlansCanRun = (context : PassContext) (passes : ℕ) → IsAccepted context.sett
     → IsGreatest passes context.setting.plan.now.0 → 1 ≤ context.setting.pass → context.setting.pass ≤ passes
     → IsLayout (setting context) context.rows.now → CanRun context
 
--- At most one of R1 with an offset, P2 and P3 shows in a content.
+-- For an accepted grammar, at most one of R1 with an offset, P2 and P3 shows in a content.
 abbrev pub ShowsOnce : Type 0
 ShowsOnce = (s : Source) (content : List ℕ) (one another : RunFault) → IsAccepted s.grammar → Shows s content one
     → Shows s content another → one ≡ another
@@ -49,7 +49,7 @@ PassesAreRecorded =
     → IsPassed (setting_of g plan k) from to count evals
     → RunsPass version_two g (passes_of plan.0) (k - 1) from to × CountsPass g (passes_of plan.0) (k - 1) from count evals
 
--- All passes from the first one on evaluate as many rules as the tree has.
+-- Passes 1 to the last evaluate as many rules as the tree has, for a legal assignment of an accepted grammar.
 abbrev pub AllRulesAreRun : Type 0
 AllRulesAreRun =
     (g : Grammar) (m : Passes) (last : ℕ) (start : List ℕ) (which : Last) (a b : List ℕ) (evals : ℕ) (sum : Passed) → IsAccepted g
@@ -57,7 +57,9 @@ AllRulesAreRun =
     → HasRunAll g m 0 last start which a b evals sum → (t : Tree) (u : Valuation) → IsTreeOf g t
     → IsFileOfTree version_two g m 0 t u start → evals ≡ rules_of g t
 
--- The values after all passes satisfy all equations, and no others do.
+-- The values after all passes satisfy all equations, and no others do. `h` is the fact that all passes ran. Its part `h.runs`
+-- holds for every tree: `h.runs t u tree file` is the fact that they ran over the tree t, and `values` are the values that they
+-- left.
 abbrev pub ValuesAreTheSolution : Type 0
 ValuesAreTheSolution =
     (g : Grammar) (m : Passes) (last : ℕ) (start : List ℕ) (which : Last) (a b : List ℕ) (evals : ℕ) (sum : Passed) → IsAccepted g

@@ -94,11 +94,10 @@ LeavesSolutions g m passes start last previous = (t : Tree) (u : Valuation) → 
 abbrev pub LeavesSomeFile : (old new : List ℕ) → Type 0
 LeavesSomeFile old new = (pass : ℕ) × LeavesBeginning pass old new
 
--- The contents after a failure in the passes after pass k; a and b are the old contents of the first and the
--- second device. Some passes ran, possibly none, and the file of the last of them is still on the device that
--- the next one read. The other device has its content from before that pass, or a prefix of a file of that
--- pass. If at least one pass ran, a is the file of a tree within the limits. If none ran, the first device
--- still has a, whatever that is.
+-- The contents after a failure in the passes after pass k; a and b are the old contents of the first and the second device. The
+-- passes up to `done` ran, possibly none, and the next one failed. The device that it was to read, `which`, still has the file of
+-- pass `done`. The other device has its content from before the failed pass, `before`, or a prefix of a file of that pass. If at
+-- least one pass ran, a is the file of a tree within the limits. If none ran, the first device still has a, whatever that is.
 pub record LeavesAfterFailure (g : Grammar) (m : Passes) (k : ℕ) (a b a_new b_new : List ℕ) : Type 0 where
   pub done : ℕ
   pub which : Last

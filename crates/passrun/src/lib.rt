@@ -9,7 +9,8 @@
 //!
 //! - *Current node*: the innermost open node. The other open nodes wait: each of them has entered
 //!   the child on the path to the current node.
-//! - *Root is done*: the pass has run in the whole tree, and only the root's record is not written.
+//! - *Root is done*: the pass has run all instructions at all nodes, and only the root's record is
+//!   not written.
 #![tactic(auto)]
 
 mod last;

@@ -138,8 +138,9 @@ fn one_more(sum: Passed, passed: Passed) -> Passed
 ///
 /// Pass `first` overwrites the content of `b`, and the next pass the file on `a`, which is kept if at
 /// most one pass runs. After a failure the device that the failed pass was to read still has its
-/// content: unless pass `first` failed, the file of the pass before. The other device has the content
-/// from before the failed pass, or a prefix of a tree file. Uses the memory of one pass at a time.
+/// content: what `a` had if pass `first` failed, and otherwise the file that the pass before the
+/// failed one wrote. The other device has the content from before the failed pass, or a prefix of a
+/// tree file. Uses the memory of one pass at a time.
 pub fn run_all<D: Device>(
     alloc: Global,
     grammar: &Grammar,

@@ -1,4 +1,6 @@
--- Attributes that no rule uses, and those that are only copied.
+-- Attributes that no rule uses, and those that are only copied. In this file g is a grammar, q one of its productions, u a rule
+-- of q, and o a target: a place of q and the number of an attribute there. The attribute that a definition is about has number a
+-- in the symbol of number s, both from 0.
 use Rattle.std.specs.Prelude.{ℕ, ◌≡◌, Some}
 use Rattle.ag_grammar.specs.Lists.{Each}
 use Rattle.ag_grammar.specs.declared.grammar.Item.TheVariants as item
@@ -8,7 +10,7 @@ use Rattle.ag_grammar.specs.declared.grammar.Target.{Target}
 use Rattle.ag_grammar.specs.declared.syntax.node.Node.TheVariants as node
 use Rattle.ag_grammar.specs.grammars.AttributeGrammar.{Grammar, item_at}
 
--- a target of a production is attribute a of symbol s
+-- target o of production q is attribute a of symbol s: its number is a, and symbol s is at its place
 abbrev pub IsAttributeAt : Production → Target → ℕ → ℕ → Type 0
 IsAttributeAt q o s a = (o.attr ≡ a) × (item_at q o.place ≡ Some (item.Symbol s))
 
@@ -24,11 +26,12 @@ IsUnusedIn s a q = Each (IsUnusedBy q s a) q.rules
 abbrev pub IsUnused : Grammar → ℕ → ℕ → Type 0
 IsUnused g s a = Each (IsUnusedIn s a) g.productions
 
--- a rule is a copy: its expression is one occurrence
+-- a rule is a copy: its expression is one occurrence, such as `$1.p`. (`u.expr.0` is the tree of the expression, and n the index
+-- of the occurrence in the expression's list of occurrences.)
 abbrev pub IsCopy : Rule → Type 0
 IsCopy u = (n : ℕ) × (u.expr.0 ≡ node.Occurrence n)
 
--- a rule is a copy or does not compute the attribute
+-- rule u is a copy, or its target is not the attribute
 abbrev pub IsCopiedBy : Production → ℕ → ℕ → Rule → Type 0
 IsCopiedBy q s a u = IsAttributeAt q u.target s a → IsCopy u
 

@@ -1,4 +1,6 @@
--- Links of chains: a strike with the parts that it names, and where its argument is, seen from the target of its rule.
+-- Links of chains: a strike with the parts that it names, and where its argument is, seen from the target of its rule. In this
+-- file x is a strike, l a link, d a direction of passes, q a production, u a rule of q, and o a target: a place of q with the
+-- number of an attribute there. `Names g x q u o` says that x names q, u and the argument o.
 use Rattle.std.specs.Prelude.{ℕ, ◌≡◌, List, [], ◌∷◌, ◌++◌, Option, Some, None}
 use Rattle.ag_grammar.specs.Lists.{AreRelated, Has}
 use Rattle.ag_grammar.specs.declared.direction.Direction.{Direction}
@@ -15,7 +17,8 @@ use Rattle.plan_reasons.specs.declared.links.Geometry.{Geometry}
 use Rattle.plan_reasons.specs.declared.links.Geometry.TheVariants as geometry
 use Rattle.plan_reasons.specs.declared.links.Link.{Link}
 
--- The link of a strike has the target of the strike's rule, the argument, and the same argument as an attribute of a symbol.
+-- l is the link of strike x. It has the target of the strike's rule, the argument that x names, and the same argument as an
+-- attribute of a symbol (`l.used`: the symbol's number and the attribute's).
 pub record IsLinkOf (g : Grammar) (x : Strike) (l : Link) : Type 0 where
   pub production : Production
   pub rule : Rule
@@ -34,38 +37,41 @@ pub record NamesAttribute (g : Grammar) (x : Strike) : Type 0 where
   pub named : Names g x production rule argument
   pub item : item_at production argument.place ≡ Some (item.Symbol symbol)
 
--- the link of a strike; `None` means that the strike names no argument that is an attribute of a symbol
+-- the option is the link of strike x; `None` means that the strike names no argument that is an attribute of a symbol
 abbrev pub IsLinkOrNone : Grammar → Strike → Option Link → Type 0
 IsLinkOrNone g x None = NamesAttribute g x → ⊥
 IsLinkOrNone g x (Some l) = IsLinkOf g x l
 
--- the link of a strike by argument o of rule u; `None` means that the argument is not an attribute of a symbol
+-- the option is the link of strike x by argument o of rule u; `None` means that the argument is not an attribute of a symbol
 abbrev pub IsLinkAt : Production → Rule → Target → Strike → Option Link → Type 0
 IsLinkAt q u o x None = (s : ℕ) → item_at q o.place ≡ Some (item.Symbol s) → ⊥
 IsLinkAt q u o x (Some l) =
     (l.strike ≡ x) × (l.target ≡ u.target) × (l.argument ≡ o) × (item_at q o.place ≡ Some (item.Symbol l.used.0))
     × (o.attr ≡ l.used.1)
 
--- the link of a strike is appended, if the strike names an argument that is an attribute of a symbol
+-- the link of strike x is appended to the list `old`, if x names an argument that is an attribute of a symbol; otherwise nothing
+-- is claimed
 abbrev pub AppendsLink : Grammar → Strike → (old new : List Link) → Type 0
 AppendsLink g x old new = NamesAttribute g x → (l : Link) × IsLinkOf g x l × (new ≡ old ++ l ∷ [])
 
--- The links of a chain that begins with a strike of attribute a of symbol s, in the chain's order.
+-- The links of a chain, in the chain's order. The chain begins with a strike of attribute a of symbol s. `candidate` says which
+-- attributes no earlier pass computes (for a certificate: which are in its set).
 pub record AreChainLinks (g : Grammar) (d : Direction) (candidate : Attributes) (s a : ℕ) (links : List Link) : Type 0 where
   pub chain : List Strike
   pub is_chain : IsChainOf g d candidate s a chain
   pub are_links : AreRelated (IsLinkOf g) chain links
 
--- The link of a strike, which is an obstacle in passes of a direction: its argument is at the target's child or at one that is
--- visited later, so the strike waits for no other.
+-- l is the link of strike x, and it is an obstacle in passes of direction d: its argument is at the target's child or at one that
+-- is visited later, so the strike waits for no other.
 abbrev pub IsObstacleOf : Grammar → Direction → Strike → Link → Type 0
 IsObstacleOf g d x l = IsLinkOf g x l × IsSameOrLater d l.target.place l.argument.place
 
--- the link of one of these strikes, which is an obstacle
+-- l is the link of one of the strikes of a list, and it is an obstacle
 abbrev pub IsObstacle : Grammar → Direction → List Strike → Link → Type 0
 IsObstacle g d strikes l = (x : Strike) × Has strikes x × IsObstacleOf g d x l
 
--- where an argument at place i is in a pass of a direction, if the target of its rule is at place j
+-- the last argument says where an argument at place i is, in a pass of direction d, if the target of its rule is at place j.
+-- Place 0 is the left side, and `IsSameOrLater` is false if i or j is 0.
 abbrev pub IsGeometry : Direction → (j i : ℕ) → Geometry → Type 0
 IsGeometry d j i geometry.Within = IsSameOrLater d j i × (i ≡ j)
 IsGeometry d j i geometry.Later = IsSameOrLater d j i × IsBefore d j i

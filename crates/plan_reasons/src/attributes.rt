@@ -64,7 +64,7 @@ pub(crate) fn attributes_of(alloc: Global, symbols: &[Symbol]) -> Result<Vec<Att
     Ok(attributes)
 }
 
-/// Appends the attributes of a symbol.
+/// Appends the attributes of the symbol of this number.
 fn append_attributes(
     attributes: &mut Vec<Attribute>,
     number: u16,

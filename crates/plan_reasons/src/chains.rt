@@ -23,7 +23,8 @@ pub struct LeastPlan<'a> {
     pub strikes: &'a Strikes,
 }
 
-/// Returns the pass of an attribute, if it has one.
+/// Returns the pass of an attribute, if it has one. `rows` has a row for each symbol, with the pass of each of its
+/// attributes.
 fn pass_in(rows: &[Vec<u16>], symbol: u16, attr: u16) -> Option<u16>
     ensures { result ≡ slice_get (passes_of (numbers_of rows.now) symbol) attr }
 {
@@ -70,8 +71,8 @@ impl LeastPlan<'_> {
         pass_in(self.assignment.rows(), attribute.0, attribute.1)
     }
 
-    /// Returns the attribute of the first strike of pass `pass` that is of an attribute with pass
-    /// `later`. Returns `None` if pass `pass` strikes no such attribute. Does not allocate.
+    /// Finds, among the strikes of pass `pass`, the first one whose attribute has pass `later`, and
+    /// returns this attribute. Returns `None` if there is no such strike. Does not allocate.
     pub fn first_struck(&self, pass: u16, later: u16) -> Option<Attribute>
         ensures found { IfSome result (λ x.
             IsStruckBy (strikes_of self.now.strikes.now.lists pass) x.0 x.1

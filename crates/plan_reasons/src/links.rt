@@ -74,8 +74,8 @@ fn geometry_of(direction: Direction, first: u16, second: u16) -> Geometry
     Geometry::Later
 }
 
-/// Returns the link of a strike, which names this production, rule and argument. Returns `None` if
-/// the argument is not an attribute of a symbol.
+/// Returns the link of a strike that names this production, rule and argument. Returns `None` if the
+/// argument is not an attribute of a symbol.
 fn link_at(production: &Production, rule: &Rule, argument: Target, strike: Strike) -> Option<Link>
     ensures { IsLinkAt production.now rule.now argument strike result }
 {

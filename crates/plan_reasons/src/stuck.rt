@@ -33,7 +33,8 @@ impl Explanation<'_> {
         self.write_hints(out)
     }
 
-    /// Writes the obstacles `links` of passes of a direction, with the reason of each.
+    /// Writes the obstacles `links` of passes of a direction, with the reason of each: at most
+    /// `MAX_LINES` of them, and then the number of the others.
     fn write_obstacles(
         &self,
         out: &mut String,

@@ -10,7 +10,7 @@ ghost use Rattle.plan_reasons.specs.Hints.{IsUnused, IsUnusedBy, IsUnusedIn};
 use ag_grammar::{Grammar, Item, Node, Production, Rule, Target};
 use message_parts::Attribute;
 
-/// Returns whether a declared symbol is at a place of a production.
+/// Returns whether the symbol of number `symbol` is at a place of a production.
 fn is_symbol_at(production: &Production, place: u16, symbol: u16) -> bool
     ensures { IsTrue result ↔ (item_at production.now place ≡ Some (item.Symbol symbol)) }
 {

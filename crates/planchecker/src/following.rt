@@ -31,9 +31,9 @@ pub(crate) struct NodeState<'a> {
     pub list: &'a [Instr],
     /// The index of the next instruction, from 0.
     pub index: usize,
-    /// The phase before this instruction.
+    /// The phase of the node before this instruction.
     pub phase: Phase,
-    /// The number of complete children before this instruction.
+    /// The number of complete children before this instruction. A child is complete after its `Put`.
     pub turn: usize,
 }
 

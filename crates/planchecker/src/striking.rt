@@ -19,8 +19,8 @@ use crate::marks::Marks;
 use ag_grammar::{Direction, Grammar, Item, Production, Target};
 use passassign::{Strike, is_same_or_later};
 
-/// The candidates for a pass, and those of them that the pass has to strike, since they have a
-/// later pass or none. The latter are named `later`.
+/// The candidates for a pass (attributes without an earlier pass), and those of them that the pass has to
+/// strike, since they have a later pass or none. The latter are named `later`.
 pub(crate) trait Candidates {
     /// The direction of the pass.
     ghost direction: { Self → TheDirection };
@@ -43,7 +43,8 @@ pub(crate) trait Candidates {
     fn is_later(&self, symbol: u16, attr: u16) -> bool
         ensures { IsTrue result ↔ later self.now symbol attr };
 
-    /// An attribute that the pass has to strike is a candidate.
+    /// The statement that an attribute that the pass has to strike is a candidate. Each type that
+    /// implements the trait has its proof.
     ghost within: { (x : Self) (s a : ℕ) → later x s a → candidates x s a };
 }
 
@@ -146,8 +147,8 @@ pub(crate) fn marks_of<C: Candidates>(
     ensures marks { IfSome result
         (λ m. (s a : ℕ) → IsMarked m s a ↔ IsStruckBy strikes.now s a) }
 {
-    // The call has no effect. By its contract the grammar is accepted, so the symbol and the
-    // attribute of a good strike have numbers that are small enough for `mark`.
+    // The result is unused: the call is here for its contract, which says that the grammar is accepted.
+    // So the symbol and the attribute of a good strike have numbers that are small enough for `mark`.
     let _productions = grammar.productions();
     let mut struck = Marks::new();
     for strike in strikes {

@@ -8,8 +8,8 @@ use std::alloc::Global;
 use std::rt::Files;
 
 /// Returns the bytes of a grammar or a sentence, at most the first 1,048,577: one more than either
-/// may have. Fails with F1 if a file can't be opened or read, with J2 if standard input can't be
-/// read, and if memory is refused.
+/// may have, so a text that is too long stays too long. Fails with F1 if a file can't be opened or
+/// read, with J2 if standard input can't be read, and with NoMemory if memory is refused.
 pub fn read_input<R: Files + Input>(
     rt: &R,
     alloc: Global,
@@ -25,7 +25,8 @@ pub fn read_input<R: Files + Input>(
     }
 }
 
-/// Returns the report of a fault of reading an input: for standard input, J2 instead of F1.
+/// Returns the report of a fault of reading an input. It names the file; for standard input, its
+/// fault is J2 instead of F1.
 pub fn report_of_input(alloc: Global, fault: Fault, input: InputPath<'_>) -> FaultReport {
     match (fault, input) {
         (Fault::File, InputPath::Standard) => FaultReport::new(alloc, Fault::Job(JobFault::Read)),

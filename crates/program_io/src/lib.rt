@@ -1,5 +1,5 @@
-//! What the commands of the program have in common: reading their input, the checks that no output replaces a
-//! file that is read or a tree file of `--work`, writing output files, and the reports of a refused input or sentence.
+//! What the commands of the program have in common: reading their input, the checks that no written file is an input
+//! and no translation's file a tree file of `--work`, writing output files, and the reports of a refused input or sentence.
 #![tactic(auto)]
 
 mod files;

@@ -19,14 +19,14 @@ const MAX_NAMES: u32 = 1_000;
 
 /// Writes a translation to the file at `path`:
 /// - prints it if this is a regular file that is also standard output;
-/// - appends it to a file that is not a regular one, and to any existing file below /dev/ (except
-///   /dev/shm/) or /proc/;
+/// - appends it to a file that is not a regular one, and to any existing file whose path begins with
+///   /dev/ (but not /dev/shm/) or /proc/;
 /// - replaces any other file by a new one with its mode, and creates a missing file, in both cases
 ///   with the whole translation or not at all.
 ///
-/// Fails with F1 if the file can't be opened or created, if its mode can't be set, or if its links
-/// can't be followed. Fails with O2 if a write fails or takes no byte, or if the new file can't be
-/// renamed. The report of F1 and O2 names the file. Fails with NoMemory if memory is refused.
+/// Fails with F1 if the file can't be examined, opened or created, if its mode can't be set, or if
+/// its links can't be followed. Fails with O2 if a write fails or takes no byte, or if the new file
+/// can't be renamed. The report of F1 and O2 names the file. Fails with NoMemory if memory is refused.
 pub fn write_file<R: Files + Print>(
     rt: &R,
     alloc: Global,
@@ -40,7 +40,7 @@ pub fn write_file<R: Files + Print>(
     }
 }
 
-/// Writes bytes to the file at `path`, as `write_file` does.
+/// Writes bytes to the file at `path`, as `write_file` does, and fails as it does.
 fn put<R: Files + Print>(rt: &R, alloc: Global, path: &str, bytes: &[u8]) -> Result<(), Fault> {
     let standard = FileId::of_standard_output(rt)?;
     match fs::metadata(rt, path) {
@@ -68,7 +68,8 @@ fn is_of_system(path: &str) -> bool {
     is_device || path.starts_with("/proc/")
 }
 
-/// Opens the existing file at `path` to write at its end. Fails with F1 if it can't be opened so.
+/// Opens the existing file at `path` to write at its end. Fails with F1 if it can't be opened so, and
+/// with NoMemory if memory is refused.
 fn open_to_append<R: Files>(rt: &R, path: &str) -> Result<R::File, Fault> {
     let mut how = OpenOptions::new();
     how.append(true);
@@ -78,7 +79,8 @@ fn open_to_append<R: Files>(rt: &R, path: &str) -> Result<R::File, Fault> {
 
 /// Writes bytes to a new file, with the mode `mode` if there is one. Once the new file has all
 /// bytes, renames it to the path that the links at `path` lead to, so that symbolic links stay. If
-/// a step after its creation fails, removes the new file.
+/// a step after its creation fails, removes the new file. Fails as `target_of`, `create_beside` and
+/// `fill` do, and with O2 if the new file can't be renamed.
 fn replace<R: Files>(
     rt: &R,
     alloc: Global,
@@ -103,7 +105,9 @@ fn replace<R: Files>(
     renamed
 }
 
-/// Gives a new file the mode `mode`, if there is one, and writes bytes to it.
+/// Gives a new file the mode `mode`, if there is one, and writes bytes to it. Fails with F1 if the
+/// mode can't be set (with NoMemory if memory for that is refused), and with O2 if a write fails or
+/// takes no byte.
 fn fill<F: io::Write + OpenFile + Drop>(
     mut file: F,
     bytes: &[u8],
@@ -121,7 +125,7 @@ fn fill<F: io::Write + OpenFile + Drop>(
 /// refused.
 fn target_of<R: Files>(rt: &R, alloc: Global, path: &str) -> Result<String, Fault> {
     let mut target = String::from_str(alloc, path)?;
-    // the last turn only finds out whether there is another link after `MAX_LINKS` links
+    // the last iteration only finds out whether there is another link after `MAX_LINKS` links
     for _ in 0..=MAX_LINKS {
         match fs::symlink_metadata(rt, target.as_str()) {
             Ok(found) if found.is_symlink() => target = link_at(rt, alloc, target.as_str())?,
@@ -150,7 +154,8 @@ fn link_at<R: Files>(rt: &R, alloc: Global, path: &str) -> Result<String, Fault>
     Ok(path_in(alloc, folder_of(path), link)?)
 }
 
-/// Creates a new file in the folder of `path`, and returns its path and the file. Fails with F1 if it can't be created.
+/// Creates a new file in the folder of `path`, and returns its path and the file. Fails with F1 if it can't be
+/// created, or if all `MAX_NAMES` names are in use, and with NoMemory if memory is refused.
 fn create_beside<R: Files>(rt: &R, alloc: Global, path: &str) -> Result<(String, R::File), Fault> {
     let mut how = OpenOptions::new();
     how.write(true).create_new(true);

@@ -1,5 +1,6 @@
-//! Files that a command would both read and write, or write as a translation and as a tree file: a misused command
-//! line.
+//! Checks for files that a command would both read and write, or write as a translation and as a tree file. The
+//! checks fail with `Fault::Usage`, a message and the file's name, as a misused command line does. They fail with
+//! NoMemory if memory is refused.
 
 use crate::paths::{folder_of, path_in};
 use crate::same_file::FileId;
@@ -73,7 +74,8 @@ pub fn check_output<R: Files>(
     }
 }
 
-/// Fails if one of the translations' files is one of the inputs, through links too, and if memory is refused.
+/// Fails if one of the translations' files is one of the inputs, which are paths of files, through links too, and if
+/// memory is refused. Does not compare them with work files: `check_output` does.
 pub fn check_outputs<R: Files>(
     rt: &R,
     alloc: Global,
@@ -143,8 +145,8 @@ fn is_input<R: Files>(rt: &R, path: &str, inputs: &[InputPath<'_>]) -> Result<bo
     Ok(false)
 }
 
-/// Returns whether a path leads to a work file in a folder. The work file may not exist yet: a path
-/// with its name and its folder counts as well.
+/// Returns whether a path leads to a work file in a folder. The work file may not exist yet, so a path
+/// whose name and folder are those of a work file counts as well.
 fn is_work_file<R: Files>(
     rt: &R,
     alloc: Global,

@@ -2,7 +2,8 @@
 
 use std::alloc::{AllocError, Global};
 
-/// Returns the path of a file in a folder. Fails if memory is refused.
+/// Returns the path of a file in a folder. `name` is the file's name, or a path relative to the
+/// folder. Fails if memory is refused.
 pub fn path_in(alloc: Global, folder: &str, name: &str) -> Result<String, AllocError> {
     let separator = if folder.ends_with('/') { "" } else { "/" };
     format!(in alloc; "{folder}{separator}{name}")

@@ -38,7 +38,7 @@ pub record EndsWithRoot (g : Grammar) (assignment : List (List ℕ)) (content : 
   pub last : last_body_of version_two content ≡ Ok body
   pub root : IsRootRecord g assignment body x
 
--- A content that begins as a tree file has no root's record at its end, which is the offset of the fault.
+-- A content begins as a tree file, but has no root's record at its end, and the offset `at` of the fault is the end.
 pub record EndsWithNoRoot (g : Grammar) (assignment : List (List ℕ)) (content : List ℕ) (at : ℕ) : Type 0 where
   pub end : at ≡ length content
   pub begins : last_body_of version_two content ≢ Err frame_fault.NotATreeFile

@@ -48,8 +48,9 @@ fn out_number(grammar: &Grammar) -> usize
 }
 
 /// Reads the value of the attribute number `out` in `body`, the root's record in the file of the
-/// last pass. With a setting of pass k, `read_node` reads records of the file of pass k - 1. So the
-/// setting here has the number of the last pass plus 1, though no such pass runs.
+/// last pass. The value has the type `Carried` of `ag_carried`, since `read_node` makes values of this
+/// type. With a setting of pass k, `read_node` reads records of the file of pass k - 1. So the setting
+/// here has the number of the last pass plus 1, though no such pass runs.
 ///
 /// Fails with `Damaged` if the body is not such a record, and with `NoMemory` if memory is refused.
 fn read_out(

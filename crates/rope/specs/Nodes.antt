@@ -3,12 +3,12 @@ use Rattle.std.specs.Prelude.{slice_index, ◌≡◌, ℕ, ◌+◌, ◌<◌, Lis
 use Rattle.rope.specs.declared.rope.RopeNode.{RopeNode}
 use Rattle.rope.specs.declared.rope.RopeNode.TheVariants.{Joined, Piece}
 
--- the bytes of a piece, or those of two ropes one after the other
+-- the bytes of a piece, or those of two ropes one after the other (here a `Rope` is the list of its bytes)
 abbrev pub bytes_of : RopeNode → List ℕ
 bytes_of (Piece piece) = piece.value.items
 bytes_of (Joined pair) = pair.value.left ++ pair.value.right
 
--- each number of a list is a byte
+-- each number of a list is below 256 (`slice_index` is 0 beyond the end of the list)
 abbrev pub AreBytes : List ℕ → Type 0
 AreBytes bytes = (i : ℕ) → slice_index bytes i < 256
 

@@ -85,8 +85,8 @@ impl Rope {
     }
 }
 
-/// Returns whether two ropes of the same length have the same bytes. Compares them block by block
-/// if neither rope is one piece, and otherwise piece by piece.
+/// Returns whether two ropes of the same length have the same bytes. If one rope is a single piece,
+/// compares it with the pieces of the other one. Otherwise compares copies of both, block by block.
 fn same_by_blocks(one: &Rope, another: &Rope) -> bool
     requires { length one.now ≡ length another.now }
     ensures { IsTrue result ↔ (one.now ≡ another.now) }
@@ -109,7 +109,8 @@ fn same_by_blocks(one: &Rope, another: &Rope) -> bool
     true
 }
 
-/// Returns whether two ropes have the same `count` bytes from index `at` on.
+/// Returns whether two ropes have the same `count` bytes from index `at` on. `count` must be at most
+/// the length of a block.
 fn same_block(one: &Rope, another: &Rope, at: usize, count: usize) -> bool
     requires block { count ≤ 1024 }
     requires one { at + count ≤ length one.now }

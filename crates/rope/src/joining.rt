@@ -8,16 +8,16 @@ use std::alloc::{AllocError, Global};
 /// The greatest length in bytes of a piece that is made of two.
 const MAX_PIECE: usize = 256;
 
-/// The greatest depth of a piece in whose place a longer one is put: the root has depth 0. If a
-/// text gets nodes at both ends in turn, the piece at the end that got a node last has depth 1, and
-/// that at the other end has depth 2.
+/// The greatest depth in a rope, counted from 0 at the root, of a piece to which `join` adds bytes.
+/// In a text that grows at both ends in turn, the last piece to be added has depth 1, and the piece
+/// at the other end has depth 2.
 const MAX_LEVELS: u32 = 2;
 
 impl Rope {
     /// Joins two ropes, whose lengths together must be below 2^64, in constant time. A rope of one
-    /// piece becomes part of the piece that it meets in the other rope, if that piece is at most
-    /// two nodes below the root and both pieces together have at most 256 bytes. Fails with
-    /// AllocError.
+    /// piece is made one piece with the piece of the other rope that is next to it, if that piece
+    /// is at most two nodes below its root and both pieces together have at most 256 bytes. Fails
+    /// with AllocError.
     pub fn join(alloc: Global, left: Rope, right: Rope) -> Result<Rope, AllocError>
         requires { length left + length right < 2 ^ 64 }
         ensures { IfOk result (λ rope. rope ≡ left ++ right) }
@@ -37,8 +37,8 @@ impl Rope {
 }
 
 /// Returns the rope with `bytes` added at the beginning of its first piece, or `None` if the piece
-/// is more than `levels` nodes below the root or would have more than `MAX_PIECE` bytes. Fails with
-/// AllocError.
+/// is more than `levels` nodes below the root or would have more than `MAX_PIECE` bytes. The result
+/// shares all other pieces with `rope`. Fails with AllocError.
 fn extend_first(
     alloc: Global,
     bytes: &[u8],
@@ -64,8 +64,8 @@ fn extend_first(
 }
 
 /// Returns the rope with `bytes` added at the end of its last piece, or `None` if the piece is more
-/// than `levels` nodes below the root or would have more than `MAX_PIECE` bytes. Fails with
-/// AllocError.
+/// than `levels` nodes below the root or would have more than `MAX_PIECE` bytes. The result shares
+/// all other pieces with `rope`. Fails with AllocError.
 fn extend_last(
     alloc: Global,
     rope: &Rope,

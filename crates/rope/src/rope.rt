@@ -57,6 +57,7 @@ impl Model for Rope {
 }
 
 impl fmt::Debug for Rope {
+    /// Prints the number of bytes, and not the bytes.
     fn fmt<W: fmt::Write>(&self, f: &mut fmt::Formatter<W>) -> fmt::Result {
         f.debug_struct("Rope").field("len", &self.len()).finish()
     }

@@ -39,9 +39,9 @@ pub fn try_rows<R: Input + Print, Q: Questions>(
     println!(rt; "{} answers are right", sheet.right)
 }
 
-/// Runs the lines on standard input. Prints each wrong line with its number, from 1. If lines of an
-/// answer are not compared, prints the number of the next line that isn't an answer, or of the last
-/// line. Fails as `try_rows` does.
+/// Runs the lines on standard input. Prints what is wrong with a line after the line's number, from 1. An answer with
+/// lines that no row compares is reported with the number of the next line that isn't an answer or, at the end, with
+/// the number of the last line. Fails as `try_rows` does.
 fn take_lines<R: Input + Print, Q: Questions>(
     rt: &R,
     alloc: Global,
@@ -65,8 +65,8 @@ fn print_wrong<R: Print>(rt: &R, number: u64, wrong: &Option<String>) -> io::Res
     }
 }
 
-/// The current texts, the lines of the last answer that were not compared yet, and the number of
-/// right answer lines.
+/// The current texts, the lines of the last answer that were not compared yet (`None` if there are
+/// none), and the number of right answer lines.
 #[derive(Drop)]
 struct Sheet {
     texts: CurrentTexts,

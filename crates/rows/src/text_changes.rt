@@ -1,4 +1,4 @@
-//! The current text, and the lines that change it.
+//! The current text, and the lines that change it. `tests/README.md` lists their verbs.
 
 use crate::words::{Mistake, bytes_of, first_word, number};
 use std::alloc::{AllocError, Global};
@@ -54,8 +54,9 @@ fn write_before(alloc: Global, text: &mut String, rest: &str) -> Result<(), Allo
     text.push_str(so_far.as_str())
 }
 
-/// Appends copies of the text after the first word of `rest`: as many as this word spells. In each
-/// copy, `#` becomes the copy's number from 0, `@` its number from 1, and `~` a space.
+/// Appends copies of a piece: the first word of `rest` spells their number, and the text after it is
+/// the piece. In each copy, `#` becomes the copy's number from 0, `@` its number from 1, and `~` a
+/// space.
 fn write_times(alloc: Global, text: &mut String, rest: &str) -> Result<(), Mistake> {
     let (count, piece) = first_word(rest);
     let count = number(count)?;

@@ -105,7 +105,7 @@ fn bytes_of_word(alloc: Global, word: &str) -> Result<Vec<u8>, Mistake> {
     }
 }
 
-/// The greatest number of bytes that are printed one by one.
+/// The greatest number of bytes that are printed as digits. Of more bytes only their number is printed.
 const MAX_PRINTED: usize = 128;
 
 /// Returns two hexadecimal digits for each byte, or only the number of bytes if there are more than

@@ -18,9 +18,8 @@ const INTERVAL: u64 = 200;
 /// While a sentence is parsed, the clock is read once in this number of calls that append.
 const APPENDS: u32 = 256;
 
-/// The progress of a translation: the current pass, and which part of the tree file that this pass
-/// reads has been read.
-/// A line on standard error shows the progress, once the translation has taken two seconds. Failed
+/// The progress of a translation. Once the translation has taken two seconds, a line on standard
+/// error shows the current pass, and how much of the tree file that it reads has been read. Failed
 /// writes of the line are ignored.
 #[derive(Drop)]
 pub struct Progress<'a, R> {
@@ -33,8 +32,8 @@ pub struct Progress<'a, R> {
     is_shown: Cell<bool>,
     /// The pass of the first tree file that is written: 0 if a sentence is parsed first.
     first: u16,
-    /// The number of tree files that were begun: that of the parser, if a sentence is parsed, and
-    /// those of the passes.
+    /// The number of tree files that were begun so far: one by the parser, if a sentence is parsed,
+    /// and one by each pass.
     written: Cell<u16>,
     /// The number of calls that appended, modulo `APPENDS`.
     appends: Cell<u32>,
@@ -82,8 +81,8 @@ impl<'a, R: Clock + Eprint> Progress<'a, R> {
         }
     }
 
-    /// Shows a line if one is due: a tree file of `length` bytes has been read from its end down to
-    /// the offset `at`.
+    /// Shows a line if one is due. A tree file of `length` bytes is read from its end, and reading
+    /// has come down to the offset `at`.
     fn note_read(&self, at: u64, length: u64) {
         if self.is_due() {
             let line = ProgressLine::Reading {
@@ -129,7 +128,7 @@ fn percent_of(part: u64, whole: u64) -> u64 {
 pub struct ShownDevice<'a, D, R> {
     inner: D,
     /// The length in bytes that the last call of `len` returned; 0 if it failed, or before the
-    /// first call.
+    /// first call. A reader calls `len` when it begins with a file.
     length: u64,
     progress: &'a Progress<'a, R>,
 }

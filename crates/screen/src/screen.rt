@@ -66,8 +66,9 @@ impl Screen {
     }
 
     /// Returns the progress of a translation that begins now. The first tree file that is written
-    /// is that of pass `first`: 0 if a sentence is parsed, and 1 if the tree is read from a file.
-    /// Returns `None` if no progress is shown, or the clock can't be read.
+    /// is that of pass `first`: 0 if a sentence is parsed, and 1 if the tree is read from a file. (In
+    /// that case pass 1 shows no progress: it reads a device that is not a `ShownDevice`.) Returns
+    /// `None` if no progress is shown, or the clock can't be read.
     pub fn progress<'a, R: Clock + Eprint>(
         self,
         rt: &'a R,
@@ -134,7 +135,8 @@ fn marked_line(alloc: Global, report: &FaultReport) -> Option<String> {
     format!(in alloc; "{NUMBER}{number}{END}{offset}{before}{PLACE}{place}{END}{after}").ok()
 }
 
-/// Returns the number of bytes of a fault's first word, without colons at its end.
+/// Returns the number of bytes of a fault's first word, without colons at its end: a misused command
+/// line prints as `usage: ..`, and the colon is not marked.
 fn number_len(fault: &str) -> usize {
     match fault.split_once(' ') {
         Some((word, _)) => word.trim_end_matches(':').len(),

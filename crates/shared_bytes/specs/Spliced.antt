@@ -1,5 +1,5 @@
--- Own bytes with splices, which are the encodings of shared values, between them. In this file g is a splice.
--- All of this is this project's.
+-- Own bytes with splices, which are the encodings of shared values, between them. In this file g is a splice, and gs are the
+-- splices after it. All of this is this project's.
 use Rattle.std.specs.Prelude.{◌≡◌, ℕ, zero, suc, ◌+◌, ◌-◌, ◌≤◌, List, [], ◌∷◌, ◌++◌, take, drop, length, get_or, ◌<◌}
 use Rattle.shared_bytes.specs.declared.splice.Splice.{Splice}
 
@@ -17,15 +17,16 @@ AreSplices base at end total [] = (base ≤ end) × (total ≡ at + (end - base)
 AreSplices base at end total (g ∷ gs) =
     (base ≤ g.own) × (g.own ≤ end) × (g.at ≡ at + (g.own - base)) × AreSplices g.own (g.at + length g.bytes) end total gs
 
--- Bytes may be cut at offset `pos`: exactly the first `o` own bytes and the first `k` splices come before it. The first
--- `base` own bytes come before offset `at`.
+-- `CutAt base at splices k o pos`: a part of a list may be cut at offset `pos` of the list. The part begins at offset `at`, after
+-- the first `base` own bytes of the list, and has these splices. Exactly the first `o` own bytes of the list, and the first `k`
+-- of the part's splices, come before `pos`. The last case continues after the first splice.
 abbrev pub CutAt : ℕ → ℕ → List Splice → ℕ → ℕ → ℕ → Type 0
 CutAt base at [] zero o pos = (base ≤ o) × (pos ≡ at + (o - base))
 CutAt base at (g ∷ gs) zero o pos = (base ≤ o) × (pos ≡ at + (o - base)) × (o ≤ g.own)
 CutAt base at [] (suc k) o pos = ⊥
 CutAt base at (g ∷ gs) (suc k) o pos = CutAt g.own (g.at + length g.bytes) gs k o pos
 
--- at least `own` own bytes come before the splice with index `k` (from 0), if there is one
+-- at least `own` own bytes come before the splice with index `k` (from 0), if there is a splice with this index
 abbrev pub IsBeforeSplice : List Splice → ℕ → ℕ → Type 0
 IsBeforeSplice gs k own = (x : Splice) → k < length gs → x ≡ get_or gs k x → own ≤ x.own
 

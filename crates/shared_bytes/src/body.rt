@@ -39,13 +39,15 @@ impl<'a> Model for Body<'a> {
 
     ghost view = { λ b. spliced b.base b.own.now b.splices.now };
 
+    // The splices are in order, and the offsets in them and `end` are right.
     ghost invariant = { λ b. AreSplices b.base b.at (b.base + length b.own.now) b.end b.splices.now
         × (b.base + length b.own.now < 2 ^ 64) };
 }
 
-/// Returns the number of own bytes of the whole list before `offset`, if the own bytes with the
-/// indices from `from` to below `end` begin at offset `start`, with no splice between them. Returns
-/// `None` if `offset` is before `start` or after the end of these bytes.
+/// Returns the number of own bytes of the whole list before `offset`: the `from` ones before offset
+/// `start`, and all bytes from `start` up to `offset`. The caller checks that no splice is between
+/// these two offsets. Returns `None` if `offset` is before `start`, or if the number would exceed
+/// `end`.
 fn own_from(from: usize, start: u64, end: usize, offset: u64) -> Option<usize>
     ensures following { IfSome result (λ own. from ≤ own) }
     ensures at { IfSome result (λ own. offset ≡ start + (own - from)) }
@@ -61,8 +63,8 @@ fn own_from(from: usize, start: u64, end: usize, offset: u64) -> Option<usize>
     Some(own)
 }
 
-/// Returns true if there is a splice with index `count` and at least `own` own bytes come before
-/// it, or if the list of splices ends before this index.
+/// Returns whether at least `own` own bytes come before the splice with index `count` (from 0).
+/// Returns true if there is no such splice.
 fn is_before(splices: &[Splice], count: usize, own: usize) -> bool
     ensures { IsTrue result → IsBeforeSplice splices.now count own }
 {
@@ -98,7 +100,8 @@ fn first_own(splices: &[Splice], start: Start, end: usize, offset: u64) -> Optio
 }
 
 /// Returns the number of own bytes of the whole list before `offset`, if exactly `count` splices of
-/// the part come before it, and otherwise `None`, as `first_own` does.
+/// the part come before it. `end` is the same as for `first_own`. Returns `None` if another number
+/// of splices comes before the offset, or if the offset is inside a splice or outside the part.
 fn next_own(
     splices: &[Splice],
     start: Start,
@@ -120,8 +123,8 @@ fn next_own(
     Some(own)
 }
 
-/// Returns the number of own bytes of the whole list before `offset`, if exactly `count` splices of
-/// the part come before it, and otherwise `None`, as `first_own` does. `count` may be 0.
+/// Returns the result of `next_own`, but for any `count`: if it is 0, that of `first_own`, and if it
+/// exceeds the number of splices, `None`.
 fn own_at(splices: &[Splice], start: Start, end: usize, offset: u64, count: usize) -> Option<usize>
     ensures cut { IfSome result (λ own. CutAt start.base start.at splices.now count own offset) }
     ensures within { IfSome result (λ own. own ≤ end) }
@@ -178,9 +181,10 @@ impl<'a> Body<'a> {
     }
 
     /// Splits the body at an offset, in bytes from its first byte, before which exactly `count` of
-    /// its shared values come. Returns `None` if the offset is inside a shared value or greater
-    /// than the length, or if another number of shared values comes before it. No clause says when
-    /// the result is `None`. Takes no memory.
+    /// its shared values come. `splices_before` returns this number; callers that know it need no
+    /// search. Returns `None` if the offset is inside a shared value or greater than the length, or
+    /// if another number of shared values comes before it. No clause says when the result is
+    /// `None`. Takes no memory.
     pub fn cut(self, offset: u64, count: usize) -> Option<(Body<'a>, Body<'a>)>
         ensures parts { IfSome result (λ p. self.entry ≡ p.0 ++ p.1) }
         ensures size { IfSome result (λ p. length p.0 ≡ offset) }
@@ -223,7 +227,7 @@ impl<'a> Body<'a> {
         }
     }
 
-    /// Lends the own bytes with which the body begins.
+    /// Lends the own bytes with which the body begins, up to its first shared value.
     pub fn own_prefix(&self) -> &'a [u8]
         ensures { take (length result.now) self.now ≡ result.now }
     {
@@ -268,6 +272,7 @@ impl<'a> Body<'a> {
     {
         let count = self.splices_before(offset).checked_sub(1)?;
         let start = self.splices.get(count)?.at.checked_sub(self.at)?;
+        // never true, but no clause of `splices_before` says so
         if offset < start {
             return None;
         }
@@ -316,8 +321,8 @@ impl<'a> Body<'a> {
     /// Returns the value whose encoding is a prefix of the body, and the rest of the body. A shared
     /// value gets one more owner, and a value of own bytes is read as `Carried::read` does. Returns
     /// `None` if the body begins neither with a shared value nor with a value of own bytes alone.
-    /// It may still begin with a value then, which only a copy of all bytes (`append_to`) shows.
-    /// Fails with NoMemory.
+    /// It may still begin with a value then, of whose encoding only a part is own bytes. A copy of
+    /// all bytes (`append_to`) shows whether it does. Fails with NoMemory.
     pub fn take(&self, alloc: Global) -> Result<Option<(Carried, Body<'a>)>, NoMemory>
         ensures well { IfOk result (λ found. IfSome found (λ p. IsWell p.0)) }
         ensures encoded { IfOk result

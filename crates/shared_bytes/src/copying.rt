@@ -6,11 +6,13 @@ ghost use Rattle.shared_bytes.specs.Reads.{HasRead};
 
 use ag_carried::Encoded;
 
-/// Returns which bytes of a piece to copy to a slice next: the index of the first one in the piece,
-/// and their number. Returns `None` if the slice is full, or if the piece does not have the next
-/// byte. A piece is a run of own bytes or an encoding; it has the `len` bytes from offset `place`
-/// on. The slice has `size` bytes: it is to hold the bytes from offset `at` on, and has the first
-/// `done` of them. Offsets count from the first byte of the body.
+/// Returns which bytes of a piece of a body to copy to a slice next: the index of the first one in
+/// the piece, and their number. Returns `None` if the slice is full, or if the piece does not have
+/// the next byte.
+///
+/// The piece is a run of own bytes or an encoding. `place` is its offset in the body, and `len` its
+/// number of bytes. The slice has `size` bytes. It is to hold the bytes of the body from offset `at`
+/// on, and has the first `done` of them.
 fn next_part(place: u64, len: usize, at: u64, done: usize, size: usize) -> Option<(usize, usize)>
     requires within { done ≤ size }
     requires room { at + size < 2 ^ 64 }
@@ -31,9 +33,10 @@ fn next_part(place: u64, len: usize, at: u64, done: usize, size: usize) -> Optio
     Some((skip, (len - skip).min(size - done)))
 }
 
-/// Copies the next bytes that `out` is to hold from a piece, if the piece has them. The piece
-/// begins at offset `place`; `out` is to hold the bytes from offset `at` on, and has the first
-/// `done` of them. Returns the number of bytes that `out` then has.
+/// Copies the next bytes that `out` is to hold from a piece of a body, if the piece has them. The
+/// piece begins at offset `place` of the body. `out` is to hold the bytes from offset `at` on, and
+/// has the first `done` of them. Returns the number of bytes that `out` then has. In the clause
+/// `read`, `content` is the list of all bytes of the body, and `rest` those after the piece.
 pub(crate) fn copy_own(piece: &[u8], place: u64, at: u64, done: usize, out: &mut [u8]) -> usize
     requires within { done ≤ length out.old }
     requires room { at + length out.old < 2 ^ 64 }

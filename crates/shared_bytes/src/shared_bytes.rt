@@ -16,8 +16,11 @@ use std::marker::Model;
 #[derive(Drop)]
 pub struct SharedBytes {
     alloc: Global,
+    /// The own bytes.
     own: Vec<u8>,
+    /// The encodings between them, in their order.
     splices: Vec<Splice>,
+    /// The number of all bytes.
     len: u64,
 }
 
@@ -33,6 +36,8 @@ impl Model for SharedBytes {
 
     ghost use Rattle.std.specs.Prelude.{◌<◌, slice_index};
 
+    // The splices are in order, the offset in each splice and `len` are right, and each number in
+    // the list is below 256.
     ghost invariant = { λ m. AreSplices 0 0 (length m.own.items) m.len m.splices.items
         × ((i : ℕ) → slice_index (spliced 0 m.own.items m.splices.items) i < 256) };
 }
@@ -58,7 +63,7 @@ impl SharedBytes {
         self.len
     }
 
-    /// Returns whether the number of bytes fits in 64 bits after `count` more.
+    /// Returns whether the number of bytes is below 2^64 after `count` more are appended.
     fn has_room(&self, count: u64) -> bool
         ensures { IsTrue result → length self.now + count < 2 ^ 64 }
     {
@@ -133,8 +138,8 @@ impl SharedBytes {
         self.len = 0;
     }
 
-    /// Appends all bytes of `other`: a copy of its own ones, and its shared values, of each of
-    /// which this list becomes one more owner. Fails with NoMemory; then nothing changes.
+    /// Appends all bytes of `other`. Copies its own bytes, and becomes one more owner of each of its
+    /// shared values. Fails with NoMemory; then nothing changes.
     pub fn append_all(&mut self, other: &SharedBytes) -> Result<(), NoMemory>
         ensures ok { OnOk result (self.new ≡ self.old ++ other.now) }
         ensures err { OnErr result (self.new ≡ self.old) }

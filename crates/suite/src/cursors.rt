@@ -3,6 +3,8 @@
 use ag_expr::{Cursor, GrammarToken, Punctuation, unescaped};
 use std::test::Fail;
 
+/// Checks the tokens of a text and their offsets in bytes, and that `peek` returns a text as it is
+/// written, without replacing its escapes.
 #[test]
 fn tokens_one_by_one(rt: HostRuntime) -> Result<(), Fail> {
     let mut cursor = Cursor::new("\tlet a = \"b\\n\" ;");

@@ -35,8 +35,8 @@ fn numbers(alloc: Global, count: u16) -> Result<ListTree, ValueFault> {
     Ok(list)
 }
 
-/// Returns a list of 2^n items, all the number 1, for the least n with 2^n >= `least`, but for at most n = 16. It
-/// is one item, joined with itself n times.
+/// Joins the list of one item, the number 1, with itself, and the result with itself, and so on, until the list has
+/// at least `least` items. Joins at most 16 times, which makes 65,536 items.
 fn doubled(alloc: Global, least: usize) -> Result<ListTree, ValueFault> {
     let mut list = single(alloc, 1)?;
     for _ in 0..16 {
@@ -50,7 +50,8 @@ fn doubled(alloc: Global, least: usize) -> Result<ListTree, ValueFault> {
 
 /// Copies a list to one without a tree, and returns a new tree of that copy.
 fn rebuilt(alloc: Global, list: &ListTree) -> Result<ListTree, NoMemory> {
-    // unused at run time: the contract of `weight` says that the list is well, which `from_list` requires
+    // unused at run time: `from_list` requires a well list (within the limits of values), and the contract of
+    // `weight` says that this one is well
     let _weight = list.weight();
     ListTree::from_list(alloc, list.to_list(alloc)?)
 }
@@ -76,7 +77,8 @@ fn an_encoding_is_that_of_the_flat_list(rt: HostRuntime) -> Result<(), ValueFaul
     let expected = b"\x02\0\0\0\x02\0\0\0\0\0\0\0\0\0\0\0\0\0\0\0\0\0\x01";
     assert!(rt; bytes.as_slice() == expected.as_slice());
     assert!(rt; list.has_encoding(bytes.as_slice()) && !list.has_encoding(&bytes[..22]));
-    // `copy_part` requires that the encoding has the bytes at the offsets 3, 4 and 5
+    // never true, and only for the prover: `copy_part` requires that the encoding has at least 6 bytes, and no
+    // contract says so of this list
     if list.weight() < 6 {
         return Err(ValueFault::Malformed);
     }
@@ -119,6 +121,7 @@ fn trees_are_balanced(rt: HostRuntime) -> Result<(), ValueFault> {
     }
     // a balanced tree of 4,096 items has a height of at most 1 + 1.45 · log2(4096), which is 18.4; these are lower
     assert!(rt; at_end.height() <= 17 && at_beginning.height() <= 17);
+    // a new tree has the least height
     assert_eq!(rt; rebuilt(alloc, &at_end)?.height(), 13);
     let short = numbers(alloc, 3)?;
     let mixed = joined(

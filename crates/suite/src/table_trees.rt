@@ -27,7 +27,8 @@ fn table_of(alloc: Global, keys: &[u32]) -> Result<TableTree, PutFault> {
 
 /// Copies a table to one without a tree, and returns a new tree of that copy.
 fn rebuilt(alloc: Global, table: &TableTree) -> Result<TableTree, NoMemory> {
-    // unused at run time: the contract of `weight` says that the table is well, which `from_table` requires
+    // unused at run time: `from_table` requires a well table (within the limits of values), and the contract of
+    // `weight` says that this one is well
     let _weight = table.weight();
     TableTree::from_table(alloc, table.to_table(alloc)?)
 }

@@ -22,7 +22,8 @@ pub record IsTotalled (pairs : List (List ℕ × Value)) (totals : Totals) (bloc
   pub bytes : AreBytes (joined (map spelling_of_pair pairs))
   pub block_is : IfSome block (λ encoded. encoded ≡ joined (map spelling_of_pair pairs))
 
--- the pairs of a fork are a well table, and the fork's totals and block are those of its pairs
+-- The pairs of a fork are a well table, and the fork's totals and block are those of its pairs. Nothing is required of a leaf,
+-- which is an empty tree, nor of the height.
 abbrev pub IsNode : TableNode → Type 0
 IsNode Leaf = Unit {0}
 IsNode (Fork rc) = IsTotalled (pairs_of (Fork rc)) rc.value.totals rc.value.block

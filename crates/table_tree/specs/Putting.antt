@@ -24,8 +24,8 @@ IsFaultOf pairs (Some fault.TooHeavy) =
     (depth_of (value.Table pairs) ≤ max_value_depth) × (max_weight < weight_of (value.Table pairs))
 IsFaultOf pairs (Some fault.NoMemory) = ⊥
 
--- the same for a table whose pairs have these totals: its depth is one more, and its weight five bytes more than that of the
--- pairs
+-- The same for a table whose pairs have these totals: its depth is one more than the greatest depth of its values, and its weight
+-- is five bytes more than that of its pairs.
 abbrev pub IsLimitFault : Totals → Option PutFault → Type 0
 IsLimitFault totals None = (totals.depth < max_value_depth) × (5 + totals.bytes ≤ max_weight)
 IsLimitFault totals (Some fault.TooDeep) = max_value_depth ≤ totals.depth

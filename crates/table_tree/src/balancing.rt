@@ -34,9 +34,9 @@ pub(crate) fn balanced(
     TableTree::fork(alloc, left, entry, right)
 }
 
-/// Returns the same table. If its right side was higher than its left one, the table is rotated to
-/// the left. This is the first half of a double rotation, before `turned_right`. Fails with
-/// NoMemory.
+/// Returns a table with the same pairs: if the right side of `table` is higher than the left one,
+/// `table` rotated to the left, and otherwise `table` itself. This is the first half of a double
+/// rotation, before `turned_right`. Fails with NoMemory.
 fn with_high_left(alloc: Global, table: TableTree) -> Result<TableTree, NoMemory>
     ensures { IfOk result (λ same. same ≡ table) }
 {
@@ -54,9 +54,9 @@ fn with_high_left(alloc: Global, table: TableTree) -> Result<TableTree, NoMemory
     )
 }
 
-/// Returns the same table. If its left side was higher than its right one, the table is rotated to
-/// the right. This is the first half of a double rotation, before `turned_left`. Fails with
-/// NoMemory.
+/// Returns a table with the same pairs: if the left side of `table` is higher than the right one,
+/// `table` rotated to the right, and otherwise `table` itself. This is the first half of a double
+/// rotation, before `turned_left`. Fails with NoMemory.
 fn with_high_right(alloc: Global, table: TableTree) -> Result<TableTree, NoMemory>
     ensures { IfOk result (λ same. same ≡ table) }
 {

@@ -59,8 +59,8 @@ impl TableTree {
         byte_count(&header) + self.totals().bytes as usize
     }
 
-    /// Returns the bytes of the encoding before the first pair: 3, the number of the kind, and the
-    /// number of pairs, big-endian.
+    /// Returns the bytes of the encoding before the first pair: a 3, with which each encoding of a
+    /// table begins, and the number of pairs in four bytes, big-endian.
     pub(crate) fn header(&self) -> [u8; 5]
         ensures bytes { result ≡ 3 ∷ to_be_bytes w32 (length self.now) }
         ensures well { IsWell (v.Table self.now) }
@@ -99,9 +99,9 @@ impl TableTree {
         root.right.append_pairs(out)
     }
 
-    /// Returns bytes of the encodings of the pairs, joined, from `offset` on (in bytes, from 0), up
-    /// to the end of the block that contains this offset, or of the encoding of the pair there if
-    /// no block does. The result is not empty.
+    /// Returns a part of the joined encodings of the pairs that begins at `offset` (in bytes, from
+    /// 0). It extends to the end of the block that contains this offset. If no block contains it,
+    /// it extends to the end of the pair's encoding there. The result is not empty.
     fn piece_at(&self, offset: usize) -> &[u8]
         requires { offset < length (joined (map spelling_of_pair self.now)) }
         ensures { IsPiece (drop offset (joined (map spelling_of_pair self.now))) result.now }

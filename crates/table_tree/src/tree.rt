@@ -18,13 +18,15 @@ use std::rc::Rc;
 
 /// The least number of bytes of a long block. A *block* is the list of the encodings of all pairs
 /// of a subtree, one after the other. The root of a subtree stores the block if the block has the
-/// length of a long or of a short one. `append_encoding` mostly copies long blocks.
+/// length of a long or of a short one. The limits only influence time and memory: `append_encoding`
+/// copies long blocks in place of single pairs, but `put` makes those on its way anew.
 const MIN_BLOCK: usize = 768;
 
 /// The greatest number of bytes of a long block.
 const MAX_BLOCK: usize = 2048;
 
-/// The least number of bytes of a short block. Long blocks are made of short ones.
+/// The least number of bytes of a short block. A new long block is copied mostly from short blocks
+/// below it, which is cheaper than from single pairs.
 const MIN_SHORT_BLOCK: usize = 192;
 
 /// The greatest number of bytes of a short block.
@@ -47,7 +49,7 @@ enum TableNode {
     Fork(Rc<TableBranch>),
 }
 
-/// A pair between the pairs before it and those after it.
+/// A node: a pair, the tree of the pairs before it, and the tree of the pairs after it.
 #[cycle(tree)]
 #[derive(Drop)]
 struct TableBranch {
@@ -67,6 +69,7 @@ impl Model for TableTree {
     ghost use Rattle.std.specs.Prelude.{ℕ, List, length};
     ghost use Rattle.std.specs.Coded.{codes};
     ghost use Rattle.ag_value.specs.declared.value.Value.{Value as AttributeValue};
+    // what the prover knows of the Rust type `Value`; only `coded` uses it
     ghost use Rattle.ag_value.specs.contracts.value.Value as value_row;
 
     ghost Value = { List (List ℕ × AttributeValue) };
@@ -132,8 +135,8 @@ impl TableTree {
         self.totals().pairs as usize
     }
 
-    /// Returns the weight of the table, which is the length of its encoding in bytes: five before
-    /// the pairs, and those of the pairs. Takes constant time.
+    /// Returns the weight of the table, which is the length of its encoding in bytes: five bytes
+    /// before the pairs, and the bytes of the pairs. Takes constant time.
     pub fn weight(&self) -> u64
         ensures weight { result ≡ weight_of (v.Table self.now) }
         ensures well { IsWell (v.Table self.now) }
@@ -149,7 +152,8 @@ impl TableTree {
         1 + self.totals().depth
     }
 
-    /// Returns the totals of all pairs.
+    /// Returns the totals of all pairs. The clauses `small`, `well` and `bytes` state what callers
+    /// need of the table: it is within the limits, and its encoding consists of bytes.
     #[inline(always)]
     pub(crate) fn totals(&self) -> Totals
         ensures totals { AreTotals self.now result }

@@ -13,14 +13,16 @@ use std::fs;
 use std::process::ExitCode;
 use std::rt::{Clock, Files};
 
-/// Translates each sentence, and writes its translation to a file of its own. The grammar is read
-/// first. If a sentence fails, prints a message and continues with the next one. Returns the status
-/// of the first sentence that failed; 0 if none did.
+/// Translates each sentence, and writes its translation to a file of its own. The grammar is read once,
+/// before the sentences. If a sentence fails, prints a message and continues with the next one. Returns
+/// the status of the first sentence that failed; 0 if none did.
 ///
-/// Fails before a sentence is read if the grammar can't be read or is refused, if the folder for
-/// the translations is missing or not a folder (F1), if a translation's file is one of the inputs,
-/// with `--work` also if an input or a translation's file is one of the tree files there, and if
-/// memory is refused before that.
+/// Fails only before a sentence is read:
+/// - if a translation's file is one of the inputs;
+/// - with `--work`, if an input or a translation's file is one of the tree files there;
+/// - if the folder for the translations is missing or not a folder (F1);
+/// - if the grammar can't be read or is refused;
+/// - if memory is refused.
 pub fn run_sentences<'a, R: Files + Input + Print + Eprint + Clock>(
     rt: &'a R,
     alloc: Global,
@@ -58,7 +60,8 @@ pub fn run_sentences<'a, R: Files + Input + Print + Eprint + Clock>(
     Ok(first)
 }
 
-/// Returns the path of each translation: DIR/NAME.out for PATH/NAME. Fails if memory is refused.
+/// Returns the path of each translation: DIR/NAME.out for the sentence at PATH/NAME, where DIR is the folder
+/// for the translations. Fails if memory is refused.
 fn output_paths(alloc: Global, paths: &BatchPaths<'_>) -> Result<Vec<String>, AllocError> {
     let mut outputs = Vec::new(alloc);
     for sentence in paths.sentences.iter() {

@@ -49,8 +49,8 @@ impl CauseFinder<'_> {
     }
 }
 
-/// Returns a report with the text about the cause, if there is one, after what was found. Returns
-/// the report without any of its parts if memory for the text is refused.
+/// Returns a report with the text about the cause, if there is one, at the end of what its message says
+/// was found. Returns the report without any of its parts if memory for the text is refused.
 pub(crate) fn with_cause(mut report: FaultReport, cause: Option<String>) -> FaultReport {
     let Some(cause) = cause else {
         return report;

@@ -3,6 +3,7 @@
 use crate::cause::{CauseFinder, with_cause};
 use crate::translations::{finish, without_write_fault, write_translation};
 use ag_job::{ReadFault, read_prefix};
+use ag_value::Value;
 use aggen::{Fault, Translator};
 use aggen_files::{WorkFiles, evaluate_file};
 use command_line::{EvalPaths, InputPath};
@@ -55,8 +56,8 @@ pub fn evaluate<R: Files + Input + Print + Eprint + Clock>(
     }
 }
 
-/// A translator, with the paths of the tree file to translate, of the output, and of the folder for
-/// the tree files of the passes.
+/// What an evaluation needs: the runtime, the allocator, a translator with its grammar's text, and the
+/// paths of the tree file to translate, of the output, and of the folder for the tree files of the passes.
 #[derive(Drop)]
 struct EvaluationRun<'a, R> {
     rt: &'a R,
@@ -69,7 +70,8 @@ struct EvaluationRun<'a, R> {
 }
 
 impl<R: Files + Input + Print + Eprint + Clock> EvaluationRun<'_, R> {
-    /// Translates the tree into memory, and writes the translation to the file at `path`.
+    /// Translates the tree into memory, and writes the translation to the file at `path`. Fails as `run`
+    /// and `write_file` do, but with NoMemory if `run` fails with O2.
     fn write(&self, path: &str) -> Result<(), FaultReport> {
         let mut text = Vec::new(self.alloc);
         self.run(&mut text).map_err(without_write_fault)?;
@@ -77,7 +79,7 @@ impl<R: Files + Input + Print + Eprint + Clock> EvaluationRun<'_, R> {
     }
 
     /// Opens the tree file, or reads it from standard input into memory. Then translates the tree,
-    /// and writes the translation to `out`.
+    /// and writes the translation to `out`. On failure returns the report.
     fn run<W: Write>(&self, out: &mut W) -> Result<(), FaultReport> {
         match self.paths.tree {
             InputPath::File(path) => {
@@ -183,7 +185,8 @@ impl<R: Files + Input + Print + Eprint + Clock> EvaluationRun<'_, R> {
     /// Returns the report of a fault. With `--work` the report names the folder if a tree file
     /// there seems to have failed: if the fault is F1 (the translated tree's file was opened
     /// before), or if it is D1 and the device of the translated tree can still return its length.
-    /// Otherwise the report names the translated tree file.
+    /// Otherwise it is the report of `FaultReport::of_tree`, which names the translated tree file if the
+    /// fault is D1, or one of the tree in it (R1, P2 or P3).
     fn report_of<T: Device>(&self, fault: Fault, tree: &mut T) -> FaultReport {
         let is_of_folder = match fault {
             Fault::File => true,
@@ -202,8 +205,9 @@ impl<R: Files + Input + Print + Eprint + Clock> EvaluationRun<'_, R> {
     /// Returns what the message says of the cause, if the fault is O1 and the root's `out` is an
     /// error. Finding the cause needs the file of the last pass, and the device with this file has
     /// been dropped. So this translates the tree once more, with the tree files in memory.
+    /// Returns `None` if no cause is found.
     fn cause_of<T: Device>(&self, fault: &Fault, tree: &mut T) -> Option<String> {
-        if !matches!(fault, Fault::NoText(_)) {
+        if !matches!(fault, Fault::NoText(Value::Fault(_))) {
             return None;
         }
         let mut a = SharedDevice::new(self.alloc);

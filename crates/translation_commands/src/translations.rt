@@ -79,7 +79,8 @@ pub fn run_input<R: Files + Input + Print + Eprint + Clock>(
     }
 }
 
-/// Translates a job, with its tree files in memory, and prints the translation.
+/// Translates a job, with its tree files in memory, and prints the translation. Fails if the grammar, the
+/// sentence or the translation is refused, if the output fails, and if memory is refused.
 fn translate_job<R: Files + Print + Eprint + Clock>(
     rt: &R,
     alloc: Global,
@@ -138,10 +139,10 @@ impl<R: Files + Print + Eprint + Clock> TranslationRun<'_, R> {
         write_file(self.rt, self.alloc, path, text.as_slice())
     }
 
-    /// Translates a sentence, and writes the translation to `out`. On failure returns the report.
-    /// For F1 and D1 with `--work` it names the folder of the tree files. Otherwise it is that of
-    /// `report_of_sentence`, with the cause if `cause_of` finds one. The progress begins with pass
-    /// 0, the parser's tree file.
+    /// Translates a sentence, and writes the translation to `out`. On failure returns a report.
+    /// After F1 and D1 with `--work` the report names the folder of the tree files. Otherwise it is
+    /// the report of `report_of_sentence`, with the cause if `cause_of` finds one. The progress begins
+    /// with pass 0, the parser's tree file.
     fn run<W: Write>(&self, sentence: Source<'_>, out: &mut W) -> Result<(), FaultReport> {
         let mut cause = None;
         let translated = match self.screen.progress(self.rt, self.translator, 0) {
@@ -161,8 +162,8 @@ impl<R: Files + Print + Eprint + Clock> TranslationRun<'_, R> {
     }
 
     /// Returns what the message says of the cause, if the translation failed with O1 and the root's
-    /// `out` is an error. The devices contain the last two tree files then. Returns `None`
-    /// otherwise.
+    /// `out` is an error. (After O1 the devices contain the last two tree files.) Returns `None` after
+    /// other results, and if no cause is found.
     fn cause_of<D: Device>(
         &self,
         translated: &Result<aggen::Report, Fault>,
@@ -293,10 +294,10 @@ pub fn finish<F: io::Read + Write + io::Seek + OpenFile + Drop>(
     Ok(())
 }
 
-/// Writes the text of a translation that was made in memory. Fails with O2 if a write to `out`
-/// fails or takes no byte. If `translated` is a failure, writes nothing, and fails with the same
-/// fault. But O2 becomes NoMemory, since a write to a buffer in memory fails only if memory is
-/// refused.
+/// Writes `text` to `out`: the text of a translation that was made in memory, with the result `translated`.
+/// Fails with O2 if a write to `out` fails, or accepts none of the bytes. If `translated` is a failure,
+/// writes nothing, and fails with the same fault; but in place of O2 with NoMemory, since a write to a
+/// buffer in memory fails only if memory is refused.
 pub fn write_translation<W: Write>(
     translated: Result<aggen::Report, Fault>,
     text: &[u8],

@@ -28,7 +28,8 @@ pub fn parse_file<R: Files + Input + Print>(
     parse_file_with(rt, alloc, &translator, paths)
 }
 
-/// Reads the sentence, writes its tree file with a translator, and prints the number of nodes.
+/// Reads the sentence, writes its tree file with a translator, and prints the number of nodes. Fails as
+/// `parse_file` does after it has read the grammar. After F1 and D1 of the tree file the report names it.
 fn parse_file_with<R: Files + Input + Print>(
     rt: &R,
     alloc: Global,
@@ -47,7 +48,7 @@ fn parse_file_with<R: Files + Input + Print>(
 }
 
 /// Opens the file at `path`, or creates it, writes the tree file of a sentence there, and prints
-/// the number of nodes.
+/// the number of nodes. Fails with F1 if the file can't be opened or created, and as `parse_to_file` does.
 fn write_tree<R: Files + Print>(
     rt: &R,
     alloc: Global,
@@ -80,7 +81,8 @@ pub fn convert_file<R: Files + Input + Print>(
     convert_file_with(rt, alloc, &translator, paths)
 }
 
-/// Opens the old file, converts it with a translator, and prints the number of nodes.
+/// Opens the old file, converts it with a translator, and prints the number of nodes. Fails as
+/// `convert_file` does after it has read the grammar.
 fn convert_file_with<R: Files + Print>(
     rt: &R,
     alloc: Global,
@@ -93,7 +95,8 @@ fn convert_file_with<R: Files + Print>(
     }
 }
 
-/// Converts the tree file on the device `old`, and prints the number of nodes.
+/// Converts the tree file on the device `old`, and prints the number of nodes. On failure returns the report of
+/// `FaultReport::of_old_tree`.
 fn convert_tree<R: Files + Print>(
     rt: &R,
     alloc: Global,
@@ -114,7 +117,8 @@ fn convert_tree<R: Files + Print>(
 }
 
 /// Opens the file at `path`, or creates it, converts the tree file on the device `old` to it, and
-/// prints the number of nodes.
+/// prints the number of nodes. Fails with F1 if the file at `path` can't be opened or created, and as
+/// `upgrade_file` does.
 fn write_converted<R: Files + Print>(
     rt: &R,
     alloc: Global,

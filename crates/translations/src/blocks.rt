@@ -30,7 +30,8 @@ V = { $0.c = 0; }
 /// The number of stored nodes of the sentence's tree.
 const NODES: u64 = 65_536;
 
-/// The length in bytes of a frame whose record is a node without values.
+/// The length in bytes of a frame whose record is a node without values: 3 bytes of kind and number, and 4 bytes of
+/// length.
 const FRAME: u64 = 7;
 
 /// Returns a sentence of 85 groups of 24 lists: 23 lists of 31 letters (33 nodes each) and one of 8 (10 nodes).
@@ -51,9 +52,11 @@ fn frames_answer(alloc: Global, bytes: u64, puts: u64, before: u64) -> Result<St
 }
 
 /// Returns whether each file of a device was read at least 112 times after its header, and at least
-/// 400 frames were appended between each of these reads and the next. The appends between the last
-/// two reads are not checked. The frames of the tree's nodes fill 112 blocks of 4,096 bytes, and a
-/// block has about 585 of them.
+/// 400 frames were appended between each of these reads and the next. Only the gap before the last
+/// read is not checked. The frames of the tree's nodes fill 112 blocks of 4,096 bytes, so with fewer
+/// reads one would be longer than a block. A block has about 585 frames. Before the next read a pass has
+/// appended all of them but those of open nodes, and at most 140 nodes are open at a time, since the
+/// tree has 140 levels.
 fn is_by_blocks(device: &CountingDevice<'_>) -> bool {
     device.fewest_reads() >= 112 && device.least_gap() >= 400
 }
@@ -148,7 +151,7 @@ fn assignment(alloc: Global) -> Result<Assignment, AllocError> {
     Ok(Assignment::of_rows(rows))
 }
 
-/// Returns the plan, whose first two passes have no rules.
+/// Returns the plan. Its first two passes have no rules: they are there so that three passes run over one tree.
 fn plan(alloc: Global, grammar: &Grammar) -> Result<Plan, Mistake>
     ensures { IfOk result (λ plan. IsPlan grammar.now plan.0 plan.1) }
 {

@@ -92,6 +92,8 @@ impl<'a> CountingDevice<'a> {
     }
 }
 
+// No contract here needs to know the content, so for contracts the device is never honest, and its
+// content is empty. Then no clause about the content claims anything.
 impl Device for CountingDevice<'_> {
     ghost content = { λ _. [] };
 

@@ -9,7 +9,8 @@ use passrun::RunFault;
 use rows::words::{Mistake, first_word, number};
 use std::alloc::Global;
 
-/// Returns the fault that a text names.
+/// Returns the fault that the first word of a text names. `tests/README.md` lists these names. A number after the name
+/// is an offset in bytes, or the value of the root's `out` for `no-text`.
 fn fault(text: &str) -> Result<Fault, Mistake> {
     let (name, rest) = first_word(text);
     match name {

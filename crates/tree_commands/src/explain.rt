@@ -23,9 +23,9 @@ use value_reasons::{ExplainedTree, NodeRequest, write_errors};
 /// The greatest number of characters that are printed of a value that is not a number.
 const WIDTH: usize = 60;
 
-/// Prints the values of a node of a tree file with the rules that computed them, or the rules in which errors
-/// arise. The grammar is read first, then the sentence, if there is one, then the whole tree file; only then is
-/// anything printed.
+/// Prints the values of a node of a tree file with the rules that computed them or, with `--errors`, the rules of
+/// the tree in which errors arise. The grammar is read first, then the sentence, if there is one, then the whole tree file; only
+/// then is anything printed.
 ///
 /// Fails:
 /// - if an input can't be read or is refused, if the tree file is damaged, and if its tree exceeds a limit;
@@ -33,7 +33,10 @@ const WIDTH: usize = 60;
 /// - if the sentence does not have the line and column, and if its tokens are not the tree's;
 /// - if the node lacks an attribute that the command line names;
 /// - with `--errors`, if the tree file is not of the last pass;
-/// - if the output fails (O2), and if memory is refused.
+/// - if a call on the tree file fails (D1), if the output fails (O2), and if memory is refused.
+///
+/// With `--errors` the records are read again while lines are printed. So a part of the output may have been
+/// printed before O2, NoMemory or D1, and before R1 if something changes the file meanwhile.
 pub fn explain_tree<R: Files + Input + Print>(
     rt: &R,
     alloc: Global,
@@ -88,16 +91,19 @@ fn places_of_path(alloc: Global, node: NodeWords<'_>) -> Result<Vec<u16>, FaultR
 #[derive(Clone, Copy)]
 struct ExplanationRun<'a> {
     translator: &'a Translator,
+    /// The name and the text of the grammar.
     source: Source<'a>,
     /// The bytes of the sentence; empty if no line and column of it name the node.
     sentence: &'a [u8],
+    /// The path of the tree file.
     path: &'a str,
     /// Whether the tree file was chosen in a folder, so that its path has to be printed.
     is_chosen: bool,
 }
 
 impl<'a> ExplanationRun<'a> {
-    /// Prints the explanation of a node of the tree file on a device, or the rules in which errors arise.
+    /// Prints the explanation of a node of the tree file on a device or, with `--errors`, the rules in which
+    /// errors arise. Fails as `explain_tree` does after it has opened the tree file.
     fn run<R: Print, D: Device>(
         self,
         rt: &R,
@@ -137,8 +143,8 @@ impl<'a> ExplanationRun<'a> {
         }
     }
 
-    /// Returns the path, as child numbers, from the root to the node at a line and column of the sentence. Fails as
-    /// `TreeSentence::node_at` does.
+    /// Returns the path, as child numbers from 1, from the root to the node at a line and column of the sentence.
+    /// Fails as `TreeSentence::node_at` does.
     fn places_at<D: Device>(
         self,
         alloc: Global,
@@ -159,8 +165,8 @@ impl<'a> ExplanationRun<'a> {
         tree.node_at(alloc, position, device)
     }
 
-    /// Fails if the words of the command line ask for the rules in which errors arise and the file
-    /// is not of the last pass. Then fails if the node lacks an attribute that these words name.
+    /// Fails if `--errors` is given and the file is not of the last pass. Otherwise fails if the node
+    /// lacks an attribute that the command line names, and if memory is refused.
     fn check(
         self,
         alloc: Global,
@@ -174,6 +180,7 @@ impl<'a> ExplanationRun<'a> {
             return Err(not_last_pass(alloc, index.pass(), last));
         }
         let format = self.format(index);
+        // not reached: the index has the node, and the grammar its production
         let Some(item) = index.item(grammar, node) else {
             return Ok(());
         };
@@ -194,7 +201,8 @@ impl<'a> ExplanationRun<'a> {
         }
     }
 
-    /// Writes the path of the tree file and its pass, if the file was chosen in a folder.
+    /// Writes a line with the path of the tree file and its pass, if the file was chosen in a folder.
+    /// Fails if memory is refused.
     fn write_path(self, out: &mut String, pass: u16) -> Result<(), AllocError> {
         if !self.is_chosen {
             return Ok(());
@@ -223,7 +231,7 @@ impl<'a> IndexedRun<'a> {
         Ok((tree, text))
     }
 
-    /// Prints the rules in which errors arise.
+    /// Prints the rules in which errors arise, after the first line. Fails as `write_errors` does.
     fn print_errors<R: Print, D: Device>(
         self,
         rt: &R,
@@ -236,7 +244,8 @@ impl<'a> IndexedRun<'a> {
         write_errors(&tree, device, &mut out)
     }
 
-    /// Prints the values of a node.
+    /// Prints the values of a node, after the first line. Nothing is printed before all of the text was
+    /// made. Fails as `write_node` does, and with O2 if the output fails.
     fn print_node<R: Print, D: Device>(
         self,
         rt: &R,

@@ -30,7 +30,8 @@ pub fn read_index<D: Device>(
     }
 }
 
-/// Returns the report of a fault of reading the tree file at `path`, or of printing.
+/// Returns the report of a fault of reading the tree file at `path`, or of printing. It names the file
+/// after R1, P2, P3 and D1.
 pub fn report_of_tree(alloc: Global, fault: ShowFault, path: &str) -> FaultReport {
     let fault = match fault {
         ShowFault::Tree(fault) => fault_of(fault),
@@ -59,7 +60,7 @@ pub fn no_memory(alloc: Global) -> FaultReport {
     FaultReport::new(alloc, Fault::NoMemory)
 }
 
-/// Returns the child numbers of a path from the root. Returns no numbers, the path of the root, if
+/// Returns the child numbers, from 1, of a path from the root. Returns no numbers, the path of the root, if
 /// `path` is `None`. Fails if the text is not a path, and if memory is refused.
 pub fn places_of(alloc: Global, path: Option<&str>) -> Result<Vec<u16>, FaultReport> {
     let Some(text) = path else {
@@ -83,15 +84,16 @@ fn not_a_path(alloc: Global, text: &str) -> FaultReport {
     report.or_bare(written)
 }
 
-/// Returns the report of a path that leads to no node: how far it goes, and the number of children there.
+/// Returns the report of a path that leads to no node: up to which node it goes, and how many children that
+/// node has.
 pub fn no_node(alloc: Global, grammar: &Grammar, index: &TreeIndex, places: &[u16]) -> FaultReport {
     let mut report = FaultReport::new(alloc, Fault::Usage);
     let written = describe_missing(alloc, &mut report.parts.found, grammar, index, places);
     report.or_bare(written)
 }
 
-/// Writes how far a path goes in a tree, and the number of children of its last node. Writes
-/// nothing if memory for the path is refused.
+/// Writes up to which node a path goes in a tree, and the number of children of that node. Writes
+/// nothing if memory for the path is refused. Fails if memory for the text is refused.
 fn describe_missing(
     alloc: Global,
     out: &mut String,
@@ -121,7 +123,7 @@ fn describe_missing(
     }
 }
 
-/// Returns the report of a file of `pass`, for `--errors`, which needs a file of the pass `last`.
+/// Returns the report of a file of pass `pass`, for `--errors`, which needs the file of the last pass, `last`.
 pub fn not_last_pass(alloc: Global, pass: u16, last: u16) -> FaultReport {
     let mut report = FaultReport::new(alloc, Fault::Usage);
     let written = write!(

@@ -35,14 +35,17 @@ pub struct TreeSentence<'a> {
 /// A token as it is in a tree.
 #[derive(Drop)]
 struct TokenText {
+    /// Its literal or its class.
     kind: Terminal,
+    /// Its text, that of a TEXT without the quotes.
     text: String,
 }
 
 impl TreeSentence<'_> {
-    /// Returns the path, as child numbers from the root, to the innermost node of a symbol whose tokens include the one
-    /// at a position; between two tokens, to the innermost node that has both; before the first and after the last one,
-    /// to the root.
+    /// Returns the path, as child numbers from 1, from the root to the node of a symbol at a position:
+    /// - in a token, to the innermost node whose tokens include this one;
+    /// - between two tokens, to the innermost node whose tokens include both;
+    /// - before the first token and after the last one, to the root.
     ///
     /// Fails if the sentence can't be cut into tokens, if it does not have the position, if its tokens are not the
     /// tree's, if a record is damaged or can't be read, and if memory is refused.
@@ -62,7 +65,7 @@ impl TreeSentence<'_> {
         }
     }
 
-    /// Returns the same for a sentence that was cut into tokens.
+    /// Returns what `node_at` does, for a sentence that was cut into tokens. Fails as `node_at` does.
     fn node_in<D: Device>(
         self,
         alloc: Global,
@@ -81,8 +84,8 @@ impl TreeSentence<'_> {
         }
     }
 
-    /// Returns the path, as child numbers from the root, to the innermost node of a symbol that has all tokens of a
-    /// range. Returns no numbers, the path of the root, if `range` is `None`.
+    /// Returns the path, as child numbers from 1, from the root to the innermost node of a symbol that has all tokens
+    /// of a range. Returns no numbers, the path of the root, if `range` is `None`. Fails if memory is refused.
     fn find_node(self, alloc: Global, range: Option<TokenRange>) -> Result<Vec<u16>, NoMemory> {
         let Some(range) = range else {
             return Ok(Vec::new(alloc));
@@ -92,8 +95,9 @@ impl TreeSentence<'_> {
         self.index.find_covering(alloc, grammar, &counts, range)
     }
 
-    /// Fails if the tokens of the sentence are not those of the tree. The loop never runs to its
-    /// end: a sentence has at most `MAX_TEXT_BYTES` tokens.
+    /// Fails if the tokens of the sentence are not those of the tree, if a record is damaged or can't be
+    /// read, and if memory is refused. The loop returns in its last turn at the latest: a sentence has at most
+    /// `MAX_TEXT_BYTES` tokens, each of at least one byte.
     fn check_tokens<D: Device>(
         self,
         alloc: Global,
@@ -123,7 +127,7 @@ impl TreeSentence<'_> {
         Ok(())
     }
 
-    /// Returns the next token of the tree with its text; `None` after the last one.
+    /// Returns the next token of the tree with its text; `None` after the last one. Fails as `word` does.
     fn next_of_tree<D: Device>(
         self,
         alloc: Global,
@@ -137,7 +141,8 @@ impl TreeSentence<'_> {
         }
     }
 
-    /// Returns the literal of a number as a token. The grammar has each literal of a tree.
+    /// Returns the literal with this number as a token. (If the grammar lacked it, the text would be empty;
+    /// but the grammar has each literal of its productions.) Fails if memory is refused.
     fn literal(self, alloc: Global, number: u16) -> Result<TokenText, NoMemory> {
         let literals = self.translator.grammar().literals();
         let text = match literals.get(usize::from(number)) {
@@ -150,8 +155,9 @@ impl TreeSentence<'_> {
         })
     }
 
-    /// Reads the record of a token of a class, and returns the token. The index has the node, so
-    /// the fault `Damaged(0)` never comes.
+    /// Reads the record of a token of a class, and returns the token. Fails with R1 if the record is
+    /// damaged, with D1 if a call of the device fails, and if memory is refused. (The offset of R1 is never
+    /// 0: the index has the node.)
     fn word<D: Device>(
         self,
         alloc: Global,
@@ -266,8 +272,8 @@ fn write_kind(out: &mut String, kind: Terminal) -> Result<(), AllocError> {
     }
 }
 
-/// Writes that a text does not have a position. Writes too where its line ends, or where the text
-/// ends if it has fewer lines.
+/// Writes that a text does not have a position. Writes too where the position's line ends or, if the
+/// text has fewer lines, where the text ends. Lines and columns count from 1, columns in characters.
 fn write_no_place(out: &mut String, text: &str, position: Position) -> Result<(), AllocError> {
     let Position { line, column } = position;
     write!(out, "the sentence has no place {line}:{column}, ")?;
@@ -282,7 +288,8 @@ fn write_no_place(out: &mut String, text: &str, position: Position) -> Result<()
     )
 }
 
-/// Returns the column after the last character of a line of a text. Lines count from 1.
+/// Returns the column after the last character of a line of a text. Lines and columns count from 1,
+/// columns in characters.
 fn column_of_end(text: &str, line: usize) -> usize {
     let mut number = 1usize;
     let mut column = 1usize;
@@ -300,8 +307,9 @@ fn column_of_end(text: &str, line: usize) -> usize {
     column
 }
 
-/// Returns the offset in bytes of a position in a text. The ends of lines and of the text are
-/// positions too. Returns `None` if the text does not have the position.
+/// Returns the offset in bytes of a position in a text: a line and a column in characters, both from 1.
+/// The ends of lines and of the text are positions too. Returns `None` if the text does not have the
+/// position.
 fn offset_of(text: &str, position: Position) -> Option<usize> {
     let mut line = 1usize;
     let mut column = 1usize;
@@ -323,8 +331,9 @@ fn offset_of(text: &str, position: Position) -> Option<usize> {
     }
 }
 
-/// Returns a range of token numbers, from 0: the token at an offset of a sentence in bytes, or both
-/// tokens around it. Returns `None` before the first token and after the last one.
+/// Returns a range of token numbers, from 0: that of the token at an offset of a sentence, in bytes. For
+/// an offset between two tokens the range has both. Returns `None` before the first token and after the
+/// last one.
 fn range_at(mut tokens: Tokens<'_>, at: usize) -> Option<TokenRange> {
     for number in 0..=MAX_TEXT_BYTES as u32 {
         let token = tokens.ahead()?;

@@ -21,7 +21,10 @@ use treefile::{Device, FileDevice};
 /// - if an input can't be read or is refused, if the tree file is damaged, and if its tree exceeds a limit;
 /// - if the text that names the node is not a path, and if the tree does not have the node;
 /// - if the grammar lacks an attribute that the command line names;
-/// - if the output fails (O2), and if memory is refused.
+/// - if a call on the tree file fails (D1), if the output fails (O2), and if memory is refused.
+///
+/// The records are read again while they are printed. So a part of the output may have been printed before
+/// O2, NoMemory or D1, and before R1 if something changes the file meanwhile.
 pub fn show_tree<R: Files + Input + Print>(
     rt: &R,
     alloc: Global,
@@ -34,7 +37,7 @@ pub fn show_tree<R: Files + Input + Print>(
     }
 }
 
-/// Prints the nodes of the tree file on a device.
+/// Prints the nodes of the tree file on a device. Fails as `show_tree` does.
 fn show_device<R: Print, D: Device>(
     rt: &R,
     alloc: Global,

@@ -18,8 +18,9 @@ pub enum TreePath<'a> {
 }
 
 impl<'a> TreePath<'a> {
-    /// Returns `path` or, if that is a folder, the path of a.agt or b.agt there: of the tree file of the greater pass,
-    /// and of a.agt if neither has a greater one. Fails if memory is refused.
+    /// Returns `path` or, if that is a folder, the path of one of its files a.agt and b.agt: the tree file of the
+    /// greater pass, or a.agt if neither pass is greater. A file that is no tree file of version 2 comes last. Fails
+    /// if memory is refused.
     pub fn find<R: Files>(rt: &R, alloc: Global, path: &'a str) -> Result<TreePath<'a>, NoMemory> {
         if FileId::of_folder(rt, path)?.is_none() {
             return Ok(TreePath::Given(path));

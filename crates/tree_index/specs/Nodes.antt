@@ -57,11 +57,12 @@ nodes_below d s = nodes_of d s.tree s.values
 abbrev pub nodes_in : Direction → List Subtree → List Subtree
 nodes_in d subtrees = flat_map (nodes_below d) subtrees
 
--- what a node is
+-- what the root of a tree is
 abbrev pub kind_of : Tree → NodeKind
 kind_of (leaf c x) = kind.Token c
 kind_of (node p ts) = kind.Node p
 
+-- what a node is
 abbrev pub kind_at : Subtree → NodeKind
 kind_at s = kind_of s.tree
 
@@ -69,11 +70,12 @@ kind_at s = kind_of s.tree
 abbrev pub size_at : Subtree → ℕ
 size_at s = node_count s.tree
 
--- the body of a node's record in the file of pass k, by the assignment m
+-- the body of the record of a tree's root in the file of pass k, by the assignment m
 abbrev pub record_of : Grammar → Passes → ℕ → Tree → Valuation → List ℕ
 record_of g m k (leaf c x) v = token_body c x
 record_of g m k (node p ts) v = node_body version_two g m k p (v []) (copies_of g m k ts (children v))
 
+-- the same for a node
 abbrev pub record_at : Grammar → Passes → ℕ → Subtree → List ℕ
 record_at g m k s = record_of g m k s.tree s.values
 
@@ -111,23 +113,26 @@ OfEach P g content = (m : Passes) (k : ℕ) (t : Tree) (v : Valuation) → k < 2
 abbrev pub IsIndexIn : Grammar → List ℕ → TreeIndex → Type 0
 IsIndexIn g content index = OfEach (λ m k t v. IsIndexOf g m k t v content index) g content
 
--- what an index has for the number of a node: the end of its record, what it is, and the number of nodes of its subtree
+-- the offset at which the record of the node with this number ends, by an index; None if the index does not have it
 abbrev pub end_of : TreeIndex → ℕ → Option ℕ
 end_of index number = slice_get index.ends.items number
 
+-- what the node with this number is, by an index
 abbrev pub kind_in : TreeIndex → ℕ → Option NodeKind
 kind_in index number = slice_get index.kinds.items number
 
+-- the number of nodes of the subtree of the node with this number, by an index
 abbrev pub size_of : TreeIndex → ℕ → Option ℕ
 size_of index number = slice_get index.sizes.items number
 
--- The number of children of a node of this kind; 0 if there is no node.
+-- `count` is the number of children of a node of this kind: 0 for a token, and if there is no node. Of a production that the
+-- grammar does not have, nothing is claimed.
 abbrev pub HasCount : Grammar → Option NodeKind → ℕ → Type 0
 HasCount g None count = count ≡ 0
 HasCount g (Some (kind.Token c)) count = count ≡ 0
 HasCount g (Some (kind.Node p)) count = (q : Production) → IsProduction g p q → count ≡ length (stored_items q.items)
 
--- A list of nodes has the nodes of the tree t, one after the other, from index `number` on.
+-- A list of nodes has the nodes of the tree t with the values v, one after the other, from index `number` on.
 pub record IsSubtreeAt (d : Direction) (nodes : List Subtree) (number : ℕ) (t : Tree) (v : Valuation) : Type 0 where
   pub prefix : List Subtree
   pub others : List Subtree
@@ -141,7 +146,8 @@ pub record StandAt (d : Direction) (nodes : List Subtree) (number : ℕ) (subtre
   pub split : nodes ≡ prefix ++ (nodes_in d subtrees ++ others)
   pub at : length prefix ≡ number
 
--- In a list of nodes, `number` is the index of the child at a place (from 1) of a node with the children ts.
+-- In a list of nodes, `number` is the index of the child at a place (from 1) of a node with the children ts. The tree of this
+-- node has the values v.
 pub record IsKid (d : Direction) (nodes : List Subtree) (ts : Forest) (v : Valuation) (place number : ℕ) : Type 0 where
   pub index : ℕ
   pub counted : place ≡ suc index
@@ -160,8 +166,8 @@ HasChild g index number place child = (k : ℕ) (t : Tree) (v : Valuation) (x : 
     → HasNodes k t v index → Fits g x tree → IsSubtreeAt (back_from k) (nodes_of (back_from k) t v) number tree w
     → IsKidOf (back_from k) (nodes_of (back_from k) t v) tree w place child
 
--- In each tree that the index has, the children of node `number` without the first `before` ones, in the direction in which
--- the file is read, begin at number `child`.
+-- In each tree that the index has, the subtrees of the children of node `number` but the first `before` ones, in the direction in
+-- which the file is read, have the numbers from `child` on. Nothing is claimed of a node with fewer than `before` children.
 abbrev pub HasLater : TreeIndex → ℕ → ℕ → ℕ → Type 0
 HasLater index number before child = (k : ℕ) (t : Tree) (v : Valuation) (p : ℕ) (ts : Forest) (w : Valuation)
     → HasNodes k t v index → before ≤ length (kids ts (children w))
@@ -196,19 +202,19 @@ abbrev pub HasNodeAt : Grammar → TreeIndex → List ℕ → ℕ → Type 0
 HasNodeAt g index places number = (k : ℕ) (t : Tree) (v : Valuation) → HasNodes k t v index → IsTreeOf g t
     → IsNumberIn (back_from k) t v places number
 
--- In no tree of fewer than 2 ^ 32 nodes that the index has does node `number` have a child after `before` others.
+-- In each tree of fewer than 2 ^ 32 nodes that the index has, node `number` has at most `before` children.
 abbrev pub HasNoLater : TreeIndex → ℕ → ℕ → Type 0
 HasNoLater index number before = (k : ℕ) (t : Tree) (v : Valuation) (p : ℕ) (ts : Forest) (w : Valuation) → HasNodes k t v index
     → node_count t < 2 ^ 32 → before < length (kids ts (children w))
     → IsSubtreeAt (back_from k) (nodes_of (back_from k) t v) number (node p ts) w → ⊥
 
--- In no tree of the grammar of fewer than 2 ^ 32 nodes that the index has does node `number` have a child at a place.
+-- In each tree of the grammar that the index has, with fewer than 2 ^ 32 nodes, node `number` has no child at a place.
 abbrev pub HasNoChild : Grammar → TreeIndex → ℕ → ℕ → Type 0
 HasNoChild g index number place = (k : ℕ) (t : Tree) (v : Valuation) (x : Item) (tree : Tree) (w : Valuation)
     → HasNodes k t v index → node_count t < 2 ^ 32 → Fits g x tree
     → IsSubtreeAt (back_from k) (nodes_of (back_from k) t v) number tree w → child_in tree w place ≡ None
 
--- In no tree of the grammar of fewer than 2 ^ 32 nodes that the index has is a node at the end of some places.
+-- In each tree of the grammar that the index has, with fewer than 2 ^ 32 nodes, no node is at the end of some places.
 abbrev pub HasNoNodeAt : Grammar → TreeIndex → List ℕ → Type 0
 HasNoNodeAt g index places = (k : ℕ) (t : Tree) (v : Valuation) (found : Subtree) → HasNodes k t v index
     → node_count t < 2 ^ 32 → IsTreeOf g t → IsAtEndOf places t v found → ⊥

@@ -104,8 +104,9 @@ AreOpen g (o ∷ os) [] = ⊥
 AreOpen g (o ∷ os) (f ∷ fs) = (q : Production) × IsProduction g o.production q × FitsAll g (stored_items q.items) f.trees
     × (o.children ≡ length (stored_items q.items)) × AreOpen g os fs
 
--- n nodes were read. In the numbers of the index, the subtree of an open node ends after these n nodes, and after those that are
--- not read yet below it and below the open nodes inside it. `sizes` are the sizes of the subtrees of all nodes of the tree.
+-- n nodes were read, and `sizes` has the size of the subtree of each node of the tree. The list of open nodes begins with the
+-- innermost one. Add to n, for each open node in turn, the number of nodes of its unvisited children's subtrees. The sum so far
+-- is then the number that follows those of the node's subtree in the index. The node's own number is below the sum before it.
 abbrev pub AreEnding : Direction → List ℕ → ℕ → List OpenRecord → List Family → Type 0
 AreEnding d sizes n [] fs = Unit {0}
 AreEnding d sizes n (o ∷ os) [] = ⊥
@@ -121,8 +122,8 @@ IsOpenNumber i (o ∷ os) = (i ≡ o.number) ⊎ IsOpenNumber i os
 abbrev pub AreSizes : List ℕ → List ℕ → List OpenRecord → Type 0
 AreSizes sizes so_far os = (i : ℕ) → i < length so_far → (get_or so_far i 0 ≡ get_or sizes i 0) ⊎ IsOpenNumber i os
 
--- An index has the nodes of a tree that were read, and the nodes `pending` are those that are not read yet. `os` are the open
--- nodes.
+-- An index has the nodes of a tree that were read: `records` nodes, at most 1,048,576. `pending` are those that are not read yet,
+-- and `os` are the open nodes.
 pub record IsBegun (g : Grammar) (m : Passes) (k : ℕ) (t : Tree) (v : Valuation) (content : List ℕ) (records : ℕ)
     (os : List OpenRecord) (index : TreeIndex) (pending : List Subtree) : Type 0 where
   pub read : List Subtree
@@ -136,7 +137,7 @@ pub record IsBegun (g : Grammar) (m : Passes) (k : ℕ) (t : Tree) (v : Valuatio
   pub few : records ≤ MAX_NODES
 
 -- The state of the reading between two records. `records` records were read, and the index has their nodes. The records of the
--- other nodes, which are below the open nodes, end at offset `at`.
+-- other nodes, which are below the open nodes, are between the header and offset `at`.
 pub record IsSoFar (g : Grammar) (m : Passes) (k : ℕ) (t : Tree) (v : Valuation) (content : List ℕ) (at records : ℕ)
     (os : List OpenRecord) (index : TreeIndex) : Type 0 where
   pub families : List Family

@@ -4,7 +4,7 @@ use Rattle.backreader.specs.BackState.{BackState, IsOver}
 use Rattle.treefile.specs.devices.Device.{WhenHonest}
 use Rattle.treefile.specs.records.TreeFile.{version_two}
 
--- A reader reads this content as a file of version 2, and has no permanent fault.
+-- A reader reads a file of version 2, and has no permanent fault. If the device is honest, this content is what it reads.
 pub record IsReady (honest : Bool) (content : List ℕ) (state : BackState) : Type 0 where
   pub over : WhenHonest honest (IsOver content state)
   pub version : state.progress.version ≡ version_two

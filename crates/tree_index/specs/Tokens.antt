@@ -54,14 +54,15 @@ pub record AreCounts (g : Grammar) (index : TreeIndex) (counts : TokenCounts) : 
   pub long : length counts.before.items ≡ suc (in_four_bytes (length index.ends.items))
   pub each : (i n : ℕ) → slice_get counts.before.items i ≡ Some n → n ≡ count_before g index.kinds.items i
 
--- With the counts of the index, `count` is the number of tokens of the subtree of node `number`, in each tree that the index has.
+-- If the counts are those of the index, `count` is the number of tokens of the subtree of node `number` in each tree that the
+-- index has.
 abbrev pub HasTokens : TreeIndex → TokenCounts → ℕ → ℕ → Type 0
 HasTokens index counts number count = (g : Grammar) (k : ℕ) (t : Tree) (v : Valuation) (tree : Tree) (w : Valuation)
     → AreCounts g index counts → HasNodes k t v index → IsSubtreeAt (back_from k) (nodes_of (back_from k) t v) number tree w
     → count ≡ token_count g tree
 
--- With the counts of the index, no node has the number, in each tree of fewer than 2 ^ 32 nodes that the index has, with as many
--- ends as nodes.
+-- If the counts are those of the index, no node has the number in each tree of fewer than 2 ^ 32 nodes that the index has. It is
+-- required that the index has as many ends as the tree has nodes.
 abbrev pub HasNoTokens : TreeIndex → TokenCounts → ℕ → Type 0
 HasNoTokens index counts number = (g : Grammar) (k : ℕ) (t : Tree) (v : Valuation) (tree : Tree) (w : Valuation)
     → AreCounts g index counts → HasNodes k t v index → length index.ends.items ≡ node_count t → node_count t < 2 ^ 32

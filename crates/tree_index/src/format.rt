@@ -110,7 +110,7 @@ impl<'a> FileFormat<'a> {
 
     /// Reads a body as the record of an item, and appends its values to a row. Returns the number
     /// of the production or of the class. Fails with `Damaged` if the body is not a record of the
-    /// item, and with `NoMemory`.
+    /// item, and with `NoMemory` if memory is refused.
     pub(crate) fn read_into(
         &self,
         alloc: Global,
@@ -134,7 +134,8 @@ impl<'a> FileFormat<'a> {
 
     /// Reads the values in a record of a node of a production, and appends them to a row: the
     /// node's own values, and then the copies of its children's. Fails with `Damaged` if
-    /// `spellings` does not consist of the spellings of as many values, and with `NoMemory`.
+    /// `spellings` does not consist of the spellings of as many values, and with `NoMemory` if
+    /// memory is refused.
     fn read_row(
         &self,
         alloc: Global,
@@ -189,6 +190,7 @@ impl<'a> FileFormat<'a> {
     ) -> Option<&'r Carried> {
         let passes = match item {
             Item::Symbol(symbol) => passes_of(self.plan, symbol),
+            // the text of a token has pass 0
             _ => &[0],
         };
         self.value_at(record, passes, 0, attr)

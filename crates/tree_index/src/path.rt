@@ -8,7 +8,9 @@ use std::fmt;
 /// A run of a path: the same place, one or more times.
 #[derive(Clone, Copy, Debug, PartialEq, Eq)]
 struct Run {
+    /// The place, from 1.
     place: u16,
+    /// The number of times that the place occurs, from 1.
     count: u32,
 }
 

@@ -44,7 +44,7 @@ pub(crate) fn split_record<'b>(
 
 /// Reads `count` values from the beginning of `bytes`, appends them to a row, and returns the bytes
 /// after them. Fails with `Damaged` if the bytes do not begin with that number of values, and with
-/// `NoMemory`.
+/// `NoMemory` if memory is refused.
 pub(crate) fn read_values<'b>(
     alloc: Global,
     count: usize,
@@ -63,7 +63,7 @@ pub(crate) fn read_values<'b>(
 }
 
 /// Reads the text of a token, and appends it to a row. Fails with `Damaged` if the bytes are not
-/// the spelling of a text of at most `MAX_TOKEN_BYTES`, and with `NoMemory`.
+/// the spelling of a text of at most `MAX_TOKEN_BYTES`, and with `NoMemory` if memory is refused.
 pub(crate) fn read_text(
     alloc: Global,
     spelling: &[u8],

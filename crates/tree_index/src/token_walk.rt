@@ -6,8 +6,8 @@ use ag_grammar::{Grammar, Item, Terminal};
 use ag_value::NoMemory;
 use std::alloc::Global;
 
-/// A bound of the number of turns of the loop in `next` for one token: one to enter each node, one
-/// to leave it, and one at which no node is open.
+/// A bound of the number of turns of the loop in `next` for one token, in a tree of `MAX_NODES` nodes:
+/// one to enter each node, one to leave it, and one at which no node is open.
 const MAX_TURNS: u32 = 2 * MAX_NODES + 1;
 
 /// A token of a tree.
@@ -22,6 +22,7 @@ pub enum TreeToken {
 /// An open node: the walk is visiting the tokens of its subtree.
 #[derive(Clone, Copy)]
 struct OpenRecord {
+    /// The number of the node in the index.
     node: u32,
     /// The index, from 0, of the next item of the node's production.
     item: usize,

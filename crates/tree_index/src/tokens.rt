@@ -36,9 +36,9 @@ impl TokenCounts {
         Ok(TokenCounts { before })
     }
 
-    /// Returns the number of own tokens of the nodes with the numbers from `first` to `after` - 1.
-    /// (A node's own tokens are the token that it is, or the literals of its production.) Returns
-    /// `None` if `first` or `after` is greater than the number of nodes, or if the nodes before
+    /// Returns the sum of the numbers of own tokens of the nodes from `first` to `after` - 1. (A node's
+    /// own tokens are the token that it is, or the literals of its production, without those of the
+    /// nodes below it.) Returns `None` if `first` or `after` is greater than the number of nodes, or if the nodes before
     /// `after` have fewer tokens than those before `first`.
     pub fn between(&self, first: u32, after: u32) -> Option<u32> {
         let before_first = *self.before.get(first as usize)?;
@@ -46,7 +46,8 @@ impl TokenCounts {
     }
 
     /// Returns the number of tokens of the subtree of a node. `index` is the index from which the
-    /// counts were made. Returns `None` if the index does not have the node.
+    /// counts were made. Returns `None` if the index does not have the node. (With another index, a
+    /// result has no meaning.)
     pub fn of_subtree(&self, index: &TreeIndex, node: u32) -> Option<u32>
         ensures count { IfSome result (HasTokens index.now self.now node) }
         ensures complete { IfNone result (HasNoTokens index.now self.now node) }

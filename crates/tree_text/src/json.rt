@@ -21,7 +21,8 @@ struct Member<'s> {
 }
 
 impl TreeText<'_> {
-    /// Writes a node as an object in one line.
+    /// Writes a node as an object in one line: its path, its level, the number of nodes of its
+    /// subtree, its symbol and production or its class, and its selected values.
     pub(crate) fn write_object(
         &self,
         alloc: Global,
@@ -111,7 +112,7 @@ fn write_carried(alloc: Global, out: &mut String, value: &Carried) -> Result<(),
     match (value.as_number(), value.as_value()) {
         (Some(number), _) => write_number(out, number),
         (None, Some(value)) => write_json(out, value),
-        // an error, or a text, table or list that is not stored as a `Value`
+        // an error, or a text, table or list that is stored in another form, such as a rope or a tree
         (None, None) => write_json(out, &value.to_value(alloc)?),
     }
 }

@@ -79,6 +79,8 @@ impl TreeText<'_> {
     ) -> Result<Option<ShownNode>, TreeFault>
         ensures content { LeavesContent (D.is_honest device.new)
             (D.content device.old) (D.content device.new) }
+        // A device that is honest after the call was honest before. The number of failures that it
+        // counts never falls, and the call fails with D1 only if this number has risen.
         ensures persists { Persists (D.is_honest device.old) (D.is_honest device.new)
             (D.failures device.old) (D.failures device.new) (IsErrOf result TreeFault.Device) }
     {
@@ -137,7 +139,7 @@ pub fn write_tree<D: Device, W: Write>(
 {
     walk.set_depth(text.depth);
     let mut buffer = String::new(alloc);
-    // the index of a file has at most `MAX_NODES` nodes
+    // the prover needs a bound: the index of a file has at most `MAX_NODES` nodes
     for _node in 0..MAX_NODES {
         let Some(visit) = walk.next()? else {
             break;

@@ -21,7 +21,7 @@ pub fn write_value(
     }
     match value.as_value() {
         Some(value) => write_flat(alloc, out, value, width),
-        // an error, or a text, table or list that is not stored as a `Value`
+        // an error, or a text, table or list that is stored in another form, such as a rope or a tree
         None => write_flat(alloc, out, &value.to_value(alloc)?, width),
     }
 }
@@ -41,7 +41,8 @@ fn write_flat(
 }
 
 /// Writes a text value as `write_value` does. Unless `width` is 0, converts only the first
-/// `width + 1` characters of the text: with the quotes these are more than `width`.
+/// `width + 1` characters of the text. With the quotes these are more than `width`, so `..` is
+/// written as for the whole text.
 fn write_text(alloc: Global, out: &mut String, text: &str, width: usize) -> Result<(), NoMemory> {
     let needed = if width == 0 {
         // the length in bytes, which is at least the number of characters

@@ -49,7 +49,7 @@ struct Subtree {
 }
 
 impl Upgrading {
-    /// Reads the record of a subtree's root. Its frame should end where the frame that was read
+    /// Reads the record of a subtree's root. The record's frame should end where the frame that was read
     /// last begins, or at the end of the file if none was read. Requires an item that is a child: a
     /// symbol or a class. Fails with P2 if the root's level exceeds `MAX_REVERSED_LEVELS`, and with
     /// P3 if `MAX_REVERSED_RECORDS` records were read already. Fails with R1 and the offset at
@@ -96,9 +96,10 @@ impl Upgrading {
     }
 
     /// Converts a subtree, if its item is a symbol or a class: reads its records, and writes the
-    /// records of version 2 in postfix order, from right to left. For a literal does nothing.
-    /// Returns the text if the item is a class, and otherwise `None`. Fails as `upgrade` does for
-    /// the first device, and with D1 if the second one fails.
+    /// records of version 2, each node after its children, and these from right to left. In version 2
+    /// and pass 0 the only values in a node's record are the texts of its children that are tokens. For a
+    /// literal does nothing. Returns the text if the item is a class, and otherwise `None`. Fails as
+    /// `upgrade` does for the first device, and with D1 if the second one fails.
     fn tree<D: Device, E: Device>(
         &mut self,
         grammar: &Grammar,
@@ -267,16 +268,17 @@ fn stored_among(items: &[Item]) -> u32
 /// tree: the file that `parse` writes for a sentence with this tree. Writes the same records from
 /// right to left to the second device in between. Returns the number of nodes. The recursion is as
 /// deep as the tree, and ends at the first record below level `MAX_REVERSED_LEVELS` (256). The
-/// first device always keeps its content. After a success the old content of the other two is lost.
+/// first device keeps its content, also on failure. After a success the old content of the other two
+/// is lost.
 ///
 /// Fails with R1 (`Damaged`) only if the content is not the file of version 1 and pass 0 of a tree
 /// of the grammar; the offset is as for `run_pass` of the crate `passrun`. If a limit is exceeded
 /// before any damage, fails with P2 (`TooDeep`) or P3 (`TooManyNodes`) instead: the content then
 /// encodes no tree of at most `MAX_REVERSED_LEVELS` (256) levels, or none of at most
 /// `MAX_REVERSED_RECORDS` (65,536) nodes, and may encode no tree at all. Fails with D1 (`Device`)
-/// if a call of a device failed, and with `NoMemory` if memory cannot be allocated. All this holds
-/// if the first two devices return the bytes that were written to them. If the second one does not,
-/// the call may also fail with R1 and an offset in that device's content, or with P2. After a
+/// if a call of a device failed, and with `NoMemory` if memory cannot be allocated. What R1, P2 and P3
+/// mean holds if the first two devices return the bytes that were written to them. If the second one
+/// does not, the call may also fail with R1 and an offset in that device's content, or with P2. After a
 /// failure the second and the third device each have their old content, or a prefix of a tree file.
 ///
 /// Allocates memory for a buffer of 4,096 bytes or of the largest frame, for one frame at a time,

@@ -1,8 +1,9 @@
 -- The statements of the laws on the files of trees. The letters are those of `records/Records.antt` and
 -- `framing/ExpectedRecords.antt`, with these additions: u and w are values of a tree too, f the values of a node's attributes, ys
 -- and zs are children, vs the values of a record as a list, and ps passes. In some statements a letter has another meaning.
--- `OneNode` compares the number p, the production q and its symbol s with r, w and z. In `OneTreeBefore`, `OneTreeAtEnd` and
--- `OneReading` s is a tree. In `ValuesAreWhole` and in each `λ p` p is a pass.
+-- `OneNode` compares the number p, the production q and its symbol s with r, w and z; a and b are the two facts that it
+-- compares. In `OneTreeBefore`, `OneTreeAtEnd` and `OneReading` s is a tree. In `ValuesAreWhole` a is an attribute, and p is a
+-- pass, as in each `λ p`.
 use Rattle.std.specs.Prelude.{ℕ, suc, ◌≡◌, ◌^◌, ◌<◌, ◌≤◌, ◌++◌, ◌↔◌, List, [], ◌∷◌, Some, None, Ok, slice_get, drop, length, true}
 use Rattle.ag_value.specs.declared.value.Value.{Value}
 use Rattle.ag_grammar.specs.Lists.{Each}
@@ -147,7 +148,7 @@ ExpectedAreThere =
     (version : Version) (g : Grammar) (m : Passes) (k deepest : ℕ) (d : Direction) (todo : Pending) (bodies : List (List ℕ))
     → Expects version g m k d deepest todo bodies ↔ AreThere version g m k d deepest todo bodies
 
--- If nothing is expected and the content is the file of a tree, everything was read: the header ends there.
+-- If nothing is expected at an offset and the content is the file of a tree, everything was read: the header ends at the offset.
 abbrev pub ReadingEnds : Type 0
 ReadingEnds = (version : Version) (g : Grammar) (m : Passes) (k : ℕ) (content : List ℕ) (at count : ℕ) (t : Tree) (v : Valuation)
     → ReadSoFar version g m k content at count [] → IsTreeOf g t → IsFileOfTree version g m k t v content

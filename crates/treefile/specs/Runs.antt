@@ -9,9 +9,9 @@ use Rattle.ag_grammar.specs.grammars.Tree.{IsTreeOf, Tree}
 use Rattle.treefile.specs.records.Records.{IsFileOfTree}
 use Rattle.treefile.specs.records.TreeFile.{Version}
 
--- The effect of pass k + 1 on a tree with values u, whose file of pass k was read: the content is then the
--- file of pass k + 1, with values that keep all values of u of the earlier passes, and meet each equation
--- whose target is of the pass (after Jazayeri and Walter 1975).
+-- The effect of pass k + 1 on a tree with values u, whose file of pass k was read: the content `to` is the file of pass k + 1
+-- of the tree, with values that are those of u in all earlier passes, and that meet each equation whose target is of pass k + 1
+-- (after Jazayeri and Walter 1975).
 pub record RanPass (version : Version) (g : Grammar) (m : Passes) (k : ℕ) (t : Tree) (u : Valuation) (to : List ℕ) : Type 0 where
   pub values : Valuation
   pub file : IsFileOfTree version g m (suc k) t values to

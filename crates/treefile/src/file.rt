@@ -27,7 +27,8 @@ pub enum FileFault {
     File,
 }
 
-/// The access that a device has to its file; contracts name it.
+/// The access that a device has to its file. The crate doesn't export it, but contracts of other crates
+/// name it.
 #[derive(Clone, Copy, Debug, PartialEq, Eq)]
 pub enum Access {
     /// The file is only read.
@@ -42,7 +43,7 @@ pub enum Access {
 /// them to the file before it appends bytes for which the buffer has no room, before `len` and
 /// `read_at` use the file, and in `finish`. A successful `clear` drops the buffered bytes too. A
 /// device that is dropped without `finish` loses the bytes that it has buffered. After a failed
-/// write every call fails.
+/// write every call fails with `Failed`, except `lend_before`, which always returns `None`.
 ///
 /// A record, which occupies no memory, has each call on the file with its result. The model derives
 /// the content of the file and its honesty from that record: the file is honest if each length and
@@ -219,9 +220,9 @@ impl<F: Read + Write + Seek + OpenFile> FileDevice<F> {
         }
     }
 
-    /// Opens the existing file at `path` for reading only: `append` and `clear` fail. `before` is the
-    /// record of calls that the device continues: `CallRecord::new()` for a new one. Fails with F1 if the
-    /// file can't be opened. Takes no memory.
+    /// Opens the existing file at `path` for reading only: `append`, `append_parts` and `clear` fail with
+    /// `Failed`. `before` is the record of calls that the device continues: `CallRecord::new()` for a new
+    /// one. Fails with F1 if the file can't be opened. Takes no memory.
     pub fn existing<Rt: Files<File = F>>(
         rt: &Rt,
         alloc: Global,

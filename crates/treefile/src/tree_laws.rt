@@ -202,8 +202,8 @@ pub fn worked_records()
 {}
 
 /// Worked examples: the nodes of T's record in pass 1 and of the record of the token `iffy` have no
-/// children, and Q's record is not a record of N. Then the file of pass 0 of `1` in version 1 is
-/// read from its end, with children from right to left. N is expected first, and after its record Q
+/// children, and Q's record is not a record of N. The next examples read the file of pass 0 of `1`
+/// in version 1 from its end, with children from right to left. N is expected first, and after its record Q
 /// and then L, one level deeper. The bodies are those of a tree of at most three levels, and of no
 /// tree of at most two. The file is that of no tree of at most two levels, and of no tree of at
 /// most three nodes. No tree has a header alone as its file of pass 0, or a file with only Q's

@@ -143,8 +143,9 @@ impl Writer {
         self.finish_call(answer)
     }
 
-    /// Appends the frame of a record of carried values, as `put` does with values. If some of them
-    /// are shared, the device may share them too (`Device::append_parts`). Fails as `put` does.
+    /// Appends the frame of a record of carried values (values of `ag_carried`, some of which several owners
+    /// may share), as `put` does with values. The device may share the shared ones too
+    /// (`Device::append_parts`). Requires what `put` does, and fails as `put` does.
     #[inline(always)]
     pub fn put_carried<D: Device>(
         &mut self,

@@ -24,7 +24,7 @@ pub struct NodeRequest<'a> {
     /// The names of the attributes; if the list is empty, all are explained.
     pub names: &'a [&'a str],
     /// The greatest number of characters of a value that is not a number; 0 for whole values. In
-    /// the line about an error's cause, `write_cause` has its own limit.
+    /// the line about an error's cause (`write_cause`), the limit is always 40 characters.
     pub width: usize,
 }
 
@@ -191,7 +191,8 @@ impl<'a> ExplainedTree<'a> {
 
     /// Returns where the rule for an attribute is. `places` lead to the attribute's node. The rule
     /// for a synthesized attribute is one of this node, the rule for an inherited one is one of the
-    /// node's parent. Returns `None` for a token, whose text has no rule.
+    /// node's parent. Returns `None` for a token, whose text has no rule, and for an inherited
+    /// attribute of the root, which has no parent.
     fn rule_place<'p>(
         &self,
         places: &'p [u16],

@@ -32,8 +32,8 @@ impl<'a> ErrorTranslation<'a> {
     /// Returns what a message says of the error after its value: the rule in which it arises, the
     /// rule's position, where the rule's node is in the sentence (without a sentence, in the tree),
     /// the values of the rule's arguments, and the number of rules that passed the error on.
-    /// `device` contains the file of the last pass. It was just written, so its values are not all
-    /// read and checked (`read_shape`).
+    /// `device` contains the file of the last pass. The file was just written, so its values are not
+    /// all read and checked (`read_shape`).
     ///
     /// Returns `None` if no cause is found (`find_cause`). Fails with R1 if the file is damaged,
     /// with P2 or P3 if its tree exceeds a limit, with D1 if a call of the device fails, and if

@@ -20,7 +20,9 @@ use treefile::Device;
 const BUFFER_BYTES: usize = 65_536;
 
 impl<'a> ExplainedTree<'a> {
-    /// Reads the body of the record that ends at the offset `end` in bytes.
+    /// Reads the body of the record that ends at the offset `end` in bytes. Fails with R1 if the
+    /// length there does not fit into the file, with D1 if a call of the device fails, and if memory
+    /// is refused.
     fn read_body<D: Device>(&self, end: u64, device: &mut D) -> Result<Vec<u8>, TreeFault>
         ensures content { LeavesContent (D.is_honest device.new)
             (D.content device.old) (D.content device.new) }
@@ -65,8 +67,8 @@ impl<'a> ExplainedTree<'a> {
     }
 
     /// Writes a line for each rule of production `number` in which an error arises at a node.
-    /// `values` are those of the node's record. Returns the number of such rules; 0 if the grammar
-    /// does not have the production.
+    /// `values` are those of the node's record; they have to be well (of the right form and within
+    /// the limits). Returns the number of such rules; 0 if the grammar does not have the production.
     fn write_errors_among(
         &self,
         out: &mut String,
@@ -138,7 +140,7 @@ pub fn write_errors<D: Device, W: Write>(
     let mut walk = SentenceWalk::new(tree.alloc, tree.format.grammar, tree.index);
     let mut buffer = String::new(tree.alloc);
     let mut count = 0u64;
-    // the index of a file has at most `MAX_NODES` nodes
+    // the prover needs a bound: the index of a file has at most `MAX_NODES` nodes
     for _node in 0..MAX_NODES {
         let Some(visit) = walk.next()? else {
             break;

@@ -17,7 +17,8 @@ const MAX_TOKENS: usize = 3;
 /// The greatest number of characters of a token that are written.
 const MAX_CHARACTERS: usize = 24;
 
-/// A node that was entered. The items of its production before the index `item` were visited.
+/// A node that was entered, by its number in the index of the tree file. The items of its production
+/// before the index `item` were visited.
 #[derive(Clone, Copy)]
 struct OpenNode {
     node: u32,
@@ -58,8 +59,9 @@ impl<'a> ExplainedTree<'a> {
         let mut nodes = Vec::new(self.alloc);
         push(&mut nodes, node)?;
         let mut count = 0usize;
-        // more than a tree within the limits takes: one turn for each node, one for its end, and
-        // one for each literal written, of which there are at most `MAX_TOKENS`
+        // The prover needs a bound. This is more turns than a tree within the limits takes: one for
+        // each node, one for its end, and one for each literal written, of which there are at most
+        // `MAX_TOKENS`.
         for _turn in 0..16 * MAX_NODES {
             if MAX_TOKENS <= count {
                 return Ok(());

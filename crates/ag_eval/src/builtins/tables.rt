@@ -185,7 +185,7 @@ fn put_pair(
 }
 
 /// Replaces the value at an index of a table, and measures the whole table again, since the weight
-/// and the depth of the old value are not stored.
+/// and the depth of the old value are not stored. In the contract, `key` is the key at the index.
 fn replaced(pairs: Items<(Text, Value)>, index: usize, item: Value) -> Measured
     requires table { IsWell (value.Table pairs) }
     requires item { is_item item ≡ true }

@@ -21,12 +21,12 @@ ranked_after atom (k ∷ ks) first = do
   operand ← ranked_after atom ks first
   chain_after k (ranked_from atom ks) operand
 
--- whether a precedence is one of these
+-- whether a precedence is in the list
 abbrev pub is_among : List Precedence → Precedence → Bool
 is_among [] other = false
 is_among (k ∷ ks) other = same_precedence k other || is_among ks other
 
--- whether a token is an operator of one of these precedences
+-- whether a token is an operator of a precedence in the list
 abbrev pub is_operator_among : List Precedence → GrammarToken → Bool
 is_operator_among [] t = false
 is_operator_among (k ∷ ks) t = is_operator_of k t || is_operator_among ks t

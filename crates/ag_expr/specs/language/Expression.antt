@@ -37,13 +37,14 @@ abbrev pub IsRefused : List ℕ → ExprFault → Type 0
 IsRefused text fault.NoMemory = Unit {0}
 IsRefused text e = ReadsAsNone text
 
--- Whether an expression can begin with this name: `let`, `if`, the name of a call, or a name that is not reserved. Such a name is
--- taken to be bound.
+-- Whether an expression can begin with this name: `let`, `if`, the name of a call, or a name that is not reserved. (It isn't
+-- tested whether that name is bound.)
 abbrev pub begins_with : List ℕ → Bool
 begins_with name =
     not (is_reserved name) || (bytes_eq name (codes "let") || (bytes_eq name (codes "if") || is_some (call_of name)))
 
--- whether an expression can begin with this token: a number, a text, an occurrence, `(`, `[`, `{`, or such a name
+-- whether an expression can begin with this token: a number, a text, an occurrence, `(`, `[`, `{`, or a name as in
+-- `begins_with`
 abbrev pub begins_expression : GrammarToken → Bool
 begins_expression (token.Number n) = true
 begins_expression (token.Text bytes) = true

@@ -25,7 +25,7 @@ call_of name =
 
 -- ---- the names that can be bound
 
--- the keywords of forms, and the names of two operators
+-- the keywords of `let` and `if`, and the operators `div` and `mod`
 abbrev pub is_keyword : List ℕ → Bool
 is_keyword name =
     bytes_eq name (codes "let")

@@ -46,6 +46,7 @@ refusal i = refusal_of i.ending i.left
 
 -- ---- parsers
 
+-- outcomes of parsers, and parsers, with the faults of expressions
 abbrev pub Outcome : Type 0 → Type 0
 Outcome = parsing.Outcome ExprFault
 
@@ -145,13 +146,15 @@ none_from = do
   expect (mark punctuation.CloseList)
   pure (node.List [])
 
+-- an empty table
 unfoldable pub table_from : Parser Node
 table_from = do
   expect (mark punctuation.OpenTable)
   expect (mark punctuation.CloseTable)
   pure node.EmptyTable
 
--- `inner` maps the names in scope to the parser of expressions of one level less.
+-- The parsers of the forms of an expression. Each parses the language of `Syntax.antt` with the same name: `list_from` parses
+-- `IsList`, and `some_from` parses `AreSome`. `inner` maps the names in scope to the parser of expressions of one level less.
 module _ (inner : Names → Parser Node) (scope : Names) where
   unfoldable pub parenthesized_from : Parser Node
   parenthesized_from = do
@@ -160,11 +163,13 @@ module _ (inner : Names → Parser Node) (scope : Names) where
     expect (mark punctuation.Close)
     pure e
 
+  -- a comma, followed by one more expression
   unfoldable pub next_from : Parser Node
   next_from = do
     expect (mark punctuation.Comma)
     inner scope
 
+  -- the items of a list after its first one, `first`; returns all items
   unfoldable pub items_from : Node → Parser (List Node)
   items_from first = further_from false (is_sign (mark punctuation.Comma)) next_from (first ∷ [])
 
@@ -181,6 +186,7 @@ module _ (inner : Names → Parser Node) (scope : Names) where
     expect (mark punctuation.OpenList)
     choose (is_sign (mark punctuation.CloseList)) none_from some_from
 
+  -- the arguments of a call, as many as it takes, and the closing parenthesis
   unfoldable pub unary_from : UnaryCall → Parser Node
   unary_from c = do
     a ← inner scope
@@ -233,6 +239,7 @@ module _ (inner : Names → Parser Node) (scope : Names) where
     f ← inner scope
     pure (node.If c e f)
 
+  -- `listed` are the distinct occurrences
   module _ (listed : List Occ) where
     unfoldable pub atom_from : Parser Node
     atom_from =
@@ -256,6 +263,7 @@ unfoldable pub expr_in : List Occ → ℕ → Names → Parser Node
 expr_in listed zero scope = λ i. Err (level_fault_of listed scope i.ending i.left)
 expr_in listed (suc levels) scope = whole_from (expr_in listed levels) scope listed
 
+-- the same with no name in scope
 abbrev pub expr_from : List Occ → ℕ → Parser Node
 expr_from listed levels = expr_in listed levels []
 

@@ -106,9 +106,9 @@ abbrev pub begins_here : Names → GrammarToken → Bool
 begins_here scope (token.Occurrence place attr) = true
 begins_here scope t = begins [] scope t
 
--- The contract of a function that parses: its result, seen through `view`, is that of the specification's parser
--- `read`, and the reader has advanced over the same tokens; or it fails with the fault of `read`, unless memory
--- ran out.
+-- The contract of a function that parses: its result, converted by `view`, is that of the specification's parser `read`, and the
+-- reader has advanced over the same tokens and keeps the rest of its state; or the function fails with the fault of `read`,
+-- unless memory ran out.
 abbrev pub ReadsAs : {X Y : Type 0} → (X → Y) → (List Occ → Names → Parser Y) → State → Result X ExprFault → State → Type 0
 ReadsAs view read old (Ok x) new =
     (read (complete_list old) old.scope (input old) ≡ Ok (view x, input new)) × KeepsContext old new

@@ -1,5 +1,5 @@
--- The syntax of expressions: the tokens that spell a tree, by levels and by precedences of operators (this
--- project's grammar).
+-- The syntax of expressions: the tokens that spell a tree, by levels and by precedences of operators (this project's grammar).
+-- docs/LANGUAGE.md has the same grammar as productions, under Syntax.
 use Rattle.std.specs.Prelude.{◌≡◌, ℕ, zero, suc, Bool, true, false, List, [], ◌∷◌, ◌++◌, Option, Some, None, cond, bytes_eq}
 use Rattle.std.specs.Prelude.{codes, option_map}
 use denote.Enum.Bare.{sameb}
@@ -47,6 +47,7 @@ named_operator name =
     cond (bytes_eq name (codes "div")) (Some (precedence.Product, operator.Divide))
     (cond (bytes_eq name (codes "mod")) (Some (precedence.Product, operator.Remainder)) None)
 
+-- the operator that a token spells, and its precedence
 abbrev pub binary_operator : GrammarToken → Option (Precedence × Operator)
 binary_operator (token.Punctuation m) = marked_operator m
 binary_operator (token.Name name) = named_operator name
@@ -71,6 +72,7 @@ takes_one _ = false
 abbrev pub same_precedence : Precedence → Precedence → Bool
 same_precedence = sameb the_type
 
+-- the operator, if its precedence is k
 abbrev pub of_precedence : Precedence → Option (Precedence × Operator) → Option Operator
 of_precedence k None = None
 of_precedence k (Some p) = cond (same_precedence k p.0) (Some p.1) None
@@ -86,7 +88,7 @@ abbrev pub new_name : GrammarToken → Option (List ℕ)
 new_name (token.Name name) = cond (is_reserved name) None (Some name)
 new_name _ = None
 
--- a name that is not reserved refers to its binding
+-- the operand that a name spells, given the index of its binding: a bound name; `None` if it is reserved or not bound
 abbrev pub bound_operand : List ℕ → Option ℕ → Option Node
 bound_operand name number = cond (is_reserved name) None (option_map node.Bound number)
 
@@ -138,6 +140,7 @@ AreNone = do
   one_sign (mark punctuation.CloseList)
   gives (node.List [])
 
+-- an empty table
 abbrev pub IsTable : List GrammarToken → Node → Type 0
 IsTable = do
   one_sign (mark punctuation.OpenTable)
@@ -168,6 +171,7 @@ module _ (inner : Names → List GrammarToken → Node → Type 0) (scope : Name
     one_sign (mark punctuation.CloseList)
     gives (node.List items)
 
+  -- a list: no items, or items separated by commas
   abbrev pub IsList : List GrammarToken → Node → Type 0
   IsList = do
     one_sign (mark punctuation.OpenList)
@@ -232,6 +236,7 @@ module _ (inner : Names → List GrammarToken → Node → Type 0) (scope : Name
     abbrev pub IsAtom : List GrammarToken → Node → Type 0
     IsAtom = IsParenthesized or IsList or IsTable or IsCall or one (operand_of listed scope)
 
+    -- an expression: a `let`, an `if` or a chain
     abbrev pub IsWhole : List GrammarToken → Node → Type 0
     IsWhole = IsLet or IsIf or IsRanked IsAtom precedences
 

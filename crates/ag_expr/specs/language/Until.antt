@@ -26,22 +26,22 @@ Ended = (Node × List Occ) × ℕ
 abbrev pub semicolon : ℕ → PlacedToken
 semicolon at = record { at = at; token = token.Punctuation punctuation.Semicolon }
 
--- the offset of the first semicolon among tokens
+-- the offset of the first semicolon among tokens, if there is one
 abbrev pub first_semicolon : List PlacedToken → Option ℕ
 first_semicolon [] = None
 first_semicolon (p ∷ ps) = cond (is_sign (mark punctuation.Semicolon) p.token) (Some p.at) (first_semicolon ps)
 
--- the tokens before the first semicolon
+-- the tokens before the first semicolon; all of them if there is none
 abbrev pub before_semicolon : List PlacedToken → List PlacedToken
 before_semicolon [] = []
 before_semicolon (p ∷ ps) = cond (is_sign (mark punctuation.Semicolon) p.token) [] (p ∷ before_semicolon ps)
 
--- the tokens from the first semicolon on
+-- the tokens from the first semicolon on; none if there is no semicolon
 abbrev pub from_semicolon : List PlacedToken → List PlacedToken
 from_semicolon [] = []
 from_semicolon (p ∷ ps) = cond (is_sign (mark punctuation.Semicolon) p.token) (p ∷ ps) (from_semicolon ps)
 
--- the tokens after the first semicolon
+-- the tokens after the first semicolon; none if there is no semicolon
 abbrev pub after_semicolon : List PlacedToken → List PlacedToken
 after_semicolon [] = []
 after_semicolon (p ∷ ps) = cond (is_sign (mark punctuation.Semicolon) p.token) ps (after_semicolon ps)

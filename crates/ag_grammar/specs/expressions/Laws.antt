@@ -17,12 +17,13 @@ abbrev pub ValueOfOccurrences : Type 0
 ValueOfOccurrences = (e : Node) (env other : ℕ → Value) (bound : List Value) → AgreeOn e env other
     → value_in e env bound ≡ value_in e other bound
 
--- If a tree is within n, where `bound` names are bound around it, it contains no occurrence whose number is n or more.
+-- If a tree passes the test `is_within` for n and some number `bound` of names bound around it, it contains no occurrence whose
+-- number is n or more.
 abbrev pub OccurrencesAreListed : Type 0
 OccurrencesAreListed = (n k bound : ℕ) (e : Node) → is_within n e bound ≡ true → has_occurrence k e ≡ true → k < n
 
 -- The expression of a rule has the same value in any two environments that give its occurrences the values of
--- its arguments.
+-- its arguments. `e` has the values of attributes, by place and number.
 abbrev pub RuleHasOneValue : Type 0
 RuleHasOneValue = (g : Grammar) (q : Production) (r : Rule) (e : ℕ → ℕ → Value) (env other : ℕ → Value) → IsNamedRule g q r
     → Supplies r e env → Supplies r e other → value_of r.expr.0 env ≡ value_of r.expr.0 other

@@ -6,16 +6,17 @@ use Rattle.ag_grammar.specs.declared.syntax.node.Node.{Node}
 use Rattle.ag_grammar.specs.declared.syntax.node.Node.TheFolds.{fold-Node}
 use Rattle.ag_grammar.specs.declared.syntax.node.Node.TheOpen.{Node-F}
 
--- whether the result is true for some operand of a chain after the first, or for some item of a list
+-- whether some operand of a chain after the first contains the occurrence; the Bool of each pair says whether its operand does
 abbrev pub some_operand : List (Operator × Bool) → Bool
 some_operand [] = false
 some_operand (x ∷ xs) = x.1 || some_operand xs
 
+-- whether some item of a list contains the occurrence, from whether each does
 abbrev pub some_item : List Bool → Bool
 some_item [] = false
 some_item (x ∷ xs) = x || some_item xs
 
--- whether one level of a tree contains occurrence k, with the result for each operand in its place
+-- whether a tree contains occurrence k, from whether each of its parts does
 abbrev pub has_step : ℕ → Node-F Bool → Bool
 has_step k (Node-F.Literal v) = false
 has_step k (Node-F.Occurrence j) = nat_eq j k

@@ -6,17 +6,18 @@ use Rattle.ag_grammar.specs.declared.syntax.node.Node.{Node}
 use Rattle.ag_grammar.specs.declared.syntax.node.Node.TheFolds.{fold-Node}
 use Rattle.ag_grammar.specs.declared.syntax.node.Node.TheOpen.{Node-F}
 
--- whether the test of each operand of a chain after the first, or of each item of a list, holds with `bound` names bound
--- around it
+-- whether the tests of all operands of a chain after the first hold with `bound` names bound around the chain
 abbrev pub all_hold : ℕ → List (Operator × (ℕ → Bool)) → Bool
 all_hold bound [] = true
 all_hold bound (x ∷ xs) = x.1 bound && all_hold bound xs
 
+-- whether the tests of all items of a list hold with `bound` names bound around the list
 abbrev pub each_holds : ℕ → List (ℕ → Bool) → Bool
 each_holds bound [] = true
 each_holds bound (x ∷ xs) = x bound && each_holds bound xs
 
--- the test of `is_within` for one level of a tree, with the test of each operand in its place
+-- The test of `is_within` for a tree, from the tests for its parts. A test gets the number `bound` of the names that are bound
+-- around a tree; a `let` binds one more in its body.
 abbrev pub below_step : ℕ → Node-F (ℕ → Bool) → ℕ → Bool
 below_step n (Node-F.Literal v) bound = true
 below_step n (Node-F.Occurrence k) bound = nat_lt k n
@@ -30,8 +31,8 @@ below_step n (Node-F.Put t k v) bound = t bound && (k bound && v bound)
 below_step n (Node-F.List items) bound = each_holds bound items
 below_step n Node-F.EmptyTable bound = true
 
--- In a tree with `bound` names bound around it, the number of each occurrence is below n, and the number of
--- each bound name is below the number of names that are bound around it there.
+-- Whether, in a tree with some number of names bound around it (the last argument), the number of each occurrence is below n, and
+-- the number of each bound name is below the number of names that are bound where it is.
 abbrev pub is_within : ℕ → Node → ℕ → Bool
 is_within n = fold-Node (ℕ → Bool) (below_step n)
 

@@ -1,4 +1,5 @@
--- Statements of the laws.
+-- Statements of the laws of `src/grammar_laws.rt`. In all of them g is a grammar, m an assignment of passes, t a tree, and u, v
+-- and w are values of its attributes.
 use Rattle.std.specs.Prelude.{ℕ, suc, ◌≡◌, ◌<◌, ◌≤◌, ◌↔◌}
 use Rattle.ag_value.specs.declared.value.Value.{Value}
 use Rattle.ag_grammar.specs.Lists.{Each}
@@ -28,8 +29,8 @@ abbrev pub OneTranslation : Type 0
 OneTranslation = (g : Grammar) (m : Passes) (t : Tree) (v w : Valuation) (x y : Value) → IsAccepted g → IsLegal g m → IsTreeOf g t
     → Solves AnyRule g t v → Solves AnyRule g t w → IsTranslation g v x → IsTranslation g w y → x ≡ y
 
--- If the rules use only what the assignment allows, the equations of a pass stay true as long as the values of this pass
--- and of the earlier ones are kept.
+-- If the rules use only what the assignment allows, the equations of pass k stay true if the values v are replaced by values w
+-- that are the same in all passes up to some pass j, which is k or a later one. The tree may be that of any item x.
 abbrev pub EquationsKept : Type 0
 EquationsKept = (g : Grammar) (m : Passes) (k j : ℕ) (x : Item) (t : Tree) (v w : Valuation)
     → Each (IsLegalFor (HasPass m)) g.productions → k ≤ j → Fits g x t → Same (λ p. p ≤ j) g m t v w → Solves (OfPass m k) g t v

@@ -54,16 +54,16 @@ abbrev pub direction_name : Direction → List ℕ
 direction_name LeftToRight = codes "left-to-right"
 direction_name RightToLeft = codes "right-to-left"
 
--- A rule whose target belongs to pass k, at place j, may use an attribute of pass p at place i. A target on
--- the left side may use what is computed by the end of the pass. A target on the right side may use what is
--- known before the pass enters the child: attributes of the left side and of children visited earlier with p
--- at most k, and attributes of any child with p below k (after Jazayeri and Walter 1975; that attributes of
--- children visited later may be used is this project's).
+-- Whether a rule whose target has pass k and is at place j may use an attribute of pass p at place i. A target on the left side
+-- (j = 0) is needed only at the end of the node, so p is at most k. A target at a child is needed before the pass enters this
+-- child: p is at most k at the left side and at children visited before, and below k at this child and at those visited later.
+-- (After Jazayeri and Walter 1975. That attributes of children visited later may be used is this project's: the record of a node
+-- has copies of those that earlier passes computed.)
 abbrev pub MayUse : (k j i p : ℕ) → Type 0
 MayUse k zero i p = p ≤ k
 MayUse k (suc j) i p = ((i ≡ 0) × (p ≤ k)) ⊎ (IsBefore (direction_of k) i (suc j) × (p ≤ k)) ⊎ (p < k)
 
--- If the target of a rule of the production has a pass, each argument of the rule has a pass that this pass may use. The
+-- If the target of a rule of the production has a pass, each argument of the rule has one too, and `MayUse` allows its use. The
 -- relation P assigns passes to attributes at places, but perhaps not to all: so attributes with a pass depend only on
 -- attributes with a pass.
 abbrev pub IsLegalFor : (Production → Target → ℕ → Type 0) → Production → Type 0

@@ -44,5 +44,6 @@ chosen_at (Value-F.Num (negsuc n)) e f = e
 chosen_at (Value-F.Fault code) e f = value.Fault code
 chosen_at c e f = value.Fault Kind
 
+-- the same, from the value c and not only its outermost level
 abbrev pub choice_of : Value → Value → Value → Value
 choice_of c e f = chosen_at (out-Value c) e f

@@ -12,17 +12,18 @@ use Rattle.ag_value.specs.operations.Arguments.{strict, truth}
 use Rattle.ag_value.specs.operations.Lists.{concatenation}
 use Rattle.ag_value.specs.operations.Numbers.{number_value, of_numbers, quotient, remainder}
 
--- `a == b`, for values of any kinds: 1 if they are the same value, else 0. Different well values have different
--- spellings.
+-- `a == b`, for values of any kinds: 1 if they are the same value, else 0. The spellings are compared, since different well
+-- values have different ones.
 abbrev pub comparison_result : Value → Value → Value
 comparison_result left right = truth (bytes_eq (spelling_of left) (spelling_of right))
 
--- `a < b`, for two numbers or two texts: 1 if a is less, else 0; texts are compared by their bytes
+-- `a < b`, for two numbers or two texts, from their outermost levels: 1 if a is less, else 0; texts are compared by their bytes
 abbrev pub ordered_at : Value-F Value → Value-F Value → Value
 ordered_at (Value-F.Num m) (Value-F.Num n) = truth (int_lt m n)
 ordered_at (Value-F.Text s) (Value-F.Text t) = truth (is_before s t)
 ordered_at left right = value.Fault Kind
 
+-- `a < b`, from the values
 abbrev pub order_result : Value → Value → Value
 order_result left right = ordered_at (out-Value left) (out-Value right)
 
@@ -37,6 +38,6 @@ operator_result operator.Multiply left right = of_numbers (λ m n. number_value 
 operator_result operator.Divide left right = of_numbers quotient left right
 operator_result operator.Remainder left right = of_numbers remainder left right
 
--- the result for any two values
+-- the result of an operator for any two values: the leftmost error among them, if there is one, else the operator's result
 abbrev pub operation_result : Operator → Value → Value → Value
 operation_result o left right = strict (left ∷ right ∷ []) (operator_result o left right)

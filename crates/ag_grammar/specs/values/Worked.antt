@@ -7,6 +7,7 @@ use Rattle.ag_grammar.specs.declared.syntax.node.Node.TheVariants as node
 use Rattle.ag_grammar.specs.declared.syntax.node.Operator.TheVariants as operator
 use Rattle.ag_grammar.specs.declared.syntax.node.UnaryCall.TheVariants as unary
 
+-- the number n as a value
 abbrev pub number : ℕ → Value
 number n = value.Num (pos n)
 

@@ -10,7 +10,8 @@ use smallvec::SmallVec;
 use std::marker::Model;
 
 /// An expression: its tree, and the list of its distinct occurrences. The parser lists them in the
-/// order of their first appearance.
+/// order of their first appearance. Contracts see the pair of both: `e.0` is the tree of `e`, and
+/// `e.1` the list.
 #[derive(Debug, Drop)]
 pub struct Expr {
     node: Node,

@@ -67,7 +67,8 @@ pub enum Node {
     /// 0.
     Bound(usize),
     /// A first operand, followed by one or more pairs of an operator and an operand. All operators
-    /// of a chain have the same precedence, and are left-associative.
+    /// of a chain have the same precedence, and are applied from left to right. The parser makes
+    /// chains with `==` or `<` of one pair only.
     Chain(Boxed<Node>, Items<(Operator, Node)>),
     /// `let x = e in f`: the definition of the name, and the body in which it is bound.
     Let(Boxed<Node>, Boxed<Node>),

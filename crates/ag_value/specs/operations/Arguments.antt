@@ -1,5 +1,6 @@
 -- The treatment of arguments that operators, calls and lists share, except the calls `iserr` and `orelse`, whose
--- values are defined here too. All definitions are this project's.
+-- values are defined here too. A definition whose name ends with `_at` takes the outermost level of a value. All definitions are
+-- this project's.
 use Rattle.std.specs.Prelude.{Bool, true, false, pos, List, [], ◌∷◌, Option, Some, None}
 use Rattle.ag_value.specs.declared.value.ErrorCode.{ErrorCode}
 use Rattle.ag_value.specs.declared.value.Value.{Value, out-Value}
@@ -14,6 +15,7 @@ fault_at (Value-F.List items) = None
 fault_at (Value-F.Table pairs) = None
 fault_at (Value-F.Fault code) = Some code
 
+-- the same, from the whole value
 abbrev pub fault_of : Value → Option ErrorCode
 fault_of v = fault_at (out-Value v)
 
@@ -51,10 +53,11 @@ has_fault None = false
 abbrev pub iserr_result : Value → Value
 iserr_result v = truth (has_fault (fault_of v))
 
--- `orelse(v, w)`, which accepts errors: v if that is not an error, else w
+-- v if there is no error code, else w
 abbrev pub either : Option ErrorCode → Value → Value → Value
 either None v w = v
 either (Some code) v w = w
 
+-- the value of `orelse(v, w)`, which accepts errors: v if v is not an error, else w
 abbrev pub or_else : Value → Value → Value
 or_else v w = either (fault_of v) v w

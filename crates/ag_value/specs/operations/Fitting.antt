@@ -19,8 +19,8 @@ pub record IsMeasured (v : Value) (weight depth : ℕ) : Type 0 where
   pub weight_is : weight ≡ weight_of v
   pub depth_is : depth ≡ depth_of v
 
--- Items that may be in a list, together with the weight and the depth of their list, each cut off at the
--- maximum of the code's counter.
+-- Items that a list may contain, together with the weight and the depth of the list of these items as the code counts
+-- them: a weight above 2^64 - 1 counts as 2^64 - 1, and a depth above 2^32 - 1 as 2^32 - 1.
 pub record IsGathered (items : List Value) (weight depth : ℕ) : Type 0 where
   pub item : is_item (value.List items) ≡ true
   pub weight_is : weight ≡ min (weight_of (value.List items)) (2 ^ 64 - 1)

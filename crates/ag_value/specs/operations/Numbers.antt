@@ -1,4 +1,5 @@
--- Operations on numbers. All definitions are this project's.
+-- Operations on numbers. A definition whose name ends with `_at` takes the outermost level of a value; the next one with its
+-- comment takes the value. All definitions are this project's.
 use Rattle.std.specs.Prelude.{ℕ, zero, suc, ◌==◌, ℤ, pos, negsuc, neg_ℤ, int_div, int_rem, Bool, ◌&&◌, nat_lt, List, [], ◌∷◌}
 use Rattle.std.specs.Prelude.{length, Option, Some, None, if◌then◌else◌}
 use Rattle.std.specs.Char.{is_ascii_digit}
@@ -29,12 +30,12 @@ quotient m n = quotient_of n (number_value (int_div m n))
 abbrev pub remainder : ℤ → ℤ → Value
 remainder m n = quotient_of n (value.Num (int_rem m n))
 
--- the result of f for two numbers, else the error `kind`
+-- from the outermost levels of two values: the result of f if both are numbers, else the error `kind`
 abbrev pub from_numbers : (ℤ → ℤ → Value) → Value-F Value → Value-F Value → Value
 from_numbers f (Value-F.Num m) (Value-F.Num n) = f m n
 from_numbers f left right = value.Fault Kind
 
--- an operation on two numbers
+-- the same, from the values
 abbrev pub of_numbers : (ℤ → ℤ → Value) → Value → Value → Value
 of_numbers f left right = from_numbers f (out-Value left) (out-Value right)
 
@@ -42,7 +43,8 @@ of_numbers f left right = from_numbers f (out-Value left) (out-Value right)
 abbrev pub is_digits : List ℕ → Bool
 is_digits digits = nat_lt 0 (length digits) && list_all is_ascii_digit digits
 
--- the number that these bytes denote, with this sign, if all are digits and the number is in the range of i64
+-- The number that these bytes denote, if there is at least one, all are digits, and the number is in the range of i64. `sign` is
+-- applied to the number of the digits: it negates it or leaves it as it is.
 abbrev pub signed_number : (ℤ → ℤ) → List ℕ → Option ℤ
 signed_number sign digits =
     if is_digits digits && is_i64 (sign (pos (digits_value 10 digits))) then Some (sign (pos (digits_value 10 digits))) else None
@@ -52,22 +54,25 @@ abbrev pub spelled_number : List ℕ → Option ℤ
 spelled_number [] = None
 spelled_number (b ∷ bytes) = if b == 45 then signed_number neg_ℤ bytes else signed_number (λ z. z) (b ∷ bytes)
 
+-- the number, if there is one, else the error `number`
 abbrev pub number_or_fault : Option ℤ → Value
 number_or_fault (Some z) = value.Num z
 number_or_fault None = value.Fault Number
 
--- `number(t)`
+-- `number(t)`: the number that a text denotes, or the error `number` if it denotes none; the error `kind` for other values
 abbrev pub number_at : Value-F Value → Value
 number_at (Value-F.Text text) = number_or_fault (spelled_number text)
 number_at v = value.Fault Kind
 
+-- `number(t)`
 abbrev pub number_of : Value → Value
 number_of t = number_at (out-Value t)
 
--- `text(n)`: in decimal, with a `-` before the digits of a negative number
+-- `text(n)`: a number in decimal, with a `-` before the digits if it is negative; the error `kind` for other values
 abbrev pub decimal_at : Value-F Value → Value
 decimal_at (Value-F.Num n) = value.Text (signed_decimal n)
 decimal_at v = value.Fault Kind
 
+-- `text(n)`
 abbrev pub decimal_of : Value → Value
 decimal_of n = decimal_at (out-Value n)

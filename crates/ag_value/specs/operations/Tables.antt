@@ -1,4 +1,4 @@
--- Operations on tables, for arguments that are not errors. All definitions are this project's.
+-- Operations on tables (this project's). No argument is an error. A name ends with `_at` if it takes outermost levels of values.
 use Rattle.std.specs.Prelude.{◌≡◌, ℕ, suc, Bool, true, false, List, ◌∷◌, ◌++◌, map, filter, find, take, drop, slice_get, Option}
 use Rattle.std.specs.Prelude.{Some, None, bytes_eq}
 use Rattle.ag_value.specs.declared.value.ErrorCode.TheVariants.{Kind, Key}
@@ -9,51 +9,59 @@ use Rattle.ag_value.specs.Well.{is_before}
 use Rattle.ag_value.specs.operations.Arguments.{truth}
 use Rattle.ag_value.specs.operations.Fitting.{fit}
 
--- the first pair with this key
+-- the first pair with this key, if there is one
 abbrev pub pair_with : List ℕ → List (List ℕ × Value) → Option (List ℕ × Value)
 pair_with key pairs = find (λ p. bytes_eq p.0 key) pairs
 
--- for pairs whose keys ascend: the pairs with this value at this key, in the order of their keys; the others are unchanged
+-- for pairs whose keys ascend: the pairs with this one added, or put in the place of the one with this key; the keys ascend too
 abbrev pub with_pair : List ℕ → Value → List (List ℕ × Value) → List (List ℕ × Value)
 with_pair key v pairs = filter (λ p. is_before p.0 key) pairs ++ (key, v) ∷ filter (λ p. is_before key p.0) pairs
 
--- `put(t, k, v)`
+-- `put(t, k, v)`: a table with this value at this key, after the check of the limits; the error `kind` if t is not a table or k
+-- is not a text
 abbrev pub put_at : Value-F Value → Value-F Value → Value → Value
 put_at (Value-F.Table pairs) (Value-F.Text key) v = fit (value.Table (with_pair key v pairs))
 put_at table key v = value.Fault Kind
 
+-- `put(t, k, v)`
 abbrev pub put_result : Value → Value → Value → Value
 put_result table key v = put_at (out-Value table) (out-Value key) v
 
+-- the value of the pair, if there is one, else the error `key`
 abbrev pub value_or_fault : Option (List ℕ × Value) → Value
 value_or_fault (Some p) = p.1
 value_or_fault None = value.Fault Key
 
--- `get(t, k)`
+-- `get(t, k)`: the value at a key of a table; the error `kind` if t is not a table or k is not a text
 abbrev pub get_at : Value-F Value → Value-F Value → Value
 get_at (Value-F.Table pairs) (Value-F.Text key) = value_or_fault (pair_with key pairs)
 get_at table key = value.Fault Kind
 
+-- `get(t, k)`
 abbrev pub get_result : Value → Value → Value
 get_result table key = get_at (out-Value table) (out-Value key)
 
+-- whether there is a pair
 abbrev pub is_there : Option (List ℕ × Value) → Bool
 is_there (Some p) = true
 is_there None = false
 
--- `has(t, k)`
+-- `has(t, k)`: 1 if a table has this key, else 0; the error `kind` if t is not a table or k is not a text
 abbrev pub has_at : Value-F Value → Value-F Value → Value
 has_at (Value-F.Table pairs) (Value-F.Text key) = truth (is_there (pair_with key pairs))
 has_at table key = value.Fault Kind
 
+-- `has(t, k)`
 abbrev pub has_result : Value → Value → Value
 has_result table key = has_at (out-Value table) (out-Value key)
 
--- `keys(t)`: the keys in the order of the table, which is ascending if the table is well
+-- `keys(t)`: the list of the keys in the order of the table, which is ascending if the table is well; the error `kind` for other
+-- values
 abbrev pub keys_at : Value-F Value → Value
 keys_at (Value-F.Table pairs) = value.List (map (λ p. value.Text p.0) pairs)
 keys_at v = value.Fault Kind
 
+-- `keys(t)`
 abbrev pub keys_of : Value → Value
 keys_of table = keys_at (out-Value table)
 

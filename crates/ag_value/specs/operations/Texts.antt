@@ -1,4 +1,5 @@
--- Operations on texts. All definitions are this project's.
+-- Operations on texts. A definition whose name ends with `_at` takes the outermost levels of values; the next one with its
+-- comment takes the values. All definitions are this project's.
 use Rattle.std.specs.Prelude.{ℕ, Bool, true, false, List, [], if◌then◌else◌}
 use Rattle.std.specs.List.{join_by, list_all}
 use Rattle.ag_value.specs.declared.value.ErrorCode.TheVariants.{Kind}
@@ -12,6 +13,7 @@ abbrev pub is_text_at : Value-F Value → Bool
 is_text_at (Value-F.Text text) = true
 is_text_at v = false
 
+-- whether a value is a text
 abbrev pub is_text : Value → Bool
 is_text v = is_text_at (out-Value v)
 
@@ -20,6 +22,7 @@ abbrev pub bytes_at : Value-F Value → List ℕ
 bytes_at (Value-F.Text text) = text
 bytes_at v = []
 
+-- the bytes of a text
 abbrev pub bytes_of : Value → List ℕ
 bytes_of v = bytes_at (out-Value v)
 
@@ -29,10 +32,11 @@ abbrev pub joined_texts : List Value → List ℕ → Value
 joined_texts items separator =
     if list_all is_text items then fit (value.Text (join_by bytes_of separator items)) else value.Fault Kind
 
--- `join(l, s)`
+-- `join(l, s)`: the texts of a list with a separator between neighbours; the error `kind` if l is not a list or s is not a text
 abbrev pub joined_at : Value-F Value → Value-F Value → Value
 joined_at (Value-F.List items) (Value-F.Text separator) = joined_texts items separator
 joined_at list separator = value.Fault Kind
 
+-- `join(l, s)`
 abbrev pub join_result : Value → Value → Value
 join_result list separator = joined_at (out-Value list) (out-Value separator)

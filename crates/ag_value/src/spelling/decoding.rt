@@ -23,7 +23,7 @@ use std::str::from_utf8;
 /// is longer.
 const MIN_ITEM_LENGTH: usize = 5;
 
-/// The greatest number of items for which room is reserved before the first of them is read.
+/// The greatest number of items or pairs for which room is reserved before the first of them is read.
 const MAX_RESERVED: usize = 1024;
 
 /// Decodes the value whose spelling is a prefix of the input. Returns it and the length of that
@@ -54,8 +54,8 @@ pub fn decode(alloc: Global, input: &[u8]) -> Result<(Value, usize), ValueFault>
 
 /// Reads the value, of a depth of at most `levels`, at the beginning of the bytes. Returns it and
 /// the bytes after it. Fails with V1 if the bytes begin with no spelling of such a value, if a list
-/// or table contains an error, or if the keys of a table do not rise, and with NoMemory. Reads
-/// errors itself, since `item_of` rejects them, and numbers, which saves a call.
+/// or table contains an error, or if the keys of a table do not rise. Can also fail with NoMemory.
+/// Reads errors itself, since `item_of` rejects them, and numbers, which saves a call.
 #[inline(always)]
 #[tactic(auto, unfolding(crate::specs::Reading::value_at, crate::specs::Reading::item_at))]
 fn leading_value(alloc: Global, levels: usize, bytes: &[u8]) -> Result<(Value, &[u8]), ValueFault>
@@ -73,7 +73,8 @@ fn leading_value(alloc: Global, levels: usize, bytes: &[u8]) -> Result<(Value, &
 
 /// Reads the value, of a depth of at most `levels`, at the beginning of the bytes. Returns it and
 /// the bytes after it. Fails with V1 if the bytes begin with no spelling of such a value, if the
-/// value is an error or contains one, or if the keys of a table do not rise, and with NoMemory.
+/// value is an error or contains one, or if the keys of a table do not rise. Can also fail with
+/// NoMemory.
 #[cycle(reading)]
 #[tactic(auto, unfolding(crate::specs::Reading::item_at))]
 fn item_of(alloc: Global, levels: usize, bytes: &[u8]) -> Result<(Value, &[u8]), ValueFault>
@@ -112,7 +113,7 @@ fn item_of(alloc: Global, levels: usize, bytes: &[u8]) -> Result<(Value, &[u8]),
     }
 }
 
-/// Reads `count` values, as `item_of` does.
+/// Reads `count` values, each as `item_of` does, of a depth of at most `levels`.
 #[cycle(reading)]
 #[tactic(auto, using(crate::proofs::Turns::goes_on), unfolding(crate::specs::Reading::all_at))]
 fn items_of(
@@ -155,7 +156,7 @@ fn pairs_of(
     Ok((Items::from_vec(pairs), rest))
 }
 
-/// Reads a key, and a value as `item_of` does.
+/// Reads a key, and then a value as `item_of` does, of a depth of at most `levels`.
 #[cycle(reading)]
 #[tactic(auto, unfolding(crate::specs::Reading::pair_at))]
 fn pair_of(alloc: Global, levels: usize, bytes: &[u8]) -> Result<((Text, Value), &[u8]), ValueFault>
@@ -207,7 +208,7 @@ fn code_of(number: u8) -> Option<ErrorCode>
 }
 
 /// Reads a length in four bytes, and a text of that many bytes. Fails with V1 if there are fewer
-/// bytes or the text is not UTF-8, and with NoMemory.
+/// bytes or the text is not UTF-8. Can also fail with NoMemory.
 #[tactic(auto, unfolding(crate::specs::Reading::text_at))]
 fn text_of(alloc: Global, bytes: &[u8]) -> Result<(Text, &[u8]), ValueFault>
     ensures { Agrees (λ x. (x.0, x.1.now)) result (text_at bytes.now) }

@@ -41,6 +41,7 @@ fn show_value(out: &mut String, value: &Value) -> Result<(), NoMemory>
     Ok(())
 }
 
+/// Appends the text of a list: `[a, b]`.
 #[cycle(showing)]
 fn show_list(out: &mut String, items: &[Value]) -> Result<(), NoMemory>
     ensures { OnOk result (string_bytes out.new ≡ string_bytes out.old
@@ -52,6 +53,7 @@ fn show_list(out: &mut String, items: &[Value]) -> Result<(), NoMemory>
     Ok(())
 }
 
+/// Appends the texts of the items of a list, with a comma and a space between neighbours.
 #[cycle(showing)]
 fn show_items(out: &mut String, items: &[Value]) -> Result<(), NoMemory>
     ensures { OnOk result (string_bytes out.new ≡ string_bytes out.old
@@ -68,6 +70,7 @@ fn show_items(out: &mut String, items: &[Value]) -> Result<(), NoMemory>
     Ok(())
 }
 
+/// Appends the text of a table: `{"k": v, "l": w}`.
 #[cycle(showing)]
 fn show_table(out: &mut String, pairs: &[(Text, Value)]) -> Result<(), NoMemory>
     ensures { OnOk result (string_bytes out.new ≡ string_bytes out.old
@@ -79,6 +82,7 @@ fn show_table(out: &mut String, pairs: &[(Text, Value)]) -> Result<(), NoMemory>
     Ok(())
 }
 
+/// Appends the texts of the pairs of a table, with a comma and a space between neighbours.
 #[cycle(showing)]
 fn show_pairs(out: &mut String, pairs: &[(Text, Value)]) -> Result<(), NoMemory>
     ensures { OnOk result (string_bytes out.new ≡ string_bytes out.old
@@ -97,6 +101,7 @@ fn show_pairs(out: &mut String, pairs: &[(Text, Value)]) -> Result<(), NoMemory>
     Ok(())
 }
 
+/// Appends a key in double quotes, a colon and a space.
 fn show_key(out: &mut String, key: &str) -> Result<(), NoMemory>
     ensures { OnOk result (string_bytes out.new ≡ string_bytes out.old
         ++ (quoted key.now ++ codes ": ")) }
@@ -106,6 +111,7 @@ fn show_key(out: &mut String, key: &str) -> Result<(), NoMemory>
     Ok(())
 }
 
+/// Appends a number in decimal.
 fn show_number(out: &mut String, n: i64) -> Result<(), NoMemory>
     ensures { OnOk result (string_bytes out.new ≡ string_bytes out.old ++ signed_decimal n) }
 {
@@ -114,6 +120,7 @@ fn show_number(out: &mut String, n: i64) -> Result<(), NoMemory>
     Ok(())
 }
 
+/// Appends a text in double quotes, with its characters escaped as `show` says.
 fn show_text(out: &mut String, text: &str) -> Result<(), NoMemory>
     ensures { OnOk result (string_bytes out.new ≡ string_bytes out.old ++ quoted text.now) }
 {
@@ -123,6 +130,7 @@ fn show_text(out: &mut String, text: &str) -> Result<(), NoMemory>
     Ok(())
 }
 
+/// Appends the characters of a text, escaped.
 fn show_characters(out: &mut String, text: &str) -> Result<(), NoMemory>
     ensures { OnOk result (string_bytes out.new ≡ string_bytes out.old
         ++ flat_map escaped (chars text.now)) }
@@ -133,6 +141,7 @@ fn show_characters(out: &mut String, text: &str) -> Result<(), NoMemory>
     Ok(())
 }
 
+/// Appends one character, escaped.
 fn show_character(out: &mut String, character: char) -> Result<(), NoMemory>
     ensures { OnOk result (string_bytes out.new ≡ string_bytes out.old ++ escaped character) }
 {
@@ -147,6 +156,7 @@ fn show_character(out: &mut String, character: char) -> Result<(), NoMemory>
     Ok(())
 }
 
+/// Appends `error`, a space, and the name of an error.
 fn show_error(out: &mut String, code: ErrorCode) -> Result<(), NoMemory>
     ensures { OnOk result (string_bytes out.new ≡ string_bytes out.old
         ++ (codes "error " ++ name_of code)) }

@@ -20,6 +20,7 @@ pub fn same(a: &Value, b: &Value) -> bool
     }
 }
 
+/// Returns whether two lists have equally many items, and the same ones in the same order.
 #[cycle(same)]
 fn same_items(xs: &[Value], ys: &[Value]) -> bool
     ensures { IsTrue result ↔ (xs.now ≡ ys.now) }
@@ -35,6 +36,7 @@ fn same_items(xs: &[Value], ys: &[Value]) -> bool
     true
 }
 
+/// Returns whether two tables have equally many pairs, and the same ones in the same order.
 #[cycle(same)]
 fn same_pairs(xs: &[(Text, Value)], ys: &[(Text, Value)]) -> bool
     ensures { IsTrue result ↔ (xs.now ≡ ys.now) }

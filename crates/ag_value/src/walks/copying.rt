@@ -21,6 +21,7 @@ pub fn copy(alloc: Global, value: &Value) -> Result<Value, NoMemory>
     }
 }
 
+/// Copies the items of a list. Fails with NoMemory.
 #[cycle(copy)]
 fn copy_items(alloc: Global, items: &[Value]) -> Result<Items<Value>, NoMemory>
     ensures { IfOk result (λ copied. copied ≡ items.now) }
@@ -32,6 +33,7 @@ fn copy_items(alloc: Global, items: &[Value]) -> Result<Items<Value>, NoMemory>
     Ok(Items::from_vec(copies))
 }
 
+/// Copies the pairs of a table. Fails with NoMemory.
 #[cycle(copy)]
 fn copy_pairs(alloc: Global, pairs: &[(Text, Value)]) -> Result<Items<(Text, Value)>, NoMemory>
     ensures { IfOk result (λ copied. copied ≡ pairs.now) }

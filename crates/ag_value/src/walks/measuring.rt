@@ -67,7 +67,8 @@ pub fn depth(value: &Value) -> u32
     }
 }
 
-/// Returns the greatest depth of some values, 0 if there are none, saturated at `u32::MAX`.
+/// Returns the greatest of the depths of values, saturated at `u32::MAX`. Returns 0 if there are no
+/// values.
 #[cycle(measuring_depth)]
 fn depth_of_items(items: &[Value]) -> u32
     ensures { result ≡ min (greatest (map depth_of items.now)) (2 ^ 32 - 1) }
@@ -79,8 +80,8 @@ fn depth_of_items(items: &[Value]) -> u32
     deepest
 }
 
-/// Returns the greatest depth of the values of some pairs, 0 if there are none, saturated at
-/// `u32::MAX`.
+/// Returns the greatest of the depths of the values in pairs, saturated at `u32::MAX`. Returns 0 if
+/// there are no pairs.
 #[cycle(measuring_depth)]
 fn depth_of_pairs(pairs: &[(Text, Value)]) -> u32
     ensures { result ≡ min (greatest (map (λ p. depth_of p.1) pairs.now)) (2 ^ 32 - 1) }

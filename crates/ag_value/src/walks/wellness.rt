@@ -15,7 +15,8 @@ pub fn is_well(value: &Value) -> bool
     ensures { IsTrue result ↔ IsWell value.now }
 {
     match value {
-        // Most values are numbers. The read shows the prover that the number is of i64.
+        // A short way for numbers, since most values are numbers. The read shows the prover that
+        // the number is of i64.
         Value::Num(n) => {
             let _in_range = *n;
             true
@@ -76,7 +77,8 @@ fn are_item_pairs(pairs: &[(Text, Value)]) -> bool
     true
 }
 
-/// Returns whether each key comes before the next, compared by their bytes.
+/// Returns whether each key comes before the next, compared by their bytes. That the keys are UTF-8
+/// follows from their type.
 #[tactic(auto, using(crate::proofs::Keys::keys))]
 pub fn has_ascending_keys(pairs: &[(Text, Value)]) -> bool
     ensures { result ≡ are_keys (map key_of pairs.now) }

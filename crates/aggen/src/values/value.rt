@@ -124,7 +124,8 @@ fn first_occurrence(expr: &Expr) -> Option<usize>
     }
 }
 
-/// The environment of an expression without occurrences: one value, 0, which nothing reads.
+/// The environment of an expression without occurrences. It has one value, 0, since `lend` has to
+/// return some value; no evaluation reads it.
 #[derive(Drop)]
 struct NoOccurrences {
     number: Value,

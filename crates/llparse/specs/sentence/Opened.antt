@@ -30,22 +30,21 @@ opened [] = 0
 opened (o ∷ os) = suc (node_counts o.done) + opened os
 
 module _ (g : Grammar) where
-  -- t is a whole tree in which c is the next child of the innermost open node, and the words are those after
-  -- c
+  -- t is a whole tree in which c is the next child of the innermost open node, and ws are t's words after c. If no node is open,
+  -- t is c.
   abbrev pub Continues : List Open → Tree → List Lexeme → Tree → Type 0
   Continues [] c ws t = (ws ≡ []) × (t ≡ c)
   Continues (o ∷ os) c ws t =
       (fs : Forest) × (vs : List Lexeme) × FitsAll g (stored_items o.rest) fs × (ws ≡ yield_along g o.rest fs ++ vs)
       × Continues os (node o.production (joined o.done (more c fs))) vs t
 
-  -- t is a whole tree that completes the open nodes, and the words are the remaining ones
+  -- t is a whole tree that completes the open nodes, of which o is the innermost, and ws are t's words that are not read yet
   abbrev pub Completes : Open → List Open → List Lexeme → Tree → Type 0
   Completes o os ws t =
       (fs : Forest) × (vs : List Lexeme) × FitsAll g (stored_items o.rest) fs × (ws ≡ yield_along g o.rest fs ++ vs)
       × Continues os (node o.production (joined o.done fs)) vs t
 
-  -- t is a whole tree in which a tree of s comes next below the innermost open node, and the words are those of this tree and
-  -- after it
+  -- t is a whole tree in which a tree c of symbol s comes next below the innermost open node, and ws are t's words from c on
   abbrev pub ContinuesWith : List Open → ℕ → List Lexeme → Tree → Type 0
   ContinuesWith os s ws t =
       (c : Tree) × (vs : List Lexeme) × Fits g (item.Symbol s) c × (ws ≡ yield_of g c ++ vs)
@@ -65,13 +64,14 @@ module _ (g : Grammar) where
       (q : Production) × (before : List Item) × IsProduction g o.production q × (q.items ≡ before ++ o.rest) × IsStack os q.left
 
   -- each open node may be opened below those around it, and the next item of the innermost one is this item; if none is open,
-  -- it is the start symbol
+  -- this item is the start symbol
   abbrev pub IsNext : List Open → Item → Type 0
   IsNext [] x = x ≡ item.Symbol g.start
   IsNext (o ∷ os) x = FitsStack (open_at o.production o.done (x ∷ o.rest)) os
 
 -- A whole tree is cut before one of its nodes: the nodes above this one are open, each with its children that are done, and the
--- words are those of the tree from this node on.
+-- words are those of the tree from this node on. `child` is the subtree of this node, and `next` its item. `following` are the
+-- words after it.
 pub record IsCutAt (g : Grammar) (above : List Open) (words : List Lexeme) (t : Tree) : Type 0 where
   pub next : Item
   pub child : Tree

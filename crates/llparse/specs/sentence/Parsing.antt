@@ -21,7 +21,8 @@ use Rattle.llparse.specs.declared.sentence.parse_fault.ParseFault.{ParseFault}
 use Rattle.llparse.specs.declared.sentence.parse_fault.ParseFault.TheVariants as fault
 use Rattle.llparse.specs.declared.sentence.parser.OpenProduction.{OpenProduction}
 
--- the input of a parse, its limits, whether the device is honest, and the device's content before the parse
+-- The input of a parse, its limits of levels and of nodes, whether the device is honest when the parse ends, and the device's
+-- content before the parse (`prefix`).
 pub record Task : Type 0 where
   pub grammar : Grammar
   pub words : List Lexeme
@@ -65,7 +66,8 @@ abbrev pub kept : List Open → List Value
 kept [] = []
 kept (o ∷ os) = kept os ++ leaf_texts o.done
 
--- the stack has the productions of the open nodes, how far each is read, and the number of texts kept before those of each
+-- The parser's stack agrees with the open nodes: each entry has the node's production, the number of items that are passed, and
+-- the number of texts that are kept before the node's own.
 abbrev pub Shows : Grammar → List Open → List OpenProduction → Type 0
 Shows g [] [] = Unit {0}
 Shows g [] (f ∷ fs) = ⊥
@@ -98,9 +100,9 @@ pub record Agrees (k : Task) (os : List Open) (at count : ℕ) (made : Output) :
   pub few : count ≤ k.nodes
   pub shallow : IsShallow k.depth os
 
--- A node of production p is open at ys, within the nodes of the stack fs, and its texts begin at `base`; the
--- trees that complete it have the words read so far and then their remaining words, and these are all such
--- trees with the given look-ahead.
+-- A node of production p is open. Its remaining items are ys, its texts begin at `base`, and the nodes of the stack fs are around
+-- it. A tree that completes these nodes begins with the words read so far (`sound`). A tree that begins with these words, and
+-- continues with the look-ahead, completes these nodes (`complete`).
 pub record Reading (k : Task) (p base : ℕ) (ys : List Item) (fs : List OpenProduction) (at count : ℕ)
     (made : Output) : Type 0 where
   pub done : Forest
@@ -113,7 +115,8 @@ pub record Reading (k : Task) (p base : ℕ) (ys : List Item) (fs : List OpenPro
   pub complete : (rest : List Lexeme) (t : Tree) → ahead_of rest ≡ ahead_of (drop at k.words) → IsTreeAfter k at rest t
       → Completes k.grammar (open_at p done ys) under rest t
 
--- A tree of symbol s comes next, within the nodes of the stack fs.
+-- A tree of symbol s comes next, below the nodes of the stack fs. `sound` and `complete` say of the trees that continue with a
+-- tree of s what they say in `Reading`.
 pub record AtSymbol (k : Task) (s : ℕ) (fs : List OpenProduction) (at count : ℕ) (made : Output) : Type 0 where
   pub under : List Open
   pub shows : Shows k.grammar under fs
@@ -136,14 +139,14 @@ pub record Finished (k : Task) (at count : ℕ) (bytes : List ℕ) : Type 0 wher
   pub complete : (rest : List Lexeme) (t : Tree) → ahead_of rest ≡ ahead_of (drop at k.words) → IsTreeAfter k at rest t
       → (rest ≡ []) × (t ≡ tree)
 
--- A parser is between two steps: the first node of its stack is open where the stack says, or the tree is
--- done.
+-- A parser is between two steps: the first node of its stack, the innermost, is open after the items that are passed; or the
+-- stack is empty, and the tree is done.
 abbrev pub Between : Task → List OpenProduction → ℕ → ℕ → Output → Type 0
 Between k [] at count made = Finished k at count made.bytes
 Between k (f ∷ fs) at count made =
     Reading k f.production f.base (drop f.passed (right_side k.grammar f.production)) fs at count made
 
--- The first node of the stack has just passed an item.
+-- The first node of the stack, the innermost, has just passed an item, which is not parsed yet.
 abbrev pub AtItem : Task → Item → List OpenProduction → ℕ → ℕ → Output → Type 0
 AtItem k x [] at count made = ⊥
 AtItem k x (f ∷ fs) at count made =
@@ -166,7 +169,7 @@ IsTooDeep k = LeavesOnlyDeeper k.depth k.grammar k.words
 abbrev pub IsTooLarge : Task → Type 0
 IsTooLarge k = LeavesOnlyLarger k.nodes k.grammar k.words
 
--- the meaning of a fault, with the offset of each token
+-- the meaning of a fault; `offset` maps the index of a token to its offset in the sentence
 abbrev pub IsRefused : Task → (ℕ → ℕ) → ParseFault → Type 0
 IsRefused k offset (fault.Unexpected at) = (i : ℕ) × IsStuckAt k.grammar k.words i × (at ≡ offset i)
 IsRefused k offset fault.TooDeep = IsTooDeep k
@@ -179,7 +182,8 @@ abbrev pub total_length : List Production → ℕ
 total_length [] = 0
 total_length (q ∷ qs) = length q.items + total_length qs
 
--- the greatest number of steps before a node is opened: one for each item that remains, and one for each end
+-- the greatest number of steps that remain if no more nodes are opened: for each node of the stack, one for each item that
+-- remains, and one for its end
 abbrev pub own_steps : Grammar → List OpenProduction → ℕ
 own_steps g [] = 0
 own_steps g (f ∷ fs) = suc (length (drop f.passed (right_side g f.production))) + own_steps g fs

@@ -17,8 +17,10 @@ IsResourceFault parse_fault.Device = Unit {0}
 IsResourceFault parse_fault.NoMemory = Unit {0}
 IsResourceFault fault = ⊥
 
--- The effects that a call which appends records has on the writer, and on the device besides its content: the
--- writer is broken exactly if the call fails because the device failed, and then failures rose.
+-- The effects of a call that appends records, besides the device's content. `old` and `new` are the device before and after the
+-- call, `is_broken` is the writer's state after it, and `failed` states that the call failed with D1. The writer is broken
+-- exactly if `failed` holds, and then the device's failures rose. A device that is honest after the call was honest before
+-- (`Persists`).
 pub record BreaksWriter {D : Type 0} (honest : D → Bool) (failures : D → ℕ) (old new : D) (is_broken : Bool)
     (failed : Type 0) : Type 0 where
   pub persists : Persists (honest old) (honest new) (failures old) (failures new) failed

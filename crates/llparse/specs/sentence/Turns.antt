@@ -38,13 +38,13 @@ FitsTables tables g = IsAccepted g × FitsGrammar g tables
 abbrev pub FitsTokens : List Token → Grammar → Type 0
 FitsTokens tokens g = IsAccepted g × FitAll (vocabulary_of g) tokens
 
--- For each grammar with property P, and the task of parsing these tokens over it: A before a step implies B after it, for the
--- same content of the device.
+-- For each grammar with property P, and each task of parsing these tokens by this grammar: if A holds before a step, B holds
+-- after it, for the same content of the device.
 abbrev pub Leads : (Grammar → Type 0) → List Token → (Task → List ℕ → Type 0) → (Task → List ℕ → Type 0) → Type 0
 Leads P tokens A B = (g : Grammar) (honest : Bool) (prefix bytes : List ℕ) → P g → A (task_of g tokens honest prefix) bytes
     → B (task_of g tokens honest prefix) bytes
 
--- what `Leads` states, for a step that changes the device's content
+-- what `Leads` states, for a step that changes the device's content from `old` to `new`, and for tasks with this field `honest`
 abbrev pub Writes : (Grammar → Type 0) → List Token → Bool → List ℕ → List ℕ → (Task → List ℕ → Type 0) → (Task → List ℕ → Type 0)
     → Type 0
 Writes P tokens honest old new A B = (g : Grammar) (prefix : List ℕ) → P g → A (task_of g tokens honest prefix) old

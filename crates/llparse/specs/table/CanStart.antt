@@ -22,16 +22,17 @@ can_start_in in_first nullable following (x ∷ xs) = in_first x || (nullable x 
 abbrev pub all_nullable : (Item → Bool) → List Item → Bool
 all_nullable nullable xs = can_start_in (λ x. false) nullable true xs
 
--- y is in the relation with an item of the list; the items after that item have the property
+-- y is in the relation R with an item of the list, and the items after that item pass the test c
 abbrev pub OfRest : {Y : Type 0} → (List Item → Bool) → (Item → Y → Type 0) → List Item → Y → Type 0
 OfRest c R [] y = ⊥
 OfRest c R (x ∷ xs) y = ((c xs ≡ true) × R x y) ⊎ OfRest c R xs y
 
--- an edge goes from a left side to an item of the right side after which all items are nullable
+-- an edge goes from a left side to an item of the right side after which all items are nullable; n is the set of nullable symbols
 abbrev pub IsFollowEdge : Grammar → (ℕ → Bool) → Production → Edge → Type 0
 IsFollowEdge g n q e = OfRest (all_nullable (is_nullable_item n)) (λ x e. IsEdge q.left (node_in g x) e) q.items e
 
--- the node of an item of a right side after which the rest of that side can start with the look-ahead
+-- t is the node of an item of a right side after which the rest of that side can start with a look-ahead; n is the set of
+-- nullable symbols, and b the set of nodes with the look-ahead in FIRST
 abbrev pub IsFollowSeed : Grammar → (ℕ → Bool) → (ℕ → Bool) → Production → ℕ → Type 0
 IsFollowSeed g n b q t =
     OfRest (can_start_in (λ x. b (node_in g x)) (is_nullable_item n) false) (λ x t. t ≡ node_in g x) q.items t

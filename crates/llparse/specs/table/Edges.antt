@@ -22,7 +22,7 @@ pub record Adds {X : Type 0} (P A B : X → Type 0) : Type 0 where
   pub all : (x : X) → P x → B x
   pub only : (x : X) → B x → A x ⊎ P x
 
--- y is in the relation with some element of the list
+-- y is in the relation R with some element of the list
 abbrev pub OfSome : {X Y : Type 0} → (X → Y → Type 0) → List X → Y → Type 0
 OfSome {X} R xs y = (x : X) × Contains xs x × R x y
 

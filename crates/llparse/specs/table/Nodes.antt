@@ -15,7 +15,8 @@ index_of literals (ahead.Terminal (Literal l)) = l
 index_of literals (ahead.Terminal (Class c)) = literals + c
 index_of literals ahead.End = literals + class_count
 
--- Symbols are nodes by their numbers, and the look-aheads come after them.
+-- An item's node, for the numbers of symbols and of literals: symbols are nodes by their numbers, and the look-aheads come after
+-- them.
 abbrev pub node_of : ℕ → ℕ → Item → ℕ
 node_of symbols literals (item.Symbol s) = s
 node_of symbols literals (item.Terminal a) = symbols + index_of literals (ahead.Terminal a)

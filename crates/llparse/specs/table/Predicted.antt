@@ -26,7 +26,7 @@ ArePredicted g x marks = (p : ℕ) (q : Production) → IsProduction g p q → i
 abbrev pub IsMarkedOf : List Production → List Bool → ℕ → ℕ → Type 0
 IsMarkedOf qs marks s k = (q : Production) × (slice_get qs k ≡ Some q) × (q.left ≡ s) × (is_marked marks k ≡ true)
 
--- the choice for a symbol
+-- the choice for a symbol: None if no production is chosen, or the symbol is not in the list
 abbrev pub choice_at : List (Option ℕ) → ℕ → Option ℕ
 choice_at choices s = slice_index_or choices s None
 
@@ -59,7 +59,7 @@ PutsEarliest symbol production mark before after =
     → is_marked marks production ≡ mark
     → AreEarliestFrom qs marks (production + 1) before → AreEarliestFrom qs marks production after
 
--- the same of the least pair
+-- the same of the least pair of conflicting productions: it is `pair` before this production is handled, and `after` afterwards
 abbrev pub PutsLeast : ℕ → ℕ → Bool → List (Option ℕ) → Option Pair → Option Pair → Type 0
 PutsLeast symbol production mark before pair after =
     (qs : List Production) (marks : List Bool) (q : Production) → slice_get qs production ≡ Some q → q.left ≡ symbol

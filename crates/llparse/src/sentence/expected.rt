@@ -17,8 +17,9 @@ use ag_scan::{Sentence, Token};
 use ag_value::NoMemory;
 use std::alloc::Global;
 
-/// Takes the next token, which has to be `terminal`, but writes no record and keeps no text. Fails
-/// with P1 if the token is another one or there is none, and with P2 or P3 if a limit is reached.
+/// Takes the next token as `Parser::take` does, but writes no record and keeps no text. Fails with
+/// P1 if its terminal is not `terminal` or there is no token, and with P2 or P3 if a limit is
+/// reached.
 fn take_unwritten(parser: &mut Parser<'_>, terminal: Terminal) -> Result<(), ParseFault>
     ensures waiting { OnOk result (parser.new.waiting.items ≡ parser.old.waiting.items) }
     ensures count { OnOk result (parser.old.count ≤ parser.new.count) }
@@ -33,7 +34,7 @@ fn take_unwritten(parser: &mut Parser<'_>, terminal: Terminal) -> Result<(), Par
 }
 
 /// Returns the next item of an open node, and moves the node past it. Returns `None` at the node's
-/// end, and if the grammar has no such production.
+/// end, and if the grammar doesn't have the node's production.
 fn next_if_any(grammar: &Grammar, node: &mut OpenProduction) -> Option<Item>
     ensures { Advances (right_side grammar.now node.old.production) node.old result node.new }
 {
@@ -43,10 +44,11 @@ fn next_if_any(grammar: &Grammar, node: &mut OpenProduction) -> Option<Item>
     None
 }
 
-/// Continues with the innermost open node and the nodes around it that wait, until a token is taken
-/// with which at least the first `until` tokens of the sentence are taken, or no node is open.
-/// Writes nothing. Returns the node that is then the innermost one, if any. Fails as `Parser::open`
-/// and `take_unwritten` do. After a fault the next token is the one where the parser stopped.
+/// Parses on from the innermost open node, and writes nothing. Compares the number of all tokens
+/// taken with `until` after each token that it takes, and stops when it is at least `until`; it also
+/// stops when no node is open. Returns the node that is then the innermost one, if any. Fails as
+/// `Parser::open` and `take_unwritten` do. After a fault `parser.tokens` is at the token where the
+/// parser stopped.
 fn continue_until(
     parser: &mut Parser<'_>,
     innermost: OpenProduction,
@@ -73,8 +75,8 @@ fn continue_until(
     }
 }
 
-/// Opens the start symbol and continues until `until` tokens are taken. Returns the innermost open
-/// node, if any. Fails with P1 if the look-ahead predicts no production of the start symbol, and
+/// Opens a node of the start symbol, and parses on as `continue_until` does. Returns the innermost
+/// open node, if any. Fails with P1 if the look-ahead predicts no production of the start symbol, and
 /// otherwise as `continue_until` does.
 fn start_until(
     parser: &mut Parser<'_>,
@@ -86,8 +88,8 @@ fn start_until(
     continue_until(parser, root, language, until)
 }
 
-/// Returns whether a terminal is the look-ahead, and the parser has room for its leaf, if it has
-/// one.
+/// Returns whether the look-ahead is this terminal and, if the terminal is a class, the parser has
+/// room for a leaf.
 fn can_take(parser: &Parser<'_>, terminal: Terminal, ahead: Ahead) -> bool {
     if ahead != Ahead::Terminal(terminal) {
         return false;
@@ -167,7 +169,8 @@ fn can_follow(
     }
 }
 
-/// Returns all look-aheads that can follow the tokens before a position, in their order.
+/// Returns all look-aheads that can follow the tokens before a position, in the order of
+/// `StuckPlace::expected`.
 fn expected_after(
     alloc: Global,
     language: &Language<'_>,
@@ -211,7 +214,8 @@ fn run_until_stuck<'t>(
     sentence: &'t Sentence<'_>,
 ) -> Result<(Parser<'t>, bool), NoMemory> {
     let mut parser = Parser::new(alloc, sentence);
-    // no sentence has `usize::MAX` tokens
+    // no sentence has `usize::MAX` tokens, so this parser stops only at a fault, or when the tree is
+    // complete
     let refused = match start_until(&mut parser, language, usize::MAX) {
         Ok(_) => parser.tokens.ahead().is_some(),
         Err(ParseFault::Unexpected(_)) => true,

@@ -56,9 +56,9 @@ pub(crate) fn next_item(grammar: &Grammar, node: &mut OpenProduction) -> Option<
     Some(item)
 }
 
-/// Returns an open node with the production of a symbol that a look-ahead predicts, at the
-/// beginning of the right side; `None` if no production is predicted. `base` is the number of texts
-/// that the parser has kept.
+/// Returns an open node of a symbol with the production that a look-ahead predicts, and none of its
+/// items passed; `None` if no production is predicted. `base` is the number of texts that the parser
+/// has kept.
 #[inline(always)]
 pub(crate) fn node_at(
     tables: &Tables,
@@ -81,9 +81,9 @@ pub(crate) fn node_at(
     }
 }
 
-/// Returns an open node with the production of a symbol that the next token, or the end, predicts,
-/// at the beginning of the right side. `base` is the number of texts that the parser has kept.
-/// Fails with P1 if no production is predicted.
+/// Returns an open node of a symbol with the production that the next token, or the end, predicts,
+/// and none of its items passed. `base` is the number of texts that the parser has kept. Fails with
+/// P1 if no production is predicted.
 #[inline(always)]
 pub(crate) fn new_node(
     tables: &Tables,
@@ -265,9 +265,9 @@ impl<'t> Parser<'t> {
         Ok(node)
     }
 
-    /// Takes the next token, which has to be `terminal`. A token of a class has a record, which is
-    /// appended, and its text is kept. Fails with P1 if the token is another one or there is none,
-    /// with P2 or P3 if a limit is reached, and with D1 or NoMemory.
+    /// Takes the next token. If its terminal is a class, appends its record and keeps its text. Fails
+    /// with P1 if its terminal is not `terminal` or there is no token, with P2 or P3 if a limit is
+    /// reached, and with D1 or NoMemory.
     #[inline(always)]
     pub(crate) fn take<D: Device>(
         &mut self,
@@ -280,7 +280,8 @@ impl<'t> Parser<'t> {
         requires written { writer.old.written + length self.old.waiting.items + 1
             ≡ self.old.count }
         requires fine { writer.old.is_broken ≡ false }
-        // for every flag `honest` that implies that the device is honest
+        // `honest` is the field of the task: whether the device is honest when the parse ends. If it
+        // is, it is honest after this call too.
         ensures takes { OnOk result ((node : OpenProduction) (honest : Bool)
             → (honest ≡ true → D.is_honest device.new ≡ true)
             → Writes (FitsTokens self.old.tokens.list) self.old.tokens.list

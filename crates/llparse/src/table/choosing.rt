@@ -46,7 +46,8 @@ fn conflict_with(production: u16, chosen: Option<u16>, conflict: Option<Pair>) -
 }
 
 impl Column {
-    /// Chooses a production whose number is less than those handled so far.
+    /// Chooses a production for its symbol, and updates the least conflict. The production has a
+    /// lesser number than all that were handled so far.
     fn put(&mut self, symbol: usize, production: u16)
         requires symbol { symbol < length self.old.choices.items }
         ensures len { length self.new.choices.items ≡ length self.old.choices.items }
@@ -59,8 +60,7 @@ impl Column {
         self.choices[symbol] = Some(production);
     }
 
-    /// Chooses a production whose number is less than those handled so far, if it is marked
-    /// (`wanted`).
+    /// Does the same as `put` if the production is marked (`wanted`), and otherwise nothing.
     fn choose_if(&mut self, symbol: usize, production: u16, wanted: bool)
         requires symbol { symbol < length self.old.choices.items }
         ensures len { length self.new.choices.items ≡ length self.old.choices.items }
@@ -75,8 +75,8 @@ impl Column {
     }
 }
 
-/// Returns the choices and the least conflict of the look-ahead that predicts the marked
-/// productions, for this number of symbols. Fails with `NoMemory` if memory is refused.
+/// Returns the choices and the least conflict at a look-ahead, from the marks of the productions
+/// that it predicts. `symbols` is the number of symbols. Fails with `NoMemory` if memory is refused.
 pub(crate) fn choose(
     alloc: Global,
     productions: &[Production],

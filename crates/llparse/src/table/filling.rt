@@ -49,9 +49,9 @@ fn column_of(
     Ok(column)
 }
 
-/// Returns the lesser of a conflict and of a pair that conflicts at a later look-ahead, in the
-/// order of `tables`; the conflict if they are the same pair. Returns the one that there is if
-/// there is only one, and `None` if there is none.
+/// Returns the lesser conflict, in the order of `tables`: `least`, or that of `pair` at `ahead`. This
+/// look-ahead comes after that of `least`, so if both have the same productions, `least` is the
+/// lesser. If there is only one of them, returns that one, and `None` if there is neither.
 fn lesser_conflict(least: Option<Conflict>, pair: Option<Pair>, ahead: Ahead) -> Option<Conflict>
     ensures { IsLesserConflict least pair ahead result }
 {

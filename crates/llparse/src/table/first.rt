@@ -36,7 +36,7 @@ pub(crate) fn starting_items_len(nullable: &[bool], items: &[Item]) -> usize
     items.len()
 }
 
-/// Adds an edge from the node of each of these items to that of a left side.
+/// Adds an edge from the node of each of the items to the node `left`, that of a left side.
 pub(crate) fn add_first_edges(
     edges: &mut Vec<Edge>,
     sizes: Sizes,

@@ -5,12 +5,12 @@ use ag_value::NoMemory;
 use std::alloc::Global;
 use std::collections::HashSet;
 
-/// The greatest number of rounds over all productions in which the other symbols, those that end,
-/// are found.
+/// The greatest number of rounds over all productions. The rounds find the other symbols: those that
+/// end.
 const MAX_ROUNDS: usize = 64;
 
-/// Returns the names of the symbols that never end, in declared order. None if finding them takes too many
-/// rounds. Takes memory.
+/// Returns the names of the symbols that never end, in declared order. None if the last of `MAX_ROUNDS` rounds still
+/// finds a symbol that ends. Takes memory.
 pub fn endless_symbols<'a>(
     alloc: Global,
     raw: &'a RawGrammar,

@@ -89,8 +89,9 @@ impl<'a> Declarations<'a> {
         Ok(())
     }
 
-    /// Returns the number of faults of the kind of `fault` in productions if that is N1, N7, N8 or
-    /// N9, and 0 for other kinds. An occurrence that is several times in an expression counts once.
+    /// Returns the number of faults in productions that are of the kind of `fault`, if this kind is
+    /// N1, N7, N8 or N9, and 0 for other kinds. An occurrence that is several times in an expression
+    /// counts once.
     /// Takes memory.
     fn count(
         &self,

@@ -11,7 +11,8 @@ use normalform::LimitKind;
 use std::alloc::AllocError;
 
 /// Returns the offset in bytes of what exceeds a limit: of the name of a symbol, or of the name on
-/// the left side of a production. None if the whole grammar exceeds it.
+/// the left side of a production. None if the limit is one of the whole grammar, such as that for
+/// the number of symbols, or if no symbol or production exceeds it.
 pub fn offset_of_limit(raw: &RawGrammar, kind: LimitKind) -> Option<usize> {
     if kind == LimitKind::Attributes {
         return Some(large_symbol(raw)?.name.at);

@@ -1,6 +1,8 @@
 //! Finds names, occurrences and the symbols of places in a grammar as it is written. An occurrence
 //! is an attribute as a rule writes it, such as `$1.sum`, with its place in the production, here 1:
 //! place 0 is the left side, and places 1, 2, .. are the symbols and classes of the right side.
+//! Offsets are in bytes from the beginning of the grammar's text. A function returns None if what
+//! it looks for does not exist.
 
 use ag_grammar::{Named, Occ, RawGrammar, RawItem, RawProduction, RawRule, RawSymbol, occurrences};
 use std::fmt;

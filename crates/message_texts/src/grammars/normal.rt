@@ -277,7 +277,7 @@ fn describe_unproductive(
     }
 }
 
-/// Describes N4 by all symbols that never end.
+/// Describes N4 by all symbols that never end (that are unproductive, as `endless` explains).
 fn describe_endless(parts: &mut Parts, names: &[&str]) -> Result<(), AllocError> {
     write_symbols(&mut parts.found, names)?;
     if names.len() == 1 {
@@ -457,7 +457,7 @@ fn describe_unusable(
 
 /// Writes the occurrences that the rules of a production define if `is_defined`, and otherwise
 /// those that the rules can use: the first `MAX_NAMED`, and whether there are more. Returns the
-/// number of all.
+/// number of all these occurrences, with those that are not written.
 fn write_occurrences(
     out: &mut String,
     raw: &RawGrammar,
@@ -482,7 +482,8 @@ fn write_occurrences(
     Ok(shown)
 }
 
-/// Writes occurrences of attributes at a place after a number of others. Returns the number of all.
+/// Appends the attributes at a place to a list of `before` occurrences, each as `write_occurrence` does. Returns the
+/// number of occurrences in the list.
 fn write_at_place(
     out: &mut String,
     before: usize,
@@ -496,8 +497,8 @@ fn write_at_place(
     Ok(shown)
 }
 
-/// Writes an occurrence after `before` others or, in place of those after the first `MAX_NAMED`, that there are more.
-/// Returns the number of all.
+/// Appends an occurrence to a list of `before` occurrences. Only the first `MAX_NAMED` are written: in place of the next
+/// one ` and more`, and nothing in place of the later ones. Returns the number of occurrences in the list.
 fn write_occurrence(
     out: &mut String,
     before: usize,

@@ -104,7 +104,7 @@ struct DirectionStrikes<'a> {
 
 impl<'a> DirectionStrikes<'a> {
     /// Returns the rule of a strike that waits for no other strike. None if the strike waits for
-    /// one.
+    /// one, or if the grammar does not have the rule.
     fn obstacle(&self, strike: Strike) -> Option<Obstacle<'a>> {
         let productions = self.raw.productions.as_slice();
         let production = productions.get(usize::from(strike.production))?;
@@ -161,7 +161,7 @@ impl<'a> DirectionStrikes<'a> {
         )
     }
 
-    /// Writes the first rules of the strikes that wait for no other, at most `MAX_NAMED_RULES`.
+    /// Writes the rules of the first strikes that wait for no other, at most `MAX_NAMED_RULES`.
     fn write_named(&self, out: &mut String, source: &Source<'_>) -> Result<(), AllocError> {
         let mut rules_written = 0usize;
         for strike in self.strikes {

@@ -29,7 +29,8 @@ pub struct ParsedSentence<'a> {
     pub source: Source<'a>,
 }
 
-/// Describes P1 to P3 of a sentence, which is scanned again for P1. Takes memory.
+/// Describes P1 to P3 of a sentence, which is scanned again for P1. Takes memory for that. Writes nothing for P1 if the
+/// scan fails.
 pub fn describe_parse(
     alloc: Global,
     parts: &mut Parts,
@@ -91,7 +92,8 @@ fn describe_stuck(
     )
 }
 
-/// Returns a token as it is written in the text of a sentence, a TEXT with its quotes.
+/// Returns a token as it is written in the text of a sentence: a TEXT with its two quotes, which `lex` does not have.
+/// None if the text does not have the token's bytes.
 fn text_of<'a>(text: &'a str, token: Token<'_>) -> Option<&'a str> {
     let length = match token.kind {
         Terminal::Class(number) if class_name(number) == "TEXT" => {

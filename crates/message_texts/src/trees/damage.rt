@@ -55,10 +55,10 @@ pub struct TreeFormat<'a> {
 }
 
 /// Describes R1 of a tree file at the offset `at` in bytes. If a record is damaged, and not the
-/// header, the file is read once more from its end. Takes memory for the stack of the items whose
-/// records are still to come, which `expected_before` returns. If it returns None, leaves out what
-/// was expected. If the record that ends at `at` can't be read, the message says that none ends
-/// there.
+/// header, the file is read once more from its end. Takes memory for the stack that
+/// `expected_before` returns. If this function returns None, the message doesn't say what was
+/// expected. If the record that ends at `at` can't be read, the message says that none ends there
+/// or, at the end of the header, that there are no more records.
 pub fn describe_damage<D: Device>(
     alloc: Global,
     parts: &mut Parts,
@@ -117,8 +117,8 @@ impl TreeFormat<'_> {
         parts.help.push_str(AGAIN)
     }
 
-    /// Writes the record that ends at an offset, if one does. Its body begins with 3 bytes before the values: its
-    /// kind and its number.
+    /// Writes the record that ends at an offset, if one does, and the number of bytes of its values. Before the values
+    /// a body has 3 bytes, with the record's kind and number.
     fn write_found(
         &self,
         out: &mut String,

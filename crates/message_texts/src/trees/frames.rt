@@ -21,8 +21,8 @@ pub struct Frame {
     pub bytes: u64,
 }
 
-/// Returns the frame that ends at an offset of a file of a version. None if none does, or if it can't be
-/// read. Takes no memory.
+/// Returns the frame that ends at the offset `end`, in bytes, of a tree file of this version. None if no frame ends
+/// there, or if it can't be read. Takes no memory.
 pub fn frame_before<D: Device>(version: FileVersion, tree: &mut D, end: u64) -> Option<Frame>
     ensures content { LeavesContent (D.is_honest tree.new)
         (D.content tree.old) (D.content tree.new) }
@@ -50,12 +50,12 @@ pub fn frame_before<D: Device>(version: FileVersion, tree: &mut D, end: u64) -> 
     })
 }
 
-/// Reads the records of a file from its end down to the offset `at`. A node's record ends after
-/// those of its children, so it is read before them. Returns the stack of the items whose records
-/// are still to come: at the file's end the start symbol, and each node's record replaces the last
-/// item by the node's children. The record that should end at `at` is that of the last item. None
-/// if the file's length or a record can't be read, if a record has an unknown production, or if
-/// memory is refused.
+/// Reads the records of a file from its end down to the offset `at`, at most `MAX_NODES` records. A
+/// node's record ends after those of its children, so it is read before them. Returns the stack of
+/// the items whose records are still to come; the record of its last item should end at `at`. At
+/// the file's end the stack has only the start symbol. A node's record replaces the last item by
+/// the node's children, and any other record removes the last item. None if the file's length or a
+/// record can't be read, if a record has an unknown production, or if memory is refused.
 pub fn expected_before<D: Device>(
     alloc: Global,
     version: FileVersion,
@@ -86,8 +86,8 @@ pub fn expected_before<D: Device>(
     Some(expected)
 }
 
-/// Appends the children that a node of a production has, the rightmost one last. None if the grammar has
-/// no production with this number, or memory is refused.
+/// Appends the children that a node of a production has, the rightmost one last: its record comes first when the file is
+/// read from its end. None if the grammar has no production with this number, or memory is refused.
 fn push_children(grammar: &Grammar, number: u16, expected: &mut Vec<Item>) -> Option<()> {
     let production = grammar.productions().get(usize::from(number))?;
     for item in production.items.as_slice() {

@@ -1,7 +1,8 @@
 -- The faults of a raw grammar, kind by kind, and their order (this project's; complete is Knuth's, 1968, and productive and
 -- reached are the textbook's). Each kind but N4 and N5 is a list of checks. Those of N6 are by production, place and
 -- attribute, those of N10 in the order of `LimitKind`, and those of other kinds in the order of the raw grammar's lists. N4 and
--- N5 name the first wrong symbol.
+-- N5 name the first wrong symbol. In this file, `ss` are the declared symbols, `names` their names, `qs` productions, `q` one of
+-- them and `p` its number, `items` the items at its places, `r` a rule, `o` an occurrence, and `ts` targets of rules.
 use Rattle.std.specs.Prelude.{All, ℕ, zero, suc, cond, fold, ◌⊎◌, ◌+◌, ◌≡◌, ◌<◌, ◌≤◌, nat_eq, nat_le, not, Bool, true, false}
 use Rattle.std.specs.Prelude.{◌&&◌, List, [], ◌∷◌, ◌++◌, length, map, flat_map, find, Option, Some, None, bytes_eq, slice_get}
 use Rattle.std.specs.List.{list_any, list_all, range_with_len}
@@ -34,7 +35,7 @@ use Rattle.normalform.specs.numbers.Numbers.{symbol_of, declared_names, with_tex
 use Rattle.normalform.specs.numbers.Numbers.{placed, target_of}
 use Rattle.normalform.specs.numbers.Numbers.{literals_of, numbered}
 
--- A check of a part of the text: the fault to report if it fails, and whether it holds.
+-- A check: the fault to report if it fails, and whether it holds.
 abbrev pub Check : Type 0
 Check = NormalFault × Bool
 
@@ -42,7 +43,7 @@ Check = NormalFault × Bool
 abbrev pub first_wrong : List Check → Option NormalFault
 first_wrong checks = option_map (λ x. x.0) (find (λ x. not x.1) checks)
 
--- checks along a list, with a state that each element updates
+-- the checks along a list: f gives those of an element x in the state s, and g the state after x
 abbrev pub checks_along : {S X : Type 0} → (S → X → List Check) → (S → X → S) → S → List X → List Check
 checks_along f g s [] = []
 checks_along f g s (x ∷ xs) = f s x ++ checks_along f g (g s x) xs
@@ -51,12 +52,13 @@ checks_along f g s (x ∷ xs) = f s x ++ checks_along f g (g s x) xs
 abbrev pub name_check : List (List ℕ) → Named → Check
 name_check names name = (fault.UnknownName name.at, list_any (bytes_eq name.name) names)
 
+-- N1. The checks of an item: a name is that of a declared symbol.
 abbrev pub item_checks : List (List ℕ) → RawItem → List Check
 item_checks names (raw_item.Name name) = name_check names name ∷ []
 item_checks names (raw_item.Literal text) = []
 item_checks names (raw_item.Class c) = []
 
--- An occurrence: the item at its place has an attribute of its name.
+-- N1. The check of an occurrence: the item at its place has an attribute of its name.
 abbrev pub occurrence_check : List Symbol → List Item → Occ → Check
 occurrence_check ss items o = (fault.UnknownName o.at, list_any (bytes_eq o.attr) (names_at ss items o.place))
 
@@ -70,16 +72,19 @@ unknown_in ss q =
     name_check (declared_names ss) q.left ∷ flat_map (item_checks (declared_names ss)) q.items ++ flat_map
     (rule_checks ss (placed ss q)) q.rules
 
+-- all checks of N1
 abbrev pub unknown_checks : List Symbol → List RawProduction → List Check
 unknown_checks ss qs = flat_map (unknown_in ss) qs
 
--- N2. The check of a declared name: it is not one of the earlier names.
+-- N2. The check of a declared name: it is not one of the earlier names, which are `seen`.
 abbrev pub new_check : List (List ℕ) → Named → List Check
 new_check seen name = (fault.DoubledName name.at, not (list_any (bytes_eq name.name) seen)) ∷ []
 
+-- the seen names, and this one
 abbrev pub with_name : List (List ℕ) → Named → List (List ℕ)
 with_name seen name = with_text seen name.name
 
+-- the checks of a list of names, after those that are seen
 abbrev pub doubled_names : List (List ℕ) → List Named → List Check
 doubled_names seen names = checks_along new_check with_name seen names
 
@@ -87,9 +92,11 @@ doubled_names seen names = checks_along new_check with_name seen names
 abbrev pub symbol_checks : List (List ℕ) → RawSymbol → List Check
 symbol_checks seen s = new_check seen s.name ++ doubled_names [] (s.syn ++ s.inh)
 
+-- the seen names of symbols, and that of this symbol
 abbrev pub with_symbol : List (List ℕ) → RawSymbol → List (List ℕ)
 with_symbol seen s = with_text seen s.name.name
 
+-- all checks of N2
 abbrev pub doubled_checks : List RawSymbol → List Check
 doubled_checks ss = checks_along symbol_checks with_symbol [] ss
 
@@ -98,10 +105,11 @@ abbrev pub is_start : Option Symbol → Bool
 is_start None = false
 is_start (Some s) = nat_eq (length s.inh) 0 && list_any (bytes_eq out_name) s.syn
 
+-- the check of N3, of the start symbol's name
 abbrev pub start_checks : List Symbol → Named → List Check
 start_checks ss name = (fault.BadStart, is_start (slice_get ss (number_in (declared_names ss) name.name))) ∷ []
 
--- N4, N5. The first symbol of a list whose number does not have the property.
+-- N4, N5. `name` is that of the first symbol in `ss` whose number does not have the property P.
 pub record IsFirstNot (P : ℕ → Type 0) (ss : List RawSymbol) (name : Named) : Type 0 where
   pub number : ℕ
   pub symbol : RawSymbol
@@ -116,6 +124,7 @@ abbrev pub numbers_defined : ℕ → Symbol → List ℕ
 numbers_defined zero s = range_with_len 0 (length s.syn)
 numbers_defined (suc i) s = range_with_len (length s.syn) (length s.inh)
 
+-- the same for the item at a place; a token has none
 abbrev pub defined_at : List Symbol → ℕ → Item → List ℕ
 defined_at ss place (item.Symbol s) = elim (slice_get ss s) [ Some x ↦ numbers_defined place x | None ↦ [] ]
 defined_at ss place (item.Terminal a) = []
@@ -128,6 +137,7 @@ same_target a b = nat_eq a.place b.place && nat_eq a.attr b.attr
 abbrev pub with_target : List Target → Target → List Target
 with_target ts t = cond (list_any (same_target t) ts) ts (ts ++ t ∷ [])
 
+-- the targets so far, and that of a rule unless it is there already
 abbrev pub with_rule : List Symbol → List Item → List Target → RawRule → List Target
 with_rule ss items ts r = with_target ts (target_of ss items r.target)
 
@@ -147,9 +157,11 @@ missing_at ss ts p place x = map (missing_check ts p place) (defined_at ss place
 abbrev pub next_index : {X : Type 0} → ℕ → X → ℕ
 next_index n x = n + 1
 
+-- the checks of a production: place by place
 abbrev pub missing_in : List Symbol → ℕ → RawProduction → List Check
 missing_in ss p q = checks_along (missing_at ss (targets_of ss (placed ss q) q.rules) p) next_index 0 (placed ss q)
 
+-- all checks of N6
 abbrev pub missing_checks : List Symbol → List RawProduction → List Check
 missing_checks ss qs = checks_along (missing_in ss) next_index 0 qs
 
@@ -157,9 +169,11 @@ missing_checks ss qs = checks_along (missing_in ss) next_index 0 qs
 abbrev pub new_target : List Symbol → List Item → List Target → RawRule → List Check
 new_target ss items ts r = (fault.RuleDoubled r.target.at, not (list_any (same_target (target_of ss items r.target)) ts)) ∷ []
 
+-- the checks of the rules of a production
 abbrev pub doubled_in : List Symbol → RawProduction → List Check
 doubled_in ss q = checks_along (new_target ss (placed ss q)) (with_rule ss (placed ss q)) [] q.rules
 
+-- all checks of N7
 abbrev pub doubled_rules : List Symbol → List RawProduction → List Check
 doubled_rules ss qs = flat_map (doubled_in ss) qs
 
@@ -171,6 +185,7 @@ is_kind Synthesized (Some Inherited) = false
 is_kind Inherited (Some Synthesized) = false
 is_kind Inherited (Some Inherited) = true
 
+-- whether the attribute of a target exists and has the kind k
 abbrev pub has_kind : List Symbol → List Item → Target → Kind → Bool
 has_kind ss items t k = is_kind k (slice_get (item_kinds (declared ss) (slice_get items t.place)) t.attr)
 
@@ -179,9 +194,11 @@ abbrev pub defined_check : List Symbol → List Item → RawRule → Check
 defined_check ss items r = let t = target_of ss items r.target in
     (fault.NotDefinedHere r.target.at, has_kind ss items t (defined_kind t.place))
 
+-- the checks of the rules of a production
 abbrev pub not_defined_in : List Symbol → RawProduction → List Check
 not_defined_in ss q = map (defined_check ss (placed ss q)) q.rules
 
+-- all checks of N8
 abbrev pub not_defined_here : List Symbol → List RawProduction → List Check
 not_defined_here ss qs = flat_map (not_defined_in ss) qs
 
@@ -189,26 +206,31 @@ not_defined_here ss qs = flat_map (not_defined_in ss) qs
 abbrev pub used_check : List Symbol → List Item → Occ → Check
 used_check ss items o = let t = target_of ss items o in (fault.NotNormal o.at, has_kind ss items t (used_kind t.place))
 
+-- the checks of the rules of a production
 abbrev pub not_normal_in : List Symbol → RawProduction → List Check
 not_normal_in ss q = flat_map (λ r. map (used_check ss (placed ss q)) r.expr.1) q.rules
 
+-- all checks of N9
 abbrev pub not_normal : List Symbol → List RawProduction → List Check
 not_normal ss qs = flat_map (not_normal_in ss) qs
 
--- N10. The limits of symbols, productions and different literals.
+-- N10. A symbol has at most 16 attributes (`max_attributes`).
 abbrev pub few_attributes : Symbol → Bool
 few_attributes s = nat_le (length (attribute_names s)) max_attributes
 
+-- a right side has at most 64 items (`max_items`)
 abbrev pub few_items : RawProduction → Bool
 few_items q = nat_le (length q.items) max_items
 
--- the limit of the places: those of the children, and one for the left side
+-- a right side has at most 16 children (`max_children`): they and the left side have the places
 abbrev pub few_children : List Symbol → RawProduction → Bool
 few_children ss q = nat_le (length (placed ss q)) (1 + max_children)
 
+-- a literal has at most 255 bytes (`max_literal_bytes`)
 abbrev pub is_short : List ℕ → Bool
 is_short text = nat_le (length text) max_literal_bytes
 
+-- the checks of the limits of symbols, of productions, and of the different literals
 abbrev pub symbol_limits : List Symbol → List Check
 symbol_limits ss =
     (fault.Limit limit.Symbols, nat_le (length ss) max_symbols) ∷ (fault.Limit limit.Attributes, list_all few_attributes ss) ∷ []
@@ -225,6 +247,7 @@ literal_limits texts =
     (fault.Limit limit.LiteralLength, list_all is_short texts) ∷ (fault.Limit limit.Literals, nat_le (length texts) max_literals)
     ∷ []
 
+-- all checks of N10
 abbrev pub limit_checks : List Symbol → List RawProduction → List Check
 limit_checks ss qs = symbol_limits ss ++ production_limits ss qs ++ literal_limits (literals_of qs)
 
@@ -280,6 +303,7 @@ IsReadable raw = Each (λ q. Each IsReadableItem q.items) raw.productions
 abbrev pub IsListed : Rule → Type 0
 IsListed r = is_below (length r.expr.1) r.expr.0 ≡ true
 
+-- the same for each rule of a production
 abbrev pub AreListedIn : Production → Type 0
 AreListedIn q = All IsListed q.rules
 

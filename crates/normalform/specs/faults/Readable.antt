@@ -1,4 +1,4 @@
--- The test of whether the literals and classes of a raw grammar could come from a text.
+-- The test of whether the literals and classes of a raw grammar could come from a text (`IsReadable` of `Faults` as a test).
 use Rattle.std.specs.Prelude.{ℕ, Bool, true, ◌&&◌, not, nat_eq, nat_le, nat_lt, List, length, ◌||◌}
 use Rattle.std.specs.List.{list_all}
 use Rattle.ag_grammar.specs.grammars.Accepted.{class_count}
@@ -10,13 +10,16 @@ use Rattle.ag_grammar.specs.declared.raw.RawProduction.{RawProduction}
 abbrev pub is_separator : ℕ → Bool
 is_separator b = nat_eq b 32 || nat_eq b 9 || nat_eq b 13 || nat_eq b 10
 
+-- a literal: it is not empty and has no separator
 abbrev pub readable_text : List ℕ → Bool
 readable_text text = nat_le 1 (length text) && list_all (λ b. not (is_separator b)) text
 
+-- an item: a name always passes, a literal as above, and a class if it is one of the three
 abbrev pub readable_item : RawItem → Bool
 readable_item (raw_item.Name name) = true
 readable_item (raw_item.Literal text) = readable_text text
 readable_item (raw_item.Class c) = nat_lt c class_count
 
+-- a production: each item passes
 abbrev pub readable_in : RawProduction → Bool
 readable_in q = list_all readable_item q.items

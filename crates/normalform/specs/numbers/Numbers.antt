@@ -24,6 +24,7 @@ use Rattle.ag_grammar.specs.declared.raw.RawSymbol.{RawSymbol}
 abbrev pub number_in : List (List ℕ) → List ℕ → ℕ
 number_in texts text = position_or_len (bytes_eq text) texts
 
+-- a declared symbol, without offsets
 abbrev pub symbol_of : RawSymbol → Symbol
 symbol_of s = record { name = s.name.name; syn = texts_of s.syn; inh = texts_of s.inh }
 
@@ -39,6 +40,7 @@ declared ss = record { symbols = ss; productions = []; literals = []; classes = 
 abbrev pub with_text : List (List ℕ) → List ℕ → List (List ℕ)
 with_text texts text = cond (list_any (bytes_eq text) texts) texts (texts ++ text ∷ [])
 
+-- the literals so far, and the item if it is a new literal
 abbrev pub with_item : List (List ℕ) → RawItem → List (List ℕ)
 with_item texts (raw_item.Literal text) = with_text texts text
 with_item texts (raw_item.Name name) = texts
@@ -88,6 +90,7 @@ target_of ss items o = record { place = o.place; attr = number_in (names_at ss i
 abbrev pub rule_of : List Symbol → List Item → RawRule → Rule
 rule_of ss items r = record { target = target_of ss items r.target; expr = r.expr; args = map (target_of ss items) r.expr.1 }
 
+-- a production with numbers in place of names and literals: `ss` are the declared symbols, `literals` the different literals
 abbrev pub production_of : List Symbol → List (List ℕ) → RawProduction → Production
 production_of ss literals q = record {
   left = number_in (declared_names ss) q.left.name;

@@ -1,4 +1,4 @@
-//! The limits of a grammar.
+//! Checks the limits of a grammar (N10).
 ghost use Rattle.std.specs.Prelude.{◌≡◌, ◌++◌, ◌+◌, ◌≤◌, nat_le, length, fold, map, IfOk, OnOk};
 ghost use Rattle.std.specs.List.{list_all};
 ghost use Rattle.normalform.specs.faults.Faults.{first_wrong, limit_checks, few_attributes, few_items};
@@ -81,7 +81,8 @@ fn all_have_few_items(productions: &[RawProduction]) -> bool
         .all(|production| has_few_items(production))
 }
 
-/// Returns whether a right side has at most `MAX_CHILDREN` symbols and classes.
+/// Returns whether a right side has at most `MAX_CHILDREN` symbols and classes. A production has a
+/// place for each of them, and place 0 for its left side.
 fn has_few_children(
     alloc: Global,
     declared: &Declared<'_>,
@@ -169,7 +170,8 @@ fn literal_limit(literals: &Names<'_>) -> Option<NormalFault>
 }
 
 /// Returns N10 with the first limit that is exceeded, in the order of `LimitKind`; `None` if there
-/// is none. Fails with `NoMemory` if memory is refused.
+/// is none. `declared` has the same symbols as `symbols`. Fails with `NoMemory` if memory is
+/// refused.
 pub fn first_limit(
     alloc: Global,
     declared: &Declared<'_>,

@@ -49,7 +49,8 @@ fn unknown_in_items(declared: &Declared<'_>, items: &[RawItem]) -> Option<Normal
     None
 }
 
-/// Returns the first fault N1 of a production.
+/// Returns the first fault N1 of a production: of its left side, then of its items, then of its
+/// rules.
 fn unknown_in_production(
     alloc: Global,
     declared: &Declared<'_>,
@@ -124,7 +125,8 @@ fn doubled_attributes(alloc: Global, symbol: &RawSymbol) -> Result<Option<Normal
     doubled_names(&mut seen, symbol.inh.as_slice())
 }
 
-/// Returns the first fault N2 of a symbol, and marks its name as seen.
+/// Returns the first fault N2 of a symbol, and marks its name as seen. `seen` has the names of the
+/// symbols before it.
 fn doubled_in_symbol<'t>(
     alloc: Global,
     seen: &mut Names<'t>,

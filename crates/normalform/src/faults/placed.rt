@@ -16,7 +16,7 @@ use std::alloc::Global;
 pub enum PlacedItem {
     /// A symbol, by its number; the number of an undeclared one is the count of declared symbols.
     Symbol(usize),
-    /// A token of a class.
+    /// A token of the class with this number: 0 is NAME, 1 is NUMBER, 2 is TEXT.
     Class(u16),
 }
 

@@ -1,4 +1,4 @@
-//! A test that the literals and classes of a raw grammar could come from a text.
+//! Tests whether the literals and classes of a raw grammar could come from a text.
 ghost use Rattle.std.specs.Prelude.{◌≡◌, ◌↔◌, IsTrue, not};
 ghost use Rattle.std.specs.List.{list_all};
 ghost use Rattle.normalform.specs.faults.Faults.{IsReadable};
@@ -30,7 +30,8 @@ fn is_readable_text(text: &[u8]) -> bool
     true
 }
 
-/// Returns whether a literal is readable, or a class is known; the name of a symbol always passes.
+/// Returns whether an item could come from a text: a literal is not empty and has no separator, and
+/// a class is one of the three. The name of a symbol always passes.
 fn is_readable_item(item: &RawItem) -> bool
     ensures { result ≡ readable_item item.now }
 {
@@ -66,8 +67,8 @@ fn are_readable(productions: &[RawProduction]) -> bool
 }
 
 /// Returns whether the classes of a raw grammar are 0 to 2, and no literal is empty or has a space,
-/// tab, CR or LF. This holds for every grammar that is parsed from a text; one that is made by a
-/// program can be tested. Takes no memory.
+/// tab, CR or LF. This holds for every grammar that is parsed from a text. If a program makes a raw
+/// grammar in another way, this function tests what `check` requires. Takes no memory.
 pub fn is_readable(raw: &RawGrammar) -> bool
     ensures { IsTrue result ↔ IsReadable raw.now }
 {

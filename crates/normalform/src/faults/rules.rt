@@ -17,7 +17,8 @@ use ag_grammar::{RawProduction, RawRule};
 use ag_value::NoMemory;
 use std::alloc::Global;
 
-/// Adds the target of a rule. Returns whether it is new.
+/// Adds the target of a rule. Returns whether it is new. Here and below, `items` has the item at
+/// each place of the rule's production.
 fn add_target(
     targets: &mut Targets,
     declared: &Declared<'_>,
@@ -51,6 +52,8 @@ fn targets_of(
 }
 
 /// Returns N6 for the first attribute, at one place of a production, that needs a rule and has none.
+/// `production` is the production's number, `item` the item at the place, and `targets` has the
+/// targets of all its rules. The attribute of a token needs no rule.
 fn missing_at(
     declared: &Declared<'_>,
     targets: &Targets,

@@ -1,5 +1,5 @@
-//! The first number that does not follow from clauses: of a symbol that is not productive or not
-//! reached.
+//! Finds the first number that does not follow from clauses. It is the number of a symbol that is
+//! not productive, or not reached.
 ghost use Rattle.std.specs.Prelude.{◌≡◌, ◌<◌, ℕ, true, length, All, None, IfOk, IfSome};
 ghost use Rattle.closure.specs.Following.{is_marked, Follows};
 ghost use Rattle.normalform.specs.faults.Underivable.{IsFirstUnmarked, IsFirstUnderivable};

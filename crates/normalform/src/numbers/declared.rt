@@ -1,4 +1,4 @@
-//! The declared symbols, with their names and those of their attributes looked up by hash.
+//! The declared symbols. Their names, and the names of their attributes, are looked up by hash.
 ghost use Rattle.std.specs.Prelude.{◌≡◌, ◌++◌, map, bytes_eq, IfOk, OnOk, IfSome};
 ghost use Rattle.std.specs.Prelude.{ℕ, List, Some, None};
 ghost use Rattle.std.specs.Prelude.{slice_get, [], ◌∷◌, ◌≤◌, ◌-◌};
@@ -126,8 +126,8 @@ impl<'t> Declared<'t> {
         self.names.has(name)
     }
 
-    /// Returns the number of an attribute of the symbol with a number, or the count of its
-    /// attributes if it has no such attribute; 0 if no symbol has the number.
+    /// Returns the number of the attribute `name` of the symbol with number `symbol`, or the count
+    /// of its attributes if it has no such attribute. Returns 0 if no symbol has the number.
     fn attribute_of(&self, symbol: usize, name: &str) -> usize
         ensures { result ≡ number_in (attributes_of (slice_get self.now symbol)) name.now }
     {
@@ -137,7 +137,7 @@ impl<'t> Declared<'t> {
         }
     }
 
-    /// Returns whether the symbol with a number exists, and has an attribute of this name.
+    /// Returns whether the symbol with number `symbol` exists, and has an attribute of this name.
     fn has_attribute_of(&self, symbol: usize, name: &str) -> bool
         ensures { result
             ≡ list_any (bytes_eq name.now) (attributes_of (slice_get self.now symbol)) }
@@ -174,7 +174,7 @@ impl<'t> Declared<'t> {
         }
     }
 
-    /// Returns the symbol with a number.
+    /// Returns the symbol with this number, if there is one.
     fn symbol(&self, number: usize) -> Option<&RawSymbol>
         ensures there { IfSome result (λ s. slice_get self.now number ≡ Some (symbol_of s.now)) }
         ensures none { result ≡ None → slice_get self.now number ≡ None }
@@ -182,7 +182,8 @@ impl<'t> Declared<'t> {
         self.symbols.get(number)
     }
 
-    /// Returns whether a symbol has a synthesized attribute with the number.
+    /// Returns whether the symbol with number `symbol` exists, and its attribute `number` exists and
+    /// is synthesized.
     fn synthesizes(&self, symbol: usize, number: usize) -> bool
         ensures { result
             ≡ is_kind Synthesized (slice_get (symbol_kinds (slice_get self.now symbol)) number) }
@@ -193,7 +194,8 @@ impl<'t> Declared<'t> {
         }
     }
 
-    /// Returns whether a symbol has an inherited attribute with the number.
+    /// Returns whether the symbol with number `symbol` exists, and its attribute `number` exists and
+    /// is inherited.
     fn inherits(&self, symbol: usize, number: usize) -> bool
         ensures { result
             ≡ is_kind Inherited (slice_get (symbol_kinds (slice_get self.now symbol)) number) }
@@ -207,7 +209,8 @@ impl<'t> Declared<'t> {
         }
     }
 
-    /// Returns whether the item at a place has a synthesized attribute with the number.
+    /// Returns whether the attribute `number` of the item at a place exists and is synthesized. The
+    /// only attribute of a token is `lex`, of number 0, which counts as synthesized.
     fn is_synthesized(&self, items: &[PlacedItem], place: usize, number: usize) -> bool
         ensures { result ≡ is_kind Synthesized (slice_get (item_kinds (declared self.now)
             (slice_get (map item_placed items.now) place)) number) }
@@ -219,7 +222,7 @@ impl<'t> Declared<'t> {
         }
     }
 
-    /// Returns whether the item at a place has an inherited attribute with the number.
+    /// Returns whether the attribute `number` of the item at a place exists and is inherited.
     fn is_inherited(&self, items: &[PlacedItem], place: usize, number: usize) -> bool
         ensures { result ≡ is_kind Inherited (slice_get (item_kinds (declared self.now)
             (slice_get (map item_placed items.now) place)) number) }
@@ -261,7 +264,8 @@ impl<'t> Declared<'t> {
     }
 
     /// Returns the range of the numbers (the end is exclusive) of the attributes that the rules of
-    /// a production define at the place of a symbol; an empty one if no symbol has the number.
+    /// a production define at a place with the symbol of number `symbol`; an empty one if no symbol
+    /// has the number.
     pub fn defined_here(&self, place: usize, symbol: usize) -> (usize, usize)
         ensures ordered { result.0 ≤ result.1 }
         ensures numbers { range_with_len result.0 (result.1 - result.0)

@@ -9,8 +9,8 @@ use indexmap::IndexSet;
 use std::alloc::Global;
 use std::marker::Model;
 
-/// Texts in order. The number of a text is the index of the first that is the same. Contracts see
-/// the list of the texts.
+/// Texts in order. The number of a text is the index of the first text that is equal to it.
+/// Contracts see the list of the texts.
 ///
 /// A key is a text with an integer (not the text's number): 0 for the first key of the text, and for a
 /// later one its index among the keys. So no two keys are the same, and key i is that of text i.

@@ -191,7 +191,7 @@ pub fn literal_texts(alloc: Global, productions: &[RawProduction]) -> Result<Ite
     Ok(Items::from_vec(texts))
 }
 
-/// Returns texts with their numbers.
+/// Returns texts as `Names`, which finds the number of a text by hash.
 fn names_of<'t>(alloc: Global, texts: &'t [Text]) -> Result<Names<'t>, NoMemory>
     ensures { IfOk result (λ names. names ≡ texts.now) }
 {

@@ -1,6 +1,6 @@
 -- Reading the body of a record. Letters: c is a setting, g a grammar, s a symbol, p the number of a production and q the
--- production, x an item, d a class, w a value, a an attribute, e a table, and f and h are values by attribute. All definitions
--- are this project's.
+-- production, x an item, d a class, w a value, a an attribute, e a table, and f and h are values by attribute. In `read_values` h
+-- is the fact that the record was read. All definitions are this project's.
 use Rattle.std.specs.Prelude.{ℕ, ◌≡◌, ◌<◌, ◌^◌, ◌↔◌, Bool, IsTrue, nat_le, List, [], ◌∷◌, ◌++◌, if◌then◌else◌}
 use Rattle.std.specs.List.{flat_map}
 use Rattle.ag_value.specs.declared.value.Value.{Value, Text}
@@ -18,7 +18,7 @@ use Rattle.treefile.specs.declared.body.Kind.TheVariants.{Node}
 use Rattle.passcode.specs.Settings.{Setting}
 use Rattle.pass_rows.specs.Places.{Table, copied_passes, copies}
 
--- The value of an attribute of a pass, in a list of the values of passes up to k.
+-- The list of one value, that of an attribute of a pass, if this pass is at most k; otherwise the empty list.
 abbrev pub one_value : ℕ → ℕ → Value → List Value
 one_value k pass value = if nat_le pass k then value ∷ [] else []
 
@@ -60,7 +60,7 @@ AreUntaken read passes bytes = (h : ℕ → Value) (others : List ℕ) → ((a :
 abbrev pub AllWell : Table → Type 0
 AllWell e = (j a : ℕ) → IsWell (e j a)
 
--- The bytes are not the encoded values of attributes with these passes, those up to pass `read`.
+-- The bytes are not the encodings of the values of those attributes, among these passes, that have a pass up to `read`.
 abbrev pub IsNoRow : ℕ → List ℕ → List ℕ → Type 0
 IsNoRow read passes bytes = (h : ℕ → Value) → ((a : ℕ) → IsWell (h a)) → bytes ≡ flat_map spelling_of (values_up_to read passes h)
     → ⊥
@@ -80,7 +80,8 @@ pub record IsBodyOf (g : Grammar) (s p : ℕ) (spellings body : List ℕ) : Type
   pub left : production.left ≡ s
   pub same : body ≡ body_from Node p spellings
 
--- A body is the record of a node of symbol s with this production, and its row was read.
+-- A body is the record of a node of symbol s with this production, and its row was read. `values` are the node's own values, and
+-- `table` has those of its children. Of attributes of the pass itself they can be any well values.
 pub record IsNodeRead (c : Setting) (s p : ℕ) (body : List ℕ) (old new : List Value) : Type 0 where
   pub production : Production
   pub there : IsProduction c.grammar p production
@@ -99,7 +100,7 @@ IsNoNode c s body = (p : ℕ) (q : Production) (h : ℕ → Value) (e : Table) �
     → ((a : ℕ) → IsWell (h a)) → AllWell e
     → body ≡ node_body version_two c.grammar c.passes c.read p h (copies c c.read (stored_items q.items) e) → ⊥
 
--- A body is not that of a node of symbol s, with any bytes after its number.
+-- A body is not that of a node of symbol s, whatever production of s it has, and whatever bytes come after its number.
 abbrev pub IsNoNodeBody : Grammar → ℕ → List ℕ → Type 0
 IsNoNodeBody g s body = (p : ℕ) (q : Production) (spellings : List ℕ) → IsProduction g p q → q.left ≡ s → p < 2 ^ 16
     → body ≡ body_from Node p spellings → ⊥
@@ -148,8 +149,8 @@ read_values c (item.Terminal (Literal l)) p body old new h = elim h [ ]
 abbrev pub AgreeAt : Setting → Item → (ℕ → Value) → (ℕ → Value) → Type 0
 AgreeAt c x f h = values_up_to c.read (copied_passes c x) f ≡ values_up_to c.read (copied_passes c x) h
 
--- `answer` says whether the values at the beginnings of two rows agree at an item, as `AgreeAt` defines it. Each row begins
--- with the values at the item that have copies.
+-- `answer` says whether the values at the beginnings of two lists agree at an item, as `AgreeAt` defines it. Each list begins
+-- with values at the item, as the parent's row has copies of them.
 abbrev pub Agrees : Setting → Item → (ours theirs : List Value) → (answer : Bool) → Type 0
 Agrees c x ours theirs answer = (f h : ℕ → Value) (rest others : List Value)
     → ours ≡ values_up_to c.write (copied_passes c x) f ++ rest → theirs ≡ values_up_to c.write (copied_passes c x) h ++ others

@@ -243,10 +243,10 @@ fn row_of_production(
 
 /// Returns the layout of each production of a grammar in a pass of a plan, and the hints.
 ///
-/// Fails with `NoMemory` if memory cannot be allocated. Visits the passes of one symbol's attributes,
-/// which are at most 16, a few times for each place of a production, and once for each target and
-/// argument of its rules. For the hints, also visits, for each rule of an earlier pass, at most its
-/// whole expression and the slots of one row.
+/// Fails with `NoMemory` if memory cannot be allocated. As to its time: it goes through the attributes
+/// of one symbol, at most 16, a few times for each place of a production, and once for each target and
+/// argument of its rules. For the hints, it goes at most through the whole expression of each rule of
+/// an earlier pass, and through the slots of one row.
 pub fn build_layout(alloc: Global, setting: &Setting<'_>) -> Result<Layout, NoMemory>
     requires plan { IsPlan setting.now.grammar.now setting.now.plan.now.0 setting.now.plan.now.1 }
     requires first { 1 ≤ setting.now.pass }

@@ -89,7 +89,8 @@ impl PassContext<'_> {
         self.row(production).width as usize
     }
 
-    /// Returns the passes of the values at an item that the parent's row has copies of.
+    /// Returns the passes of the values at an item that are copied to the parent's row, including
+    /// passes after k, whose values have no copies yet.
     pub fn copied_passes(&self, item: Item) -> &[u16]
         ensures { result.now ≡ copied_passes (setting self.now) item }
     {

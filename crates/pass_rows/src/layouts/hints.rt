@@ -3,9 +3,9 @@
 //! Most values that a pass reads are equal to others that it has read before. The row of a node
 //! has the values of the node's own attributes, the synthesized ones first, and after them copies
 //! of its children's synthesized attributes. While the record of the child at place j is read, the
-//! row of its parent is stored, and so are the values of its own row that come before. Rules and
-//! places are those of the parent's production in the first two rows of the table, and those of the
-//! child's own production in the others:
+//! row of its parent is stored, and so are the values of the child's row before the one that is read
+//! next. Rules and places are those of the parent's production in the first two rows of the table,
+//! and those of the child's own production in the others:
 //!
 //! | Value | Candidate | Equal |
 //! |---|---|---|
@@ -13,7 +13,7 @@
 //! | own inherited `a` | in the parent's row: `$i.b`, if the rule of `$j.a` is `$i.b` | always |
 //! | other own inherited `a` | in its own row: `b`, if a rule is `$0.b = $0.a` | always |
 //! | copy of `$i.b` | in its own row: `a`, if a rule is `$0.a = $i.b` | always |
-//! | other copy of `$i.b` | in its own row: `$m.d` before it, if a rule is `$i.c = $m.d` | if `$i` returns `c` as `b` |
+//! | other copy of `$i.b` | in its own row: `$m.d` before it, if a rule is `$i.c = $m.d` | if rules below `$i` copy `c` to `b` |
 //!
 //! "Always" means in each file that the earlier passes wrote; in a damaged file the values may differ.
 //! A rule also counts as `$i.b` if its expression is a `let`, an `if` or an `orelse` that may return
@@ -229,8 +229,9 @@ fn set(hints: &mut Vec<Option<usize>>, slot: usize, hint: usize) {
     }
 }
 
-/// Where a record is read: at a place of an open node of a production. The root has no parent; its
-/// location is place 0 of production 0, and no row is stored before its own.
+/// Where a record is read: at a place of an open node of a production. The root has no parent, and no
+/// row is stored before its own. Its location is place 0 of production 0, since no slot of place 0 has
+/// a hint.
 #[derive(Clone, Copy, Debug, Default)]
 pub struct ChildLocation {
     pub production: u16,

@@ -18,7 +18,7 @@ use ag_value::{Items, NoMemory};
 use planchecker::Plan;
 use std::alloc::Global;
 
-/// Returns the passes of a symbol's attributes; empty if the symbol does not exist.
+/// Returns the passes of a symbol's attributes; empty if the plan has no row for the symbol.
 pub fn passes_at(plan: &Plan, symbol: u16) -> &[u16]
     ensures { result.now ≡ passes_of plan.now.0 symbol }
 {
@@ -30,7 +30,8 @@ pub fn passes_at(plan: &Plan, symbol: u16) -> &[u16]
     }
 }
 
-/// Returns the passes of a symbol's synthesized attributes, which come before its inherited ones.
+/// Returns the passes of a symbol's synthesized attributes, which come before its inherited ones;
+/// empty if the grammar does not have the symbol, or the plan has no row for it.
 pub fn synthesized_at<'a>(grammar: &Grammar, plan: &'a Plan, symbol: u16) -> &'a [u16]
     ensures { result.now ≡ synthesized_passes grammar.now (passes_of plan.now.0) symbol }
 {
@@ -84,8 +85,9 @@ fn rank(passes: &[u16], k: u16, attr: u16) -> u16
     }
 }
 
-/// Returns the passes of the values at an item that the parent's row has copies of: of a symbol's
-/// synthesized attributes, and of a token's text. A literal has no copies.
+/// Returns the passes of the values at an item that are copied to the parent's row: of a symbol's
+/// synthesized attributes, and of a token's text. Includes passes after that of the setting. A
+/// literal has no copies.
 pub fn copied_passes<'r>(setting: &'r Setting<'_>, item: Item) -> &'r [u16]
     ensures { result.now ≡ copied_passes (pass_setting setting.now) item }
 {
@@ -114,7 +116,7 @@ pub fn row_passes(
     Ok(Items::from_vec(passes))
 }
 
-/// Returns the number of copies that the parent's row has in a pass of the values at an item.
+/// Returns the number of copies of the values at an item in the parent's row, in the setting's pass.
 pub fn copied_width(setting: &Setting<'_>, item: Item) -> usize
     ensures width { result ≡ copied_width (pass_setting setting.now) item }
     ensures room { AreSmall (passes_of setting.now.plan.now.0) → result ≤ max_attributes }
@@ -132,7 +134,8 @@ pub fn known_width(setting: &Setting<'_>, item: Item) -> usize
     row_length(copied_passes(setting, item), setting.pass - 1)
 }
 
-/// Returns the index of an attribute's value in the row, in a pass, of an item's node or token.
+/// Returns the index of an attribute's value in the row of an item's node or token, in the setting's
+/// pass.
 pub fn rank_of(setting: &Setting<'_>, item: Item, attr: u16) -> u16
     requires small { AreSmall (passes_of setting.now.plan.now.0) }
     ensures rank { result ≡ rank setting.now.pass
@@ -141,7 +144,7 @@ pub fn rank_of(setting: &Setting<'_>, item: Item, attr: u16) -> u16
 {
     match item {
         Item::Symbol(symbol) => rank(passes_at(setting.plan, symbol), setting.pass, attr),
-        // as `rank` of the list 0, the pass of a token's text
+        // the same as `rank(&[0], ..)`: a token has one attribute, its text, of pass 0
         Item::Terminal(Terminal::Class(_)) => if attr == 0 { 0 } else { 1 },
         Item::Terminal(Terminal::Literal(_)) => 0,
     }

@@ -15,7 +15,7 @@ use ag_value::NoMemory;
 use shared_bytes::Body;
 use std::alloc::Global;
 
-/// The number of bytes of a body before its values.
+/// The number of bytes of a body before its values: one for the kind, and two for the number.
 const HEAD_BYTES: u64 = 3;
 
 /// Takes the value of an attribute of pass `pass` in pass k, and appends it to the values: from the

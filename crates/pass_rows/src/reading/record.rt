@@ -88,8 +88,9 @@ fn read_beside(
 }
 
 /// Takes the value of an attribute as `take_value` (below) does, in pass k, without allocating
-/// memory. `pass` is the pass of the attribute. If the value has to be read and the bytes do not
-/// begin with a number, returns `None` and leaves the values unchanged.
+/// memory. `pass` is the pass of the attribute. Requires reserved room for one more value. If the
+/// value has to be read and the bytes do not begin with a number, returns `None` and leaves the
+/// values unchanged.
 #[inline(always)]
 fn take_number<'b>(
     pass: u16,
@@ -309,8 +310,8 @@ pub fn read_node(
     Ok(number)
 }
 
-/// Reads the body of a node as `read_node` does, and fails as it does, with the passes of the values
-/// from the layout of its production, and with hints for the values.
+/// Reads the body of a node as `read_node` does, and fails as it does. Takes the passes of the values
+/// from the layout of its production, and uses the hints for a record at this location.
 #[inline(always)]
 fn read_node_by_layout(
     context: &PassContext<'_>,
@@ -391,9 +392,10 @@ fn read_token(
     Ok(())
 }
 
-/// Reads the record of an item, and appends its row to the values. Returns the number in the
-/// record: that of the production, or that of the token's class. Fails with `Damaged` if the body
-/// is not a record of the item, and with `NoMemory` if memory cannot be allocated.
+/// Reads the record of an item, and appends its row to the values. `location` says where the item is,
+/// for the hints. Returns the number in the record: that of the production, or that of the token's
+/// class. Fails with `Damaged` if the body is not a record of the item, and with `NoMemory` if memory
+/// cannot be allocated.
 #[inline(always)]
 pub fn read_record(
     context: &PassContext<'_>,

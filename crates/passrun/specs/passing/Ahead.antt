@@ -25,7 +25,8 @@ goes_next (instr.Put j ∷ xs) = false
 goes_next (instr.Def a r ∷ xs) = goes_next xs
 goes_next (instr.End ∷ xs) = false
 
--- The children of a node, each with the copies of its values that the node's record has, taken from the table.
+-- The children of a node, each with the copies of its values that the node's record has. These are taken from the table e, which
+-- has the values at the node and its children.
 abbrev pub children_of : Setting → Production → Table → List Child
 children_of c q e =
     children_with_copies true c.grammar c.passes c.read (stored_items q.items)
@@ -42,8 +43,9 @@ pending_of_child c None e level others = others
 pending_of_child c (Some q) e level others = following c q e 0 level others
 
 -- The pending list at an open node in a phase (`Phase` of passcode): the children of the child whose record was read last (in
--- phase Got), then the node's own that were not read, then the others. i is the number of visited
--- children, and `child` the number in the record that was read last.
+-- phase Got), then the node's own that were not read, then the others. i is the number of visited children, and `child` the
+-- number in the record that was read last. The tables e and `of_child` have the values at the node and at that child, and `level`
+-- is the level of the node's children.
 abbrev pub pending : Setting → Production → Phase → (i child : ℕ) → Table → Table → (level : ℕ) → Pending → Pending
 pending c q Between i child e of_child level others = following c q e i level others
 pending c q Got i child e of_child level others =

@@ -1,11 +1,12 @@
 -- The invariant of a running pass. All definitions are this project's. Keeping in memory only the nodes on the path from the root
--- to the current node is due to Jazayeri and Walter (1975). Letters: c is a setting, q a production, p the number of a production
--- (of a token: of its class), s a symbol, i the number of visited children, f the values of a node by attribute, e a table, t a
--- tree, ts are trees, w and ws their values, u is a rule, o an argument, x an open node, and xs are open nodes. In
--- `IsEvaluatedTree` and `IsReady` x is an item, in `root_number` and `put_of` c is a class and x a text, and in `IsConsistent`
--- and `ContinuesAs` t is a transcript. `old` and `new` are a transcript before and after (in `Keeps`, values), `under` are the
--- values in memory before a node's row, and `level` is the level of the node. In `Suspended` and `Expects`, s, f and `under`
--- belong to a child, and s', f' and under' to the node that waits for it.
+-- to the current node is due to Jazayeri and Walter (1975). Names, unless a comment says otherwise:
+--   c: a setting. q: a production. p: number of a production (of a token: of its class). s: a symbol. u: a rule. o: an argument
+--   i: the number of visited children of a node. level: the level of the node
+--   f: the values of a node by attribute. e: the table of the values at a node and its children, by place and attribute
+--   t, ts: a tree, trees. w, ws: their values. x, xs: an open node, open nodes
+--   old, new: a transcript before and after. under: the values in memory before the row of a node
+-- The phases (of `passcode`) of a node are: Between two children; Got, from the `Get` of a child that is a node to its `Go`;
+-- Gone, from that `Go`, or from the `Get` of a token, to the `Put`; Ended, after `End`.
 use Rattle.std.specs.Prelude.{ℕ, suc, ◌≡◌, ◌+◌, ◌<◌, ◌≤◌, List, [], ◌∷◌, ◌++◌, Some, slice_get, length}
 use Rattle.std.specs.List.{count_by}
 use Rattle.ag_value.specs.declared.value.Value.{Value}
@@ -49,18 +50,18 @@ root_body (branch body ts) = body
 abbrev pub below : Direction → BodyTree → List (List ℕ)
 below d (branch body ts) = postfix_all d ts
 
--- The number in the record of a tree's root.
+-- The number in the record of a tree's root. Here c is a class, and x a text.
 abbrev pub root_number : Tree → ℕ
 root_number (leaf c x) = c
 root_number (node p ts) = p
 
 -- Of the values of a symbol's attributes of passes up to this one, only those of synthesized attributes of this
--- pass may differ. This is about attribute values; the `Keeps` of std is about the bytes of a file.
+-- pass may differ between `old` and `new`. This is about attribute values; the `Keeps` of std is about the bytes of a file.
 abbrev pub Keeps : Setting → ℕ → (ℕ → Value) → (ℕ → Value) → Type 0
 Keeps c s old new = (a p : ℕ) → slice_get (c.passes s) a ≡ Some p → p ≤ c.write
     → ((p ≡ c.write) × (slice_get (symbol_kinds (slice_get c.grammar.symbols s)) a ≡ Some Synthesized) → ⊥) → new a ≡ old a
 
--- A tree of an item has values that satisfy the equations of the pass. Those of passes up to this one are well.
+-- A tree of an item x has values that satisfy the equations of the pass. Those of passes up to this one are well.
 pub record IsEvaluatedTree (c : Setting) (x : Item) (t : Tree) (w : Valuation) : Type 0 where
   pub fits : Fits c.grammar x t
   pub solved : Solves (OfPass c.passes c.write) c.grammar t w
@@ -94,7 +95,7 @@ pub record IsGot (c : Setting) (q : Production) (i level p : ℕ) (e of_child : 
       (copies c c.read (stored_items production.items) (in_children of_child)) old
   pub deep : level < max_depth
 
--- A tree was read, and written except for the record of its root, which has this number and these values.
+-- A tree of an item x was read, and written except for the record of its root, which has the number p and the values f.
 pub record IsReady (c : Setting) (x : Item) (p : ℕ) (f : ℕ → Value) (t : Tree) (w : Valuation)
     (old new : Transcript) : Type 0 where
   pub evaluated : IsEvaluatedTree c x t w
@@ -103,7 +104,8 @@ pub record IsReady (c : Setting) (x : Item) (p : ℕ) (f : ℕ → Value) (t : T
   pub read : new.read ≡ old.read ++ prefix (pass_direction c) (bodies_of version_two c.grammar c.passes c.read t w)
   pub put : new.put ≡ old.put ++ below (pass_direction c) (bodies_of version_two c.grammar c.passes c.write t w)
 
--- What is written of a tree when the pass leaves it: all records of a node's tree, and nothing of a token.
+-- What is written of a tree when the pass leaves it: all records of a node's tree, and nothing of a token. Here c is a class, and
+-- x a text.
 abbrev pub put_of : Direction → Tree → BodyTree → List (List ℕ)
 put_of d (leaf c x) body = []
 put_of d (node p ts) body = postfix d body
@@ -149,9 +151,9 @@ pub record IsHeld (c : Setting) (q : Production) (state : State) (e : Table) (u 
 abbrev pub AreHeld : Setting → Production → State → Table → Type 0
 AreHeld c q state e = (r : ℕ) (u : Rule) → Has state.done r → slice_get q.rules r ≡ Some u → IsHeld c q state e u
 
--- A node of production p and symbol s is open and in a state. Its record was read with the values f when the
--- transcript was `old`; the values of the node and its children are now in the table e. The trees `ts` of the
--- visited children were read and written since.
+-- A node of production p and symbol s is open and in a state. Before its record was read, the transcript was `old`. When the node
+-- was entered, its own values were f: those of its record, and the inherited ones of this pass. Now the table e has the values of
+-- the node and its children. The trees `ts` of the visited children were read and written since.
 pub record IsOpenNode (c : Setting) (s : ℕ) (f : ℕ → Value) (level p : ℕ) (q : Production) (state : State) (e : Table)
     (ts : Forest) (ws : ℕ → Valuation) (old new : Transcript) : Type 0 where
   pub there : IsProduction c.grammar p q
@@ -170,10 +172,11 @@ rules_at c q ts = pass_rule_count c.passes c.write (Some q) + totals (pass_rule_
 abbrev pub rules_left : Setting → OpenNode → ℕ
 rules_left c x = count_by is_computation (rest_of c x)
 
--- An open node (x, of symbol s') waits for its child, a node of production p and symbol s, whose record was read
--- with the values f when the transcript was `new`. The values `under` come before the child's row. `evals` rules
--- were evaluated before the child was entered, `evals_before` of them before x was. After the child's tree, the
--- rest of x's list of instructions runs to its end.
+-- An open node x waits for its child, a node of production p and symbol s. s', f', under' and `old` belong to x; s, f, `under`
+-- and `new` to the child, with the same meanings (`IsOpenNode`). `evals` rules were evaluated before the child was entered,
+-- `evals_before` of them before x was. After the child's tree, the rest of x's list of instructions runs to its end. The fields:
+-- i children of x are complete, with the trees `trees` and their values `values`; the rules `done` were run at x; `table` has the
+-- values at x and its children, and `copied` the copies in x's row.
 pub record Suspended (c : Setting) (s' : ℕ) (f' : ℕ → Value) (level : ℕ) (x : OpenNode) (under' : List Value) (old : Transcript)
     (evals_before : ℕ) (others : Pending) (s p : ℕ) (f : ℕ → Value) (under : List Value) (new : Transcript) (evals : ℕ)
     (todo : Pending) : Type 0 where
@@ -198,8 +201,9 @@ pub record Suspended (c : Setting) (s' : ℕ) (f' : ℕ → Value) (level : ℕ)
   pub deep : level < max_depth
   pub todo_is : todo ≡ following c production table (suc i) (suc level) others
 
--- The open nodes, the innermost first, wait for a node of production p and symbol s. After its tree the
--- children `todo` are still to be read.
+-- The open nodes, the innermost first, wait for a node of production p and symbol s; if there are none, this node is the root.
+-- f, `under` and `new` belong to this node, and s', f', under' and `old` to the innermost open node x. `root` is the number of
+-- the root's production. After this node's tree the children `todo` are still to be read.
 abbrev pub Expects : Setting → ℕ → List OpenNode → ℕ → ℕ → (ℕ → Value) → List Value → Transcript → ℕ → Pending → Type 0
 Expects c root [] s p f under new evals todo =
     (s ≡ c.grammar.start) × (p ≡ root) × (under ≡ []) × (new ≡ record { read = []; put = [] }) × (evals ≡ 0) × (todo ≡ [])
@@ -208,9 +212,12 @@ Expects c root (x ∷ xs) s p f under new evals todo =
     × Expects c root xs s' x.production f' under' old evals_before others
     × Suspended c s' f' (suc (length xs)) x under' old evals_before others s p f under new evals todo
 
--- The innermost open node (x) is in this phase, and `current` is the progress at its next place. The rest of its list of
--- instructions runs from there to the end. `evals` rules were evaluated, `evals_before` of them before x was entered.
--- After its tree the others are still to be read.
+-- The innermost open node x is in this phase, and `current` is the progress at its next place. The rest of its list of
+-- instructions runs from there to the end. `evals` rules were evaluated, `evals_before` of them before x was entered. After x's
+-- tree the others are still to be read. The fields: i children are complete, with the trees `trees` and their values
+-- `valuations`; the rules `done` were run at x; `table` has the values at x and its children, and `copied` the copies in x's row.
+-- When the i children were complete, the transcript was `mid`. Of the child at the next place, `row` is the row, if it is in
+-- memory, `of_child` has the copies in this row, and `count` rules were run in its tree.
 pub record IsActive (c : Setting) (s : ℕ) (f : ℕ → Value) (level : ℕ) (x : OpenNode) (under : List Value) (old : Transcript)
     (evals_before : ℕ) (others : Pending) (phase : Phase) (values : List Value) (new : Transcript) (evals : ℕ)
     (todo : Pending) : Type 0 where
@@ -256,12 +263,13 @@ RunInvariant c root (x ∷ xs) values new evals todo =
     × Expects c root xs s x.production f under old evals_before others × (ph : Phase)
     × IsActive c s f (suc (length xs)) x under old evals_before others ph values new evals todo
 
--- The invariant of a pass with some root, transcript, number of rules and children to be read.
+-- The invariant of a pass with some root, transcript t, number of rules and children to be read.
 abbrev pub IsConsistent : Setting → List OpenNode → List Value → Type 0
 IsConsistent c xs values =
     (root : ℕ) × (t : Transcript) × (evals : ℕ) × (todo : Pending) × RunInvariant c root xs values t evals todo
 
--- The pass continues, and nothing was read, written or evaluated.
+-- The pass continues with the open nodes ys and the values `new`, and nothing was read, written or evaluated: the transcript t is
+-- the same.
 abbrev pub ContinuesAs : Setting → List OpenNode → List Value → List OpenNode → List Value → Type 0
 ContinuesAs c xs values ys new = (root : ℕ) (t : Transcript) (evals : ℕ) (todo : Pending)
     → RunInvariant c root xs values t evals todo → RunInvariant c root ys new t evals todo

@@ -12,8 +12,8 @@ abbrev pub stack_of : Option OpenNode → List OpenNode → List OpenNode
 stack_of None waiting = []
 stack_of (Some node) waiting = node ∷ reverse waiting
 
--- A machine runs a pass from a device with a content to a second one. The node `next` continues (none if the root
--- is done), and the meter has this count.
+-- A machine runs a pass from a first device to a second one. `honest` and `content` are those of the first, `to_honest` and `to`
+-- those of the second. The node `next` continues (none if the root is done), and the meter has this count.
 pub record Runs (c : Setting) (honest : Bool) (content : List ℕ) (to_honest : Bool) (to : List ℕ) (meter : ℕ) (m : Machine)
     (next : Option OpenNode) : Type 0 where
   pub running : IsRunning c m.root honest content to_honest to m.back m.writer m.values.items (stack_of next m.waiting.items)
@@ -63,7 +63,8 @@ LeadsAt c old_meter new_meter old new node next = (honest : Bool) (content : Lis
 abbrev pub Leads : Setting → (old new : Machine) → (node next : Option OpenNode) → Type 0
 Leads c old new node next = (meter : ℕ) → LeadsAt c meter meter old new node next
 
--- The next instruction runs the rule with number r: `Set`, or `Def` for a target at the node itself.
+-- The next instruction runs the rule with number r: `Set`, or `Def` for a target at the node itself. The target is attribute a at
+-- place j.
 abbrev pub RunsRuleNext : Setting → OpenNode → ℕ → Type 0
 RunsRuleNext c x r =
     (j a : ℕ) × (z : Instr) × ((z ≡ instr.Set j a r) ⊎ ((z ≡ instr.Def a r) × (j ≡ 0)))

@@ -93,9 +93,10 @@ pub(crate) fn begin<D: Device, E: Device>(
     })
 }
 
-/// Ends a pass whose root is done: writes the root's record, and returns the counts. Fails with R1
-/// and the offset that reading has reached if the header does not end there, with D1 if a device
-/// fails, and with `NoMemory` if memory cannot be allocated.
+/// Ends a pass whose root is done: writes the root's record, checks that the first file was read back
+/// to its header, and returns the counts. Fails with R1 and the offset that reading has reached if the
+/// header does not end there, with D1 if a device fails, and with `NoMemory` if memory cannot be
+/// allocated.
 pub(crate) fn finish<D: Device, E: Device>(
     context: &PassContext<'_>,
     machine: &mut Machine,

@@ -1,6 +1,7 @@
 //! The state of a running pass, and the execution of its instructions, which "Listings" in
 //! docs/FORMATS.md describes. `Set` and `Def` have one function, each other kind has its own, and
-//! `Machine::step` calls them.
+//! `Machine::step` calls them. The `measure` (`specs/passing/Working.antt`) bounds the work that
+//! remains: the clauses `less` say that it falls, and the clauses `most` that it doesn't rise.
 
 ghost use Rattle.std.specs.Prelude.{◌≡◌, ◌+◌, ◌^◌, ◌<◌, ◌≤◌, ◌∷◌, ◌++◌, [], Some, IfErr, IfOk};
 ghost use Rattle.std.specs.Prelude.{IsErrOf, OnOk, length, reverse, slice_get};
@@ -41,7 +42,8 @@ pub(crate) struct Machine {
     /// The writer to the second device.
     pub(crate) writer: Writer,
     /// The rows of all open nodes, the outermost first. After them the row of the child whose record
-    /// was read last, if the pass has not entered that child yet.
+    /// was read last, if the child is a node of a symbol that the pass has not entered yet. The row
+    /// of a token is removed in the step that reads it, since its text is among the copies.
     pub(crate) values: Vec<Carried>,
     /// The open nodes without the innermost one, the outermost first. Each waits until the pass has
     /// left the child that it entered from this node.

@@ -109,7 +109,7 @@ fn fetch_lent<D: Device>(
 /// Reads the next record as the expected one, and appends its row to the values. Returns the number
 /// in the record: that of the production, or that of the token's class.
 ///
-/// Fails with P2 if the record would be deeper than `MAX_DEPTH` levels, and with P3 if
+/// Fails with P2 if the record's node would be at a level beyond `MAX_DEPTH`, and with P3 if
 /// `MAX_NODES` records were read already. Fails with R1 and the offset at which the record's frame
 /// should end if no frame ends there, or one whose body is not a record of the item. Fails with D1 if
 /// the device fails, and with `NoMemory` if memory cannot be allocated.

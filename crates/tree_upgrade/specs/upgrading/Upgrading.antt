@@ -1,4 +1,6 @@
--- Converting a tree file of version 1 to version 2. All definitions are this project's.
+-- Converting a tree file of version 1 to version 2. All definitions are this project's. The letters: g is a grammar, x is an
+-- item, xs are items, s is a symbol, p the number of a production and q the production, c and d are classes, v is a value, r is a
+-- record of version 1, and f is a fault.
 use Rattle.std.specs.Prelude.{ℕ, suc, ◌≡◌, ◌+◌, ◌-◌, ◌<◌, ◌≤◌, Bool, false, List, [], ◌∷◌, ◌++◌, length, reverse, slice_get}
 use Rattle.std.specs.Prelude.{Option, Some, None, Ok}
 use Rattle.std.specs.Option.{option_map}
@@ -42,9 +44,9 @@ old_file g =
       nodes = max_reversed_records;
     }
 
--- The old content is the file of version 1 and pass 0 of exactly one tree, which is within the limits and has
--- this number of nodes. The new content, on an honest device, is the file of version 2 of the same tree. The
--- content in between is a file with pass number 1 of its records of version 2, from right to left.
+-- The old content is the file of version 1 and pass 0 of exactly one tree, which is within the limits and has `count` nodes. The
+-- new content (`upgraded`), on an honest device, is the file of version 2 and pass 0 of the same tree. The intermediate content
+-- (`between`) is a file with pass number 1 that has the tree's records of version 2, with children from right to left.
 pub record IsUpgraded (g : Grammar) (content between : List ℕ) (honest : Bool) (upgraded : List ℕ) (count : ℕ) : Type 0 where
   pub tree : Tree
   pub fits : IsTreeOf g tree
@@ -110,7 +112,7 @@ pub record IsUpgrading (honest : Bool) (content : List ℕ) (state : BackState) 
   pub few : state.progress.records ≤ max_reversed_records
   pub written : out.written ≤ state.progress.records
 
--- The record of an item whose tree is at a level was read, which took the reader from `before` to `after`.
+-- A reader in the state `before` has read the record r of an item x whose tree is at a level, and is then in the state `after`.
 pub record HasTaken (g : Grammar) (x : Item) (level : ℕ) (honest : Bool) (content : List ℕ) (before after : BackState)
     (r : OldRecord) : Type 0 where
   pub is : IsOf g x r
@@ -121,8 +123,8 @@ pub record HasTaken (g : Grammar) (x : Item) (level : ℕ) (honest : Bool) (cont
   pub deep : level ≤ max_reversed_levels
   pub few : before.progress.records < max_reversed_records
 
--- The trees of the last items `xs` of a right side were converted, from right to left: their records were read,
--- and those of version 2 were written. Those of the items before them (`prefix`) are still to be read. The texts
+-- The trees of the last items `xs` of a right side, whose roots are at a level, were converted from right to left: their records
+-- were read, and those of version 2 were written. The trees of the items before them (`prefix`) are still to be read. The texts
 -- are those of the tokens among the last items, the last one first.
 pub record Converted (g : Grammar) (content : List ℕ) (prefix xs : List Item) (level : ℕ) (before after : Progress)
     (honest : Bool) (out_old out_new : List ℕ) (texts : List Value) : Type 0 where
@@ -142,8 +144,8 @@ abbrev pub text_list : Option Value → List Value
 text_list None = []
 text_list (Some v) = v ∷ []
 
--- The content is the file of version 1 and pass 0 of a tree within the limits. The other content, on an
--- honest device, is a file with pass number 1 of its records of version 2, from right to left.
+-- The content is the file of version 1 and pass 0 of a tree within the limits. The other content (`mid`), on an honest device, is
+-- a file with pass number 1 that has the tree's records of version 2, with children from right to left.
 pub record IsConverted (g : Grammar) (content : List ℕ) (honest : Bool) (mid : List ℕ) : Type 0 where
   pub tree : Tree
   pub fits : IsTreeOf g tree

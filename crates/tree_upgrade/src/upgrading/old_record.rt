@@ -18,7 +18,7 @@ pub(crate) enum OldRecord {
     Token(u16, Value),
 }
 
-/// Returns the record of an item that a body encodes.
+/// Reads a body as the record of an item.
 ///
 /// Fails with `Damaged` if the body is not a record of the item: for a symbol, the number of one of its
 /// productions with nothing after it; for a class, one of its tokens. A literal has no record. Fails

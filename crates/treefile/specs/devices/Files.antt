@@ -36,11 +36,11 @@ pub record IsNew {F : Type 0} (use_of_file : Access) (path : List ℕ) (before :
   pub failures : device.failures ≡ 0
   pub events : device.events ≡ open_event path ∷ before
 
--- the effects of a call on a device over a file besides its content
+-- the effects of a call on a device over a file besides its content; `failed` states that the call failed with D1
 abbrev pub FilePersists : {F : Type 0} → FileDeviceState F → FileDeviceState F → Type 0 → Type 0
 FilePersists old new failed = Persists (is_honest_of old) (is_honest_of new) old.failures new.failures failed
 
--- After a failed write every call fails.
+-- A device that was broken before a call (since a write failed) stays broken, and the call fails with D1, which `failed` states.
 pub record StaysBroken {F : Type 0} (old new : FileDeviceState F) (failed : Type 0) : Type 0 where
   pub fails : old.access ≡ Broken → failed
   pub stays : old.access ≡ Broken → new.access ≡ Broken

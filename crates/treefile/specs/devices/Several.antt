@@ -9,14 +9,15 @@ use Rattle.treefile.specs.devices.Device.{HasRisen, Persists}
 abbrev pub Lasts : {D : Type 0} → (D → Bool) → (D → ℕ) → D → D → Type 0
 Lasts honest failures old new = Persists (honest old) (honest new) (failures old) (failures new) ⊥
 
--- Both devices persist. If the call returns that a device failed, the failures of one of the two have risen.
+-- A call has these effects (`Lasts`) on both devices. If it returns that a device failed, which `failed` states, the failures of
+-- one of the two have risen.
 pub record BothPersist {D E : Type 0} (honest : D → Bool) (failures : D → ℕ) (old new : D) (other_honest : E → Bool)
     (other_failures : E → ℕ) (other_old other_new : E) (failed : Type 0) : Type 0 where
   pub first : Lasts honest failures old new
   pub second : Lasts other_honest other_failures other_old other_new
   pub cause : failed → HasRisen (failures old) (failures new) ⊎ HasRisen (other_failures other_old) (other_failures other_new)
 
--- All three devices persist. If the call returns that a device failed, the failures of one of the three have risen.
+-- The same for three devices.
 pub record ThreePersist {D E F : Type 0} (honest : D → Bool) (failures : D → ℕ) (old new : D) (other_honest : E → Bool)
     (other_failures : E → ℕ) (other_old other_new : E) (last_honest : F → Bool) (last_failures : F → ℕ) (last_old last_new : F)
     (failed : Type 0) : Type 0 where

@@ -66,8 +66,8 @@ unfoldable pub fits_before : Version → ℕ → ℕ → Bool
 fits_before version at len =
     nat_le least_body len && nat_le len (greatest_body version) && nat_le (header_bytes + len + length_bytes) at
 
--- The body of the frame that ends at the offset, or B2 with the offset if no frame ends there: if fewer than
--- four bytes are between the header and it, or if the number in those four is not a length that fits.
+-- The body of the frame that ends at the offset, or B2 with the offset if no frame ends there: if fewer than four bytes are
+-- between the header and the offset, or if the number in the four bytes before the offset is not a length that fits.
 unfoldable pub body_before : Version → List ℕ → ℕ → Result (List ℕ) FrameFault
 body_before version content at =
     let len = number_before content at in

@@ -1,7 +1,7 @@
 -- Reading a tree file from its end to its header: the records that are still expected, of the items whose
 -- trees were not read yet. The letters are those of `Records.antt`; d is a direction, e gives the values of a node's attributes,
--- and x is an item or a child; in `IsRecordOf` x is also the text of a token, and in `Expects`, `AreThere` and `Breaks` a child
--- with its level. All of this is this project's.
+-- x is an item or a child, and xs and ys are lists of these; in `IsRecordOf` x is also the text of a token, and in `Expects`,
+-- `AreThere` and `Breaks` a child with its level. All of this is this project's.
 use Rattle.std.specs.Prelude.{ℕ, suc, ◌≡◌, ◌+◌, ◌-◌, ◌<◌, ◌≤◌, ◌⊎◌, Bool, true, false, List, [], ◌∷◌, ◌++◌, All, length, take}
 use Rattle.std.specs.Prelude.{drop, Option, Some, None, Result, Ok, Err, refl}
 use Rattle.std.proofs.Common.{inl, inr, lit<}
@@ -55,13 +55,14 @@ children_with_copies false g m k (x ∷ xs) copies = (x, None) ∷ children_with
 children_with_copies true g m k (x ∷ xs) copies =
     (x, Some (take (copied_count g m k x) copies)) ∷ children_with_copies true g m k xs (drop (copied_count g m k x) copies)
 
--- values are those of the copy, if there is one
+-- some values are those of the copy, if there is one
 abbrev pub MatchesCopy : Option (List Value) → List Value → Type 0
 MatchesCopy None values = Unit {0}
 MatchesCopy (Some copy) values = values ≡ copy
 
--- A body is a record of an item in the file of pass k, its values are those of the copy in its parent's
--- record, and these are the children of its node. A token has no children, and a literal no record.
+-- A body is a record of a child in the file of pass k, and ys are the children of its node. If the parent's record has a copy
+-- of the child's values (the synthesized ones, or the text of a token), the body has the same values. A token has no children,
+-- and a literal no record.
 abbrev pub IsRecordOf : Version → Grammar → Passes → ℕ → Child → List ℕ → List Child → Type 0
 IsRecordOf version g m k (item.Symbol s, copy) body ys =
     (p : ℕ) × (q : Production) × (e : ℕ → Value) × (is : IsNodeRecord version g m k s body p q e)
@@ -90,8 +91,9 @@ abbrev pub remaining_of : {X : Type 0} → Direction → List X → ℕ → List
 remaining_of LeftToRight xs i = drop i xs
 remaining_of RightToLeft xs i = take (length xs - i) xs
 
--- Bodies are expected: they are the records of trees of these items, each node before its children, and these
--- in a direction. No tree has a node below the deepest level.
+-- Bodies are the expected ones, record by record. The first body is a record of the first expected child, whose level is at most
+-- `deepest`. The other bodies are the expected ones if the children of its node, in the direction d and one level deeper, are
+-- expected before the others. So the bodies are the records of trees of the expected children (`AreThere`).
 abbrev pub Expects : Version → Grammar → Passes → ℕ → Direction → ℕ → Pending → List (List ℕ) → Type 0
 Expects version g m k d deepest [] [] = Unit {0}
 Expects version g m k d deepest [] (body ∷ bodies) = ⊥
@@ -105,9 +107,9 @@ Expects version g m k d deepest (x ∷ xs) (body ∷ bodies) =
 abbrev pub pending_root : Grammar → Pending
 pending_root g = (1, (item.Symbol g.start, None)) ∷ []
 
--- A content was read from its end to an offset: for every tree whose file of pass k the content is, the
--- bodies before the offset are records of trees of the expected items; and the number of these and of the
--- bodies that were read is at most the tree's number of nodes.
+-- A content was read from its end to the offset `at`, and `count` bodies were read. Whenever the content is the file of pass k
+-- of a tree that is within some limits `depth` and `nodes`, the bodies before the offset are the expected ones, no level is
+-- greater than `depth`, and `count` and the number of these bodies are together at most `nodes`.
 abbrev pub ReadSoFar : Version → Grammar → Passes → ℕ → List ℕ → (at count : ℕ) → Pending → Type 0
 ReadSoFar version g m k content at count todo =
     (depth nodes : ℕ) (t : Tree) (v : Valuation) → IsTreeOf g t → IsWithinLimits depth nodes t
@@ -138,8 +140,9 @@ Breaks version g m k (x ∷ xs) (Ok (Some body)) = IsNoRecord version g m k x.1 
 abbrev pub IsTooLarge : (depth nodes : ℕ) → (level count : ℕ) → Type 0
 IsTooLarge depth nodes level count = (depth < level) ⊎ (nodes ≤ count)
 
--- Trees of items, one after the other, with their values, whose records a list has: each node before its
--- children, and these in a direction. No tree has a node below the deepest level.
+-- A list has the records of a tree for each expected child, one tree after the other: each node before its children, and these
+-- in a direction. The values of a tree's root are those of the child's copy, if there is one, and no tree has a node below the
+-- deepest level. (`Expects` says the same record by record.)
 abbrev pub AreThere : Version → Grammar → Passes → ℕ → Direction → ℕ → Pending → List (List ℕ) → Type 0
 AreThere version g m k d deepest [] bodies = bodies ≡ []
 AreThere version g m k d deepest (x ∷ xs) bodies =

@@ -1,5 +1,6 @@
 -- The values of a record as a list; its body has their spellings, one after the other. The letters are those of `Records.antt`,
--- but ps are passes, of which p is one, and vs values, of which v is one. All of this is this project's.
+-- but ps are passes, of which p is one (except in `IsListedRecord`), vs values, of which v is one, and xs items, of which x is
+-- one. All of this is this project's.
 use Rattle.std.specs.Prelude.{ℕ, zero, suc, ◌≡◌, ◌+◌, ◌++◌, nat_le, Bool, true, false, List, [], ◌∷◌, length, pos, All}
 use Rattle.std.specs.Prelude.{if◌then◌else◌, refl}
 use Rattle.std.specs.List.{flat_map}

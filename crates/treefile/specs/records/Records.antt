@@ -18,13 +18,13 @@ use Rattle.treefile.specs.declared.body.Kind.TheVariants.{Node, Token}
 use Rattle.treefile.specs.records.Orders.{BodyTree, BodyForest, branch, none, more, postfix}
 use Rattle.treefile.specs.records.TreeFile.{Version, body_of, file}
 
--- the values of the attributes whose pass is at most k, in declared order; the list has the pass of each attribute
+-- of k, all passes and all values of a symbol's attributes: the values of those whose pass is at most k, in declared order
 abbrev pub values_up_to : ℕ → List ℕ → (ℕ → Value) → List Value
 values_up_to k [] values = []
 values_up_to k (pass ∷ passes) values =
     (if nat_le pass k then values 0 ∷ [] else []) ++ values_up_to k passes (λ a. values (suc a))
 
--- the number of a symbol's synthesized attributes, which come first, and the passes of these
+-- the number of a symbol's synthesized attributes, which are numbered before the inherited ones; below it their passes
 abbrev pub synthesized_count : Option Symbol → ℕ
 synthesized_count None = 0
 synthesized_count (Some s) = length s.syn

@@ -31,7 +31,7 @@ abbrev pub version_two : Version
 version_two =
     record { magic = 65 ∷ 71 ∷ 84 ∷ 50 ∷ []; max_values = MAX_ATTRIBUTES + MAX_CHILDREN * MAX_ATTRIBUTES; has_copies = true }
 
--- the version of each number
+-- the version that a `FileVersion` of the code names
 abbrev pub version_of : FileVersion → Version
 version_of One = version_one
 version_of Two = version_two

@@ -1,4 +1,5 @@
--- The representation of `Boxed` for recursive types: a box is the value in it.
+-- The representation of `Boxed` for recursive types, such as the `Node` of `ag_grammar`, which contains `Boxed<Node>`: a box is
+-- the value in it. The prover needs these definitions, and no contract mentions them.
 use mathlib.Core.Path.{refl}
 use mathlib.Core.Former.{Former, this, const, pair, via}
 use base.Stored.{gnil}

@@ -1,4 +1,5 @@
--- The representation of `Items` for recursive types: items are a list.
+-- The representation of `Items` for recursive types, such as `Value`, which contains `Items<Value>`: items are a list. The prover
+-- needs these definitions, and no contract mentions them.
 use mathlib.Core.Path.{◌≡◌, refl, sym}
 use mathlib.Core.List.{List, []}
 use mathlib.Core.Former.{Former, this, list, via, children}
