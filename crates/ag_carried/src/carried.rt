@@ -32,7 +32,7 @@ const MAX_SMALL_WEIGHT: u64 = 24;
 const MAX_SMALL_TEXT: usize = 16;
 
 /// How a value is stored.
-#[derive(Debug, Drop)]
+#[derive(Drop)]
 enum Form {
     /// A number.
     Number(i64),
@@ -56,7 +56,7 @@ enum Form {
 ///
 /// No invariant says that the value is well: a `Form::Small` can store any `Value`. `encode`
 /// requires it of its caller.
-#[derive(Debug, Drop)]
+#[derive(Drop)]
 pub struct Carried {
     form: Form,
 }

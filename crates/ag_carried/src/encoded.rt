@@ -18,7 +18,7 @@ use std::rc::Rc;
 use table_tree::TableTree;
 
 /// The value whose encoding is shared.
-#[derive(Debug, Drop)]
+#[derive(Drop)]
 enum Source {
     /// A large value, which is stored beside its encoding.
     Spelled(Rc<Spelled>),
@@ -33,7 +33,7 @@ enum Source {
 /// The encoding of a large value, a shared text or a tree. An `Encoded` is one more owner of that
 /// value. Contracts see the bytes. `append_to` and `share` fail with AllocError, as the calls of
 /// `Vec` do, and `value` with NoMemory, as those of `Carried` do. Both faults mean the same.
-#[derive(Debug, Drop)]
+#[derive(Drop)]
 pub struct Encoded {
     source: Source,
 }

@@ -27,7 +27,7 @@ const MAX_LENGTH: usize = MAX_WEIGHT as usize - HEADER_LENGTH;
 
 /// A well text that may have several owners, and whose pieces other texts may share. Contracts see
 /// the bytes.
-#[derive(Debug, Drop)]
+#[derive(Drop)]
 pub struct SharedText {
     rope: Rope,
 }

@@ -10,7 +10,7 @@ use std::alloc::Global;
 use std::marker::Model;
 
 /// A well value beside the bytes that encode it. Contracts see the value.
-#[derive(Debug, Drop)]
+#[derive(Drop)]
 pub struct Spelled {
     value: Value,
     bytes: Vec<u8>,

@@ -9,7 +9,7 @@ use std::alloc::Global;
 use std::marker::Model;
 
 /// The values of the bindings around a part of an expression, the outermost first.
-#[derive(Debug, Drop)]
+#[derive(Drop)]
 pub struct Bindings<'e> {
     held: Vec<Held<'e>>,
 }

@@ -12,7 +12,7 @@ use std::marker::Model;
 
 /// Items for a list, with the weight and the depth of the list. A greater weight than 2^64 - 1, or a
 /// greater depth than 2^32 - 1, is stored as this number.
-#[derive(Debug, Drop)]
+#[derive(Drop)]
 pub struct ListBuilder {
     items: Vec<Value>,
     weight: u64,

@@ -12,7 +12,7 @@ use std::marker::Model;
 const NUMBER_WEIGHT: u64 = 9;
 
 /// A well value, with its weight and its depth.
-#[derive(Debug, Drop)]
+#[derive(Drop)]
 pub struct Measured {
     value: Value,
     weight: u64,

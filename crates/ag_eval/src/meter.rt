@@ -7,7 +7,7 @@ use std::marker::Model;
 /// Counts evaluations. `eval` and `eval_carried` raise the meter by one, even if they fail.
 /// `eval_number` and `eval_scalar` raise it by one if they return a value, and leave it unchanged
 /// if they return `None`.
-#[derive(Debug, Drop)]
+#[derive(Drop)]
 pub struct Meter {
     count: u64,
 }

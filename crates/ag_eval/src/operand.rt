@@ -24,7 +24,7 @@ use table_tree::TableTree;
 
 /// A well value that is lent by the environment or by the expression, with the carried value that
 /// stores it, if there is one.
-#[derive(Debug, Drop)]
+#[derive(Drop)]
 pub struct Lent<'e> {
     value: &'e Value,
     carried: Option<&'e Carried>,
@@ -90,7 +90,7 @@ impl<'e> Lent<'e> {
 }
 
 /// A well value, in one of these forms.
-#[derive(Debug, Drop)]
+#[derive(Drop)]
 pub enum Held<'e> {
     /// A plain value (one that is stored as a `Value`) that the environment or the expression lends.
     Lent(Lent<'e>),
@@ -292,7 +292,7 @@ fn carried_list(list: ListTree) -> Carried
 
 /// The value of a part of an expression: a held value, or the number of the binding that has the
 /// value. The outermost binding has the number 0.
-#[derive(Debug, Drop)]
+#[derive(Drop)]
 pub enum Operand<'e> {
     Held(Held<'e>),
     Bound(usize),

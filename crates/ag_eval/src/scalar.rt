@@ -7,7 +7,7 @@ ghost use Rattle.ag_eval.specs.Operands.{scalar_value};
 use ag_value::{ErrorCode, Value};
 
 /// A number or an error.
-#[derive(Clone, Copy, Debug)]
+#[derive(Clone, Copy)]
 pub enum Scalar {
     /// A number.
     Number(i64),

@@ -22,7 +22,7 @@ use std::alloc::Global;
 /// A precedence of operators, from the weakest to the strongest. A chain is a list of operands with
 /// operators of one precedence between them. Its operands are chains of the next stronger
 /// precedence, and those of the strongest are atoms.
-#[derive(Clone, Copy, Debug, PartialEq, Eq)]
+#[derive(Clone, Copy, PartialEq, Eq)]
 enum Precedence {
     /// `==` and `<`; a chain has at most one of these.
     Comparison,
@@ -129,7 +129,7 @@ fn is_operator(token: GrammarToken<'_>) -> bool
 
 /// The form of an atom, which is an operand that contains no operator outside of brackets and
 /// parentheses.
-#[derive(Clone, Copy, Debug, PartialEq, Eq)]
+#[derive(Clone, Copy, PartialEq, Eq)]
 enum Atom {
     /// An expression in parentheses.
     Parenthesized,

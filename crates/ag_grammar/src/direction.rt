@@ -5,7 +5,7 @@ ghost use Rattle.ag_grammar.specs.grammars.Passes.{IsBefore, direction_name, dir
 
 /// A direction of passes. That directions alternate is Jazayeri and Walter's (1975); that odd
 /// passes go from right to left is this project's choice.
-#[derive(Clone, Copy, Debug, PartialEq, Eq)]
+#[derive(Clone, Copy, PartialEq, Eq)]
 pub enum Direction {
     /// From left to right: even passes. Pass 0 is the parser, which writes the first file of a tree.
     LeftToRight,

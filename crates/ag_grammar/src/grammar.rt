@@ -6,7 +6,7 @@ use ag_value::{Items, Text};
 
 /// A declared symbol. Its attributes are numbered from 0, the synthesized ones first, then the
 /// inherited ones.
-#[derive(Debug, Drop)]
+#[derive(Drop)]
 pub struct Symbol {
     /// The symbol's name.
     pub name: Text,
@@ -39,7 +39,7 @@ pub enum Item {
 /// An attribute at a place of a production (Knuth 1968; often called an attribute occurrence): the
 /// target of a rule, or, in spite of the name of this type, one of the rule's arguments. An `Occ`
 /// in an expression, such as `$1.sum`, refers to a `Target`.
-#[derive(Clone, Copy, Debug, PartialEq, Eq)]
+#[derive(Clone, Copy, PartialEq, Eq)]
 pub struct Target {
     /// The place: 0 is the left side; 1, 2, .. are the children, which are the items of the right
     /// side other than literals, from left to right.
@@ -50,7 +50,7 @@ pub struct Target {
 }
 
 /// A semantic rule (Knuth 1968).
-#[derive(Debug, Drop)]
+#[derive(Drop)]
 pub struct Rule {
     /// The attribute that the rule defines.
     pub target: Target,
@@ -62,7 +62,7 @@ pub struct Rule {
 }
 
 /// A production (Knuth 1968).
-#[derive(Debug, Drop)]
+#[derive(Drop)]
 pub struct Production {
     /// The number of the symbol on the left side.
     pub left: u16,

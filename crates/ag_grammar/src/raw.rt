@@ -20,7 +20,7 @@ pub struct Named {
 }
 
 /// The declaration of a symbol.
-#[derive(Debug, Drop)]
+#[derive(Drop)]
 pub struct RawSymbol {
     /// The symbol's name.
     pub name: Named,
@@ -52,7 +52,7 @@ impl RawSymbol {
 }
 
 /// An item of the right side of a production.
-#[derive(Debug, Drop)]
+#[derive(Drop)]
 pub enum RawItem {
     /// The name of a symbol.
     Name(Named),
@@ -79,7 +79,7 @@ impl RawItem {
 }
 
 /// A semantic rule: the attribute that it defines, and the expression for its value.
-#[derive(Debug, Drop)]
+#[derive(Drop)]
 pub struct RawRule {
     /// The attribute that the rule defines; its offset is that of the `$`.
     pub target: Occ,
@@ -88,7 +88,7 @@ pub struct RawRule {
 }
 
 /// A production.
-#[derive(Debug, Drop)]
+#[derive(Drop)]
 pub struct RawProduction {
     /// The name of the symbol on the left side.
     pub left: Named,
@@ -137,7 +137,7 @@ impl RawProduction {
 }
 
 /// A grammar as parsed from a text.
-#[derive(Debug, Drop)]
+#[derive(Drop)]
 pub struct RawGrammar {
     /// The name of the start symbol.
     pub start: Named,

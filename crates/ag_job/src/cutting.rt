@@ -5,7 +5,7 @@ ghost use Rattle.std.specs.Prelude.{length, take, drop};
 ghost use Rattle.ag_job.specs.Jobs.{AreParts, AreWholeLines, HasNoSeparator, IsCut, IsSeparator};
 
 /// Offsets in bytes at which a job is split.
-#[derive(Clone, Copy, Debug, Drop)]
+#[derive(Clone, Copy, Drop)]
 pub(crate) struct Cut {
     /// The end of the grammar's text, which begins at offset 0. The line `%%` begins here.
     pub text: usize,

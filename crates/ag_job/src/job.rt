@@ -17,7 +17,7 @@ use std::marker::Model;
 pub const MAX_JOB_BYTES: usize = 2 * MAX_TEXT_BYTES + 4;
 
 /// A job that was read. In contracts it is the pair of its grammar's text and its sentence.
-#[derive(Debug, Drop)]
+#[derive(Drop)]
 pub struct Job {
     bytes: Vec<u8>,
     cut: Cut,

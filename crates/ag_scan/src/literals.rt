@@ -15,7 +15,7 @@ use std::alloc::Global;
 use std::marker::Model;
 
 /// An entry of the table of literals: the text of a literal, and its number in the grammar.
-#[derive(Clone, Copy, Debug)]
+#[derive(Clone, Copy)]
 pub struct LiteralEntry<'g> {
     pub text: &'g str,
     pub number: u16,

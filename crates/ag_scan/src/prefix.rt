@@ -9,7 +9,7 @@ use ag_grammar::limits::{NAME, NUMBER, TEXT};
 use ag_tokens::{Class, first, split_after, starts_name};
 
 /// A word at the beginning of a text.
-#[derive(Clone, Copy, Debug)]
+#[derive(Clone, Copy)]
 pub struct LeadingWord<'t> {
     /// The literal or class to which the word belongs.
     pub kind: Terminal,

@@ -10,7 +10,7 @@ use ag_value::NoMemory;
 use std::alloc::Global;
 
 /// The entries whose texts begin with a certain byte, among those of the table of literals.
-#[derive(Clone, Copy, Debug, PartialEq, Eq)]
+#[derive(Clone, Copy, PartialEq, Eq)]
 pub enum StartingLiterals {
     /// No entry.
     Nothing,

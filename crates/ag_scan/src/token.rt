@@ -3,7 +3,7 @@
 use ag_grammar::Terminal;
 
 /// A token of a sentence.
-#[derive(Clone, Copy, Debug)]
+#[derive(Clone, Copy)]
 pub struct Token<'t> {
     /// The literal or class to which its word belongs.
     pub kind: Terminal,

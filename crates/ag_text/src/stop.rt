@@ -8,7 +8,7 @@ use ag_expr::ExprFault;
 use ag_value::OutOfMemory;
 
 /// Why the parser of grammars fails. Offsets are in bytes from the beginning of the text.
-#[derive(Clone, Copy, Debug, PartialEq, Eq)]
+#[derive(Clone, Copy, PartialEq, Eq)]
 pub enum Stop {
     /// The token at this offset cannot be accepted; or the text ends there; or no token begins
     /// there; or the number or place of the token there is above its limit. `TextFault::Unexpected`

@@ -19,7 +19,7 @@ use ag_value::{NoMemory, Text};
 use std::alloc::Global;
 
 /// A class of characters.
-#[derive(Clone, Copy, Debug, PartialEq, Eq)]
+#[derive(Clone, Copy, PartialEq, Eq)]
 pub enum Class {
     /// Separators: space, tab, CR and LF.
     Separator,

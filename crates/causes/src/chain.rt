@@ -23,7 +23,7 @@ use treefile::Device;
 const MAX_STEPS: u32 = 16 * MAX_NODES;
 
 /// The cause of an error.
-#[derive(Debug, Drop)]
+#[derive(Drop)]
 pub struct Cause {
     /// The number of the node, in the index, in whose rule the error arises.
     pub node: u32,

@@ -1,7 +1,7 @@
 //! The numbers that follow, and the reasons why.
 
 /// The reason why a number follows.
-#[derive(Clone, Copy, Debug, PartialEq, Eq)]
+#[derive(Clone, Copy, PartialEq, Eq)]
 pub enum Reason {
     /// It is the seed with this index.
     Seed(usize),
@@ -11,7 +11,7 @@ pub enum Reason {
 }
 
 /// A number that follows, and the reason why.
-#[derive(Clone, Copy, Debug, PartialEq, Eq)]
+#[derive(Clone, Copy, PartialEq, Eq)]
 pub struct Addition {
     /// The number.
     pub number: usize,
@@ -20,7 +20,7 @@ pub struct Addition {
 }
 
 /// All numbers that follow, in the order in which they are found, and a mark for each number.
-#[derive(Debug, Drop)]
+#[derive(Drop)]
 pub struct FoundNumbers {
     /// The numbers that follow, each once.
     pub added: Vec<Addition>,

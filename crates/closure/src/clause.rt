@@ -4,7 +4,7 @@ use ag_value::Items;
 
 /// A clause: the head follows if each number of the body does. A number may occur in the body more
 /// than once.
-#[derive(Debug, Drop)]
+#[derive(Drop)]
 pub struct Clause {
     /// The number that follows if the body does.
     pub head: usize,

@@ -8,7 +8,7 @@ use ag_value::{Items, NoMemory};
 use std::alloc::Global;
 
 /// An edge: if its start is reached, its end is.
-#[derive(Clone, Copy, Debug, PartialEq, Eq)]
+#[derive(Clone, Copy, PartialEq, Eq)]
 pub struct Edge {
     /// The start.
     pub from: usize,

@@ -7,7 +7,7 @@ ghost use Rattle.command_line.specs.Inputs.{name_of};
 pub const STANDARD: &str = "-";
 
 /// Where an input is read from.
-#[derive(Clone, Copy, Debug, PartialEq, Eq)]
+#[derive(Clone, Copy, PartialEq, Eq)]
 pub enum InputPath<'a> {
     /// Standard input, whose name is `-`.
     Standard,

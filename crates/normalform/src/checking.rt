@@ -31,7 +31,7 @@ use std::alloc::Global;
 
 /// The first fault, as it is found: N4 and N5 have the number of the symbol. The search borrows the
 /// raw grammar, so the symbol's name is moved into the fault only afterwards (`refusal`).
-#[derive(Debug, Drop)]
+#[derive(Drop)]
 enum Found {
     /// A fault of any kind except N4 and N5.
     Fault(NormalFault),

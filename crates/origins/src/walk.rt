@@ -26,7 +26,7 @@ use treefile::Device;
 const MAX_TURNS: u32 = 2 * MAX_NODES + 1;
 
 /// Where errors arise in a tree.
-#[derive(Debug, Drop)]
+#[derive(Drop)]
 pub struct Origins {
     /// The path from the root, as numbers of children from 0, to the first node in the order of the sentence
     /// that has a rule in which an error arises; `None` if the tree does not have such a node.
@@ -94,7 +94,7 @@ fn is_before(path: &[u16], other: &[u16]) -> bool
 }
 
 /// An open node: its record was read, and the walk has not left it yet.
-#[derive(Clone, Copy, Debug)]
+#[derive(Clone, Copy)]
 pub(crate) struct Open {
     /// The number of its production.
     pub(crate) production: u16,

@@ -4,7 +4,7 @@ ghost use Rattle.std.specs.Prelude.{◌≡◌, ◌+◌, ◌<◌, ◌^◌};
 ghost use Rattle.pass_rows.specs.Nodes.{first_at, left_at, after_step};
 
 /// An open node: one that the pass has entered, and whose list of instructions is not finished.
-#[derive(Clone, Copy, Debug, PartialEq, Eq)]
+#[derive(Clone, Copy, PartialEq, Eq)]
 pub struct OpenNode {
     /// The number of its production.
     pub production: u16,

@@ -43,7 +43,7 @@ impl From<NoMemory> for AssignFault {
 }
 
 /// The state between two passes.
-#[derive(Debug, Drop)]
+#[derive(Drop)]
 pub(crate) struct PassesSoFar {
     /// The table of all attributes, indexed by slot, with their passes so far.
     pub states: Vec<State>,
@@ -54,7 +54,7 @@ pub(crate) struct PassesSoFar {
 }
 
 /// The strikes of the passes made so far, if the caller of `assign_all` wants them.
-#[derive(Debug, Drop)]
+#[derive(Drop)]
 pub(crate) struct StrikeLog {
     /// Whether the caller wants the strikes.
     pub is_wanted: bool,

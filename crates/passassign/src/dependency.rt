@@ -17,7 +17,7 @@ use std::alloc::Global;
 
 /// A dependency of a rule's target on an argument of the rule (Knuth 1968). Both are attributes of
 /// symbols: an argument that is the text of a token is known before all passes, and makes none.
-#[derive(Clone, Copy, Debug, PartialEq, Eq)]
+#[derive(Clone, Copy, PartialEq, Eq)]
 pub(crate) struct Dependency {
     /// The strike of the target by this argument.
     pub strike: Strike,

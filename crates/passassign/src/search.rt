@@ -71,7 +71,7 @@ impl Dependencies {
 }
 
 /// The strikes of a pass, and marks of the struck attributes.
-#[derive(Debug, Drop)]
+#[derive(Drop)]
 pub(crate) struct Struck {
     /// The strikes, in the order in which the attributes are struck.
     pub strikes: Vec<Strike>,

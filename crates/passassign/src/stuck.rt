@@ -36,7 +36,7 @@ pub struct Stuck {
 /// A certificate that no attribute can have an earlier pass than it has in an assignment: the
 /// strikes of each pass of the assignment. The list of a pass strikes each attribute that has a
 /// later pass.
-#[derive(Debug, Drop)]
+#[derive(Drop)]
 pub struct Strikes {
     /// One list for each pass, the first for pass 1, each in the order in which the pass strikes.
     pub lists: Items<Items<Strike>>,

@@ -19,7 +19,7 @@ use ag_value::NoMemory;
 use std::alloc::Global;
 
 /// The state of a slot of the table.
-#[derive(Clone, Copy, Debug, PartialEq, Eq)]
+#[derive(Clone, Copy, PartialEq, Eq)]
 pub(crate) enum State {
     /// The slot has no attribute.
     Absent,

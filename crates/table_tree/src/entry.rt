@@ -12,7 +12,7 @@ use std::alloc::Global;
 use std::marker::Model;
 
 /// A key and its value, beside the encoding of both. Contracts see the pair.
-#[derive(Debug, Drop)]
+#[derive(Drop)]
 pub struct Entry {
     key: Text,
     value: Value,

@@ -4,7 +4,7 @@ ghost use Rattle.std.specs.Prelude.{◌+◌, ◌<◌, ◌^◌, []};
 ghost use Rattle.table_tree.specs.Totals.{AreJoined, AreTotals};
 
 /// The totals of some pairs.
-#[derive(Clone, Copy, Debug)]
+#[derive(Clone, Copy)]
 pub(crate) struct Totals {
     /// The number of pairs.
     pub pairs: u32,

@@ -12,7 +12,7 @@ use std::alloc::Global;
 
 /// A range of the tokens of a node's subtree. These tokens are numbered from 0, in the order of the
 /// sentence.
-#[derive(Clone, Copy, Debug, PartialEq, Eq)]
+#[derive(Clone, Copy, PartialEq, Eq)]
 pub struct TokenRange {
     /// The number of the first token.
     pub first: u32,

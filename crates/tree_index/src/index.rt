@@ -13,7 +13,7 @@ use ag_value::NoMemory;
 use std::alloc::Global;
 
 /// What a node is.
-#[derive(Clone, Copy, Debug, PartialEq, Eq)]
+#[derive(Clone, Copy, PartialEq, Eq)]
 pub enum NodeKind {
     /// A node of the production of this number.
     Node(u16),

@@ -6,7 +6,7 @@ use std::alloc::Global;
 use std::fmt;
 
 /// A run of a path: the same place, one or more times.
-#[derive(Clone, Copy, Debug, PartialEq, Eq)]
+#[derive(Clone, Copy, PartialEq, Eq)]
 struct Run {
     /// The place, from 1.
     place: u16,
@@ -17,7 +17,7 @@ struct Run {
 /// A path from the root: the places of children, from 1. As text, the path of the root is `/`. The
 /// path of the first child of its second child is `/2/1`. `/1*897/2` is 897 times the first child,
 /// and then the second.
-#[derive(Debug, Drop)]
+#[derive(Drop)]
 pub struct NodePath {
     runs: Vec<Run>,
 }

@@ -11,7 +11,7 @@ use std::alloc::Global;
 const MAX_TURNS: u32 = 2 * MAX_NODES + 1;
 
 /// A token of a tree.
-#[derive(Clone, Copy, Debug, PartialEq, Eq)]
+#[derive(Clone, Copy, PartialEq, Eq)]
 pub enum TreeToken {
     /// The literal of this number.
     Literal(u16),

@@ -9,7 +9,7 @@ use ag_value::NoMemory;
 use std::alloc::Global;
 
 /// A node that a walk visits.
-#[derive(Clone, Copy, Debug)]
+#[derive(Clone, Copy)]
 pub struct NodeVisit {
     /// The number of the node in the index.
     pub node: u32,

@@ -6,7 +6,7 @@ use message_parts::classes::class_name;
 use message_parts::{NameFault, attribute_named};
 
 /// An attribute that is printed: one of a symbol, or the text of the tokens of a class.
-#[derive(Clone, Copy, Debug, PartialEq, Eq)]
+#[derive(Clone, Copy, PartialEq, Eq)]
 pub struct SelectedAttribute {
     /// The symbol or the class.
     pub item: Item,

@@ -29,7 +29,7 @@ pub enum FileFault {
 
 /// The access that a device has to its file. The crate doesn't export it, but contracts of other crates
 /// name it.
-#[derive(Clone, Copy, Debug, PartialEq, Eq)]
+#[derive(Clone, Copy, PartialEq, Eq)]
 pub enum Access {
     /// The file is only read.
     Reading,

@@ -29,7 +29,7 @@ const GREATEST_OLD_BODY: u64 = LEAST_BODY + MAX_ATTRIBUTES as u64 * MAX_WEIGHT;
 const GREATEST_BODY: u64 = LEAST_BODY + MAX_VALUES as u64 * MAX_WEIGHT;
 
 /// A version of tree files.
-#[derive(Clone, Copy, Debug, PartialEq, Eq)]
+#[derive(Clone, Copy, PartialEq, Eq)]
 pub enum FileVersion {
     /// Version 1: its files begin with `AGT1`, and the record of a node has only its own values.
     One,

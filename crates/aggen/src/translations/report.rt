@@ -3,7 +3,7 @@
 use passrun::Last;
 
 /// The statistics of a translation.
-#[derive(Clone, Copy, Debug, PartialEq, Eq)]
+#[derive(Clone, Copy, PartialEq, Eq)]
 pub struct Report {
     /// The number of nodes of the tree, from 1 to `MAX_NODES` (1,048,576). Each node has a record.
     pub nodes: u32,

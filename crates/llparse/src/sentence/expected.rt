@@ -193,7 +193,7 @@ fn expected_after(
 
 /// The place where `parse` fails with P1. If `parse` doesn't fail with P1, `index` and `found` are
 /// those of the token where the parser stopped, or of the end, and `expected` is empty.
-#[derive(Debug, Drop)]
+#[derive(Drop)]
 pub struct StuckPlace<'t> {
     /// The number of tokens before the one that can't be taken; the number of all tokens, if the
     /// sentence can't end there.

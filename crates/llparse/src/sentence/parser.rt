@@ -32,7 +32,7 @@ use treefile::{Device, Kind, Writer};
 /// An open node: its production, the number of items of its right side that are passed, and the
 /// number of token texts that the parser kept when the node was opened. The texts of its own tokens
 /// come after those.
-#[derive(Clone, Copy, Debug, PartialEq, Eq)]
+#[derive(Clone, Copy, PartialEq, Eq)]
 pub(crate) struct OpenProduction {
     pub(crate) production: u16,
     pub(crate) passed: u16,

@@ -11,7 +11,7 @@ use ag_value::NoMemory;
 use std::alloc::Global;
 
 /// Two productions that conflict, by their numbers; `first` is the lesser one.
-#[derive(Clone, Copy, Debug, PartialEq, Eq)]
+#[derive(Clone, Copy, PartialEq, Eq)]
 pub(crate) struct Pair {
     pub(crate) first: u16,
     pub(crate) second: u16,

@@ -15,7 +15,7 @@ use std::alloc::Global;
 
 /// Two productions that conflict, by their numbers, the lesser one first, and the look-ahead that
 /// predicts both.
-#[derive(Clone, Copy, Debug, PartialEq, Eq)]
+#[derive(Clone, Copy, PartialEq, Eq)]
 pub(crate) struct Conflict {
     pub(crate) first: u16,
     pub(crate) second: u16,

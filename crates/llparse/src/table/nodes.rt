@@ -10,7 +10,7 @@ use ag_grammar::limits::CLASS_COUNT;
 use ag_grammar::{Grammar, Item, Terminal};
 
 /// The numbers of symbols and of literals of a grammar.
-#[derive(Clone, Copy, Debug, PartialEq, Eq)]
+#[derive(Clone, Copy, PartialEq, Eq)]
 pub(crate) struct Sizes {
     pub(crate) symbols: u16,
     pub(crate) literals: u16,

@@ -12,7 +12,7 @@ use ag_value::NoMemory;
 use std::alloc::Global;
 
 /// The item at a place of a production.
-#[derive(Clone, Copy, Debug, PartialEq, Eq)]
+#[derive(Clone, Copy, PartialEq, Eq)]
 pub enum PlacedItem {
     /// A symbol, by its number; the number of an undeclared one is the count of declared symbols.
     Symbol(usize),

@@ -14,7 +14,7 @@ use std::alloc::Global;
 /// A check of the attributes that the rules of a production name. The target of a rule is the
 /// attribute that it defines; its arguments are the attributes that its expression uses. Each
 /// variant says what has to hold, and which fault is reported otherwise.
-#[derive(Clone, Copy, Debug, PartialEq, Eq)]
+#[derive(Clone, Copy, PartialEq, Eq)]
 pub enum RuleCheck {
     /// N1: targets and arguments exist.
     Known,

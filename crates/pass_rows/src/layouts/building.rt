@@ -27,7 +27,7 @@ use std::alloc::Global;
 
 /// The slots of a rule: indices among the stored values, counted from the first value of the node's
 /// own row. A slot beyond that row is in the row of the child whose record was read last.
-#[derive(Debug, Drop)]
+#[derive(Drop)]
 pub struct RuleSlots {
     /// The slot of the target.
     pub target: u16,
@@ -36,7 +36,7 @@ pub struct RuleSlots {
 }
 
 /// The item at a place of a production, and the range of its copies in the row of a node.
-#[derive(Clone, Copy, Debug)]
+#[derive(Clone, Copy)]
 pub struct PlaceRow {
     pub item: Item,
     /// The index of the first copy.
@@ -48,7 +48,7 @@ pub struct PlaceRow {
 }
 
 /// The layout of a production in a pass.
-#[derive(Debug, Drop)]
+#[derive(Drop)]
 pub struct ProductionRow {
     /// The instructions of the pass for it; empty if it has none.
     pub list: Items<Instr>,
@@ -63,7 +63,7 @@ pub struct ProductionRow {
 }
 
 /// The layout of each production, by its number, and the hints for reading.
-#[derive(Debug, Drop)]
+#[derive(Drop)]
 pub struct Layout {
     pub productions: Items<ProductionRow>,
     pub hints: Hints,

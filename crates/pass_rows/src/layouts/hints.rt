@@ -34,7 +34,7 @@ use std::alloc::Global;
 
 /// The hints for the records of a production's nodes, and for those of their children. Slots count
 /// from the first value of a row.
-#[derive(Debug, Drop)]
+#[derive(Drop)]
 pub struct RowHints {
     /// For each slot of the row, another slot of the row, or none.
     own: Vec<Option<usize>>,
@@ -117,7 +117,7 @@ impl RowHints {
 }
 
 /// The hints for the records of all nodes, by the number of their production.
-#[derive(Debug, Drop)]
+#[derive(Drop)]
 pub struct Hints {
     rows: Vec<RowHints>,
 }
@@ -232,7 +232,7 @@ fn set(hints: &mut Vec<Option<usize>>, slot: usize, hint: usize) {
 /// Where a record is read: at a place of an open node of a production. The root has no parent, and no
 /// row is stored before its own. Its location is place 0 of production 0, since no slot of place 0 has
 /// a hint.
-#[derive(Clone, Copy, Debug, Default)]
+#[derive(Clone, Copy, Default)]
 pub struct ChildLocation {
     pub production: u16,
     pub place: u16,

@@ -31,7 +31,7 @@ use treefile::{Device, Kind, Writer};
 const PASS_OFFSET: u64 = 4;
 
 /// The counts of one pass, or of several passes over one tree.
-#[derive(Clone, Copy, Debug, PartialEq, Eq)]
+#[derive(Clone, Copy, PartialEq, Eq)]
 pub struct Passed {
     /// The number of nodes of the tree, from 1 to `MAX_NODES`; 0 if no pass ran.
     pub nodes: u32,
