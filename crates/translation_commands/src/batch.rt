@@ -29,11 +29,22 @@ pub fn run_sentences<'a, R: Files + Input + Print + Eprint + Clock>(
     paths: &'a BatchPaths<'a>,
     screen: Screen,
 ) -> Result<ExitCode, FaultReport> {
-    let outputs = match output_paths(alloc, paths) {
-        Ok(outputs) => outputs,
-        Err(_) => return Err(FaultReport::new(alloc, Fault::NoMemory)),
-    };
-    check_overlaps(rt, alloc, paths, outputs.as_slice())?;
+    match output_paths(alloc, paths) {
+        Ok(outputs) => translate_to(rt, alloc, paths, outputs.as_slice(), screen),
+        Err(_) => Err(FaultReport::new(alloc, Fault::NoMemory)),
+    }
+}
+
+/// Translates each sentence to the file of `outputs` with the same index. Does the rest of what
+/// `run_sentences` does, and fails as it does.
+fn translate_to<'a, R: Files + Input + Print + Eprint + Clock>(
+    rt: &'a R,
+    alloc: Global,
+    paths: &'a BatchPaths<'a>,
+    outputs: &[String],
+    screen: Screen,
+) -> Result<ExitCode, FaultReport> {
+    check_overlaps(rt, alloc, paths, outputs)?;
     check_folder(rt, alloc, paths.folder)?;
     let text = read_input(rt, alloc, paths.grammar)?;
     let grammar = Source::new(paths.grammar.name(), text.as_slice());
@@ -46,18 +57,30 @@ pub fn run_sentences<'a, R: Files + Input + Print + Eprint + Clock>(
         work: paths.work,
         screen,
     };
+    Ok(translate_each(&translating, paths.sentences.as_slice(), outputs))
+}
+
+/// Translates each sentence to the file of `outputs` with the same index. Prints a message for each one
+/// that fails. Returns the status of the first one that failed; 0 if none did.
+fn translate_each<R: Files + Input + Print + Eprint + Clock>(
+    translating: &TranslationRun<'_, R>,
+    sentences: &[&str],
+    outputs: &[String],
+) -> ExitCode {
     let mut first = ExitCode::SUCCESS;
     let mut is_first = true;
-    for (sentence, output) in paths.sentences.iter().zip(outputs.iter()) {
-        if let Err(report) = translate(&translating, sentence, output.as_str()) {
-            screen.print(rt, alloc, &report);
+    for (sentence, output) in sentences.iter().zip(outputs.iter()) {
+        if let Err(report) = translate(translating, sentence, output.as_str()) {
+            translating
+                .screen
+                .print(translating.rt, translating.alloc, &report);
             if is_first {
                 first = ExitCode::from(status(&report.fault));
                 is_first = false;
             }
         }
     }
-    Ok(first)
+    first
 }
 
 /// Returns the path of each translation: DIR/NAME.out for the sentence at PATH/NAME, where DIR is the folder

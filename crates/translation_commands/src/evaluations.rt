@@ -122,12 +122,7 @@ impl<R: Files + Input + Print + Eprint + Clock> EvaluationRun<'_, R> {
         out: &mut W,
     ) -> Result<(), FaultReport> {
         let evaluated = match self.screen.progress(self.rt, self.translator, 1) {
-            Some(progress) => {
-                let mut text = Vec::new(self.alloc);
-                let evaluated = self.run_shown(tree, &progress, &mut text);
-                progress.erase();
-                write_translation(evaluated, text.as_slice(), out)
-            }
+            Some(progress) => self.run_shown(tree, &progress, out),
             None => self.run_unseen(tree, out),
         };
         match evaluated {
@@ -138,37 +133,91 @@ impl<R: Files + Input + Print + Eprint + Clock> EvaluationRun<'_, R> {
 
     /// Translates the tree on a device without showing the progress, and writes the translation.
     fn run_unseen<T: Device, W: Write>(&self, tree: &mut T, out: &mut W) -> Result<(), Fault> {
-        let Some(folder) = self.paths.work else {
-            let mut a = SharedDevice::new(self.alloc);
-            let mut b = SharedDevice::new(self.alloc);
-            self.translator.evaluate_tree(tree, &mut a, &mut b, out)?;
-            return Ok(());
-        };
-        let mut files = self.open_work(folder)?;
-        files.evaluate(self.alloc, self.translator, tree, out)?;
-        Ok(())
+        match self.paths.work {
+            Some(folder) => self.run_in(folder, tree, out),
+            None => {
+                let mut a = SharedDevice::new(self.alloc);
+                let mut b = SharedDevice::new(self.alloc);
+                self.evaluate_on(tree, &mut a, &mut b, out)
+            }
+        }
     }
 
-    /// Translates the tree on a device to a text in memory, and shows the progress. Nothing is
-    /// shown in pass 1: it reads `tree`, which is not a `ShownDevice`. If a tree file of `--work`
-    /// can't be opened or written out, returns that fault and not the result of the translation.
-    fn run_shown<T: Device>(
+    /// Translates the tree on a device with the tree files of the passes in a folder, without showing
+    /// the progress, and writes the translation. Fails with F1 if a tree file can't be opened.
+    fn run_in<T: Device, W: Write>(
+        &self,
+        folder: &str,
+        tree: &mut T,
+        out: &mut W,
+    ) -> Result<(), Fault> {
+        match self.open_work(folder) {
+            Ok(mut files) => match files.evaluate(self.alloc, self.translator, tree, out) {
+                Ok(_) => Ok(()),
+                Err(fault) => Err(fault),
+            },
+            Err(fault) => Err(fault),
+        }
+    }
+
+    /// Translates the tree on a device, with two devices for the tree files of the passes, and writes the
+    /// translation.
+    fn evaluate_on<T: Device, D: Device, W: Write>(
+        &self,
+        tree: &mut T,
+        a: &mut D,
+        b: &mut D,
+        out: &mut W,
+    ) -> Result<(), Fault> {
+        match self.translator.evaluate_tree(tree, a, b, out) {
+            Ok(_) => Ok(()),
+            Err(fault) => Err(fault),
+        }
+    }
+
+    /// Translates the tree on a device into memory, and shows the progress. Then erases the line of
+    /// progress, and writes the translation. Nothing is shown in pass 1: it reads `tree`, which is not
+    /// a `ShownDevice`.
+    fn run_shown<T: Device, W: Write>(
         &self,
         tree: &mut T,
         progress: &Progress<'_, R>,
-        text: &mut Vec<u8>,
-    ) -> Result<aggen::Report, Fault> {
-        let Some(folder) = self.paths.work else {
-            let mut a = ShownDevice::new(SharedDevice::new(self.alloc), progress);
-            let mut b = ShownDevice::new(SharedDevice::new(self.alloc), progress);
-            return self.translator.evaluate_tree(tree, &mut a, &mut b, text);
+        out: &mut W,
+    ) -> Result<(), Fault> {
+        let mut text = Vec::new(self.alloc);
+        let evaluated = match self.paths.work {
+            Some(folder) => self.run_shown_in(folder, tree, &*progress, &mut text),
+            None => {
+                let mut a = ShownDevice::new(SharedDevice::new(self.alloc), &*progress);
+                let mut b = ShownDevice::new(SharedDevice::new(self.alloc), &*progress);
+                self.evaluate_on(tree, &mut a, &mut b, &mut text)
+            }
         };
-        let WorkFiles { a, b } = self.open_work(folder)?;
+        progress.erase();
+        write_translation(evaluated, text.as_slice(), out)
+    }
+
+    /// Translates the tree on a device to `text` with the tree files of the passes in a folder, and shows
+    /// the progress. Fails with F1 if a tree file can't be opened, and with D1 if one can't be written
+    /// out; then the result of the translation is lost.
+    fn run_shown_in<T: Device>(
+        &self,
+        folder: &str,
+        tree: &mut T,
+        progress: &Progress<'_, R>,
+        text: &mut Vec<u8>,
+    ) -> Result<(), Fault> {
+        let WorkFiles { a, b } = match self.open_work(folder) {
+            Ok(files) => files,
+            Err(fault) => return Err(fault),
+        };
         let mut a = ShownDevice::new(a, progress);
         let mut b = ShownDevice::new(b, progress);
-        let evaluated = self.translator.evaluate_tree(tree, &mut a, &mut b, text);
-        finish(a.into_inner(), b.into_inner())?;
-        evaluated
+        let evaluated = self.evaluate_on(tree, &mut a, &mut b, text);
+        match finish(a.into_inner(), b.into_inner()) {
+            Ok(()) => evaluated,
+            Err(fault) => Err(fault),
+        }
     }
 
     /// Opens the tree files a.agt and b.agt in a folder.

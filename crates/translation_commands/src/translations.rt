@@ -130,6 +130,33 @@ impl<'a, R> TranslationRun<'a, R> {
     }
 }
 
+/// The outcome of a translation.
+#[derive(Drop)]
+struct Outcome {
+    /// The fault, if the translation failed.
+    result: Result<(), Fault>,
+    /// What the message says of the cause, if the fault is O1 and a cause was found.
+    cause: Option<String>,
+}
+
+impl Outcome {
+    /// Returns the outcome of a translation that succeeded.
+    fn success() -> Outcome {
+        Outcome {
+            result: Ok(()),
+            cause: None,
+        }
+    }
+
+    /// Returns the outcome of a translation that failed, without a cause.
+    fn failure(fault: Fault) -> Outcome {
+        Outcome {
+            result: Err(fault),
+            cause: None,
+        }
+    }
+}
+
 impl<R: Files + Print + Eprint + Clock> TranslationRun<'_, R> {
     /// Translates a sentence into memory, and writes the translation to the file at `path`. Fails
     /// as `run` and `write_file` do, but with NoMemory if `run` fails with O2.
@@ -139,133 +166,135 @@ impl<R: Files + Print + Eprint + Clock> TranslationRun<'_, R> {
         write_file(self.rt, self.alloc, path, text.as_slice())
     }
 
-    /// Translates a sentence, and writes the translation to `out`. On failure returns a report.
-    /// After F1 and D1 with `--work` the report names the folder of the tree files. Otherwise it is
-    /// the report of `report_of_sentence`, with the cause if `cause_of` finds one. The progress begins
-    /// with pass 0, the parser's tree file.
+    /// Translates a sentence, and writes the translation to `out`. On failure returns a report
+    /// (`report_of`). The progress begins with pass 0, the parser's tree file.
     fn run<W: Write>(&self, sentence: Source<'_>, out: &mut W) -> Result<(), FaultReport> {
-        let mut cause = None;
-        let translated = match self.screen.progress(self.rt, self.translator, 0) {
-            Some(progress) => self.run_shown(sentence, &progress, out, &mut cause),
-            None => self.run_unseen(sentence, out, &mut cause),
+        let outcome = match self.screen.progress(self.rt, self.translator, 0) {
+            Some(progress) => self.run_shown(sentence, &progress, out),
+            None => self.run_unseen(sentence, out),
         };
-        match (translated, self.work) {
-            (Ok(()), _) => Ok(()),
-            (Err(fault @ (Fault::File | Fault::Device)), Some(folder)) => {
-                Err(FaultReport::of_file(self.alloc, fault, folder))
+        match outcome.result {
+            Ok(()) => Ok(()),
+            Err(fault) => Err(with_cause(self.report_of(fault, sentence), outcome.cause)),
+        }
+    }
+
+    /// Returns the report of a fault. After F1 and D1 with `--work` it names the folder of the tree
+    /// files. Otherwise it is the report of `report_of_sentence`.
+    fn report_of(&self, fault: Fault, sentence: Source<'_>) -> FaultReport {
+        match (fault, self.work) {
+            (fault @ (Fault::File | Fault::Device), Some(folder)) => {
+                FaultReport::of_file(self.alloc, fault, folder)
             }
-            (Err(fault), _) => {
-                let report = report_of_sentence(self.alloc, fault, self.translator, sentence);
-                Err(with_cause(report, cause))
+            (fault, _) => report_of_sentence(self.alloc, fault, self.translator, sentence),
+        }
+    }
+
+    /// Returns the outcome of a translation whose last two tree files are on two devices. If it
+    /// failed with O1, looks for the cause. (After O1 the devices contain these files.)
+    fn outcome_of<D: Device>(
+        &self,
+        translated: Result<aggen::Report, Fault>,
+        sentence: Source<'_>,
+        a: &mut D,
+        b: &mut D,
+    ) -> Outcome {
+        match translated {
+            Ok(_) => Outcome::success(),
+            Err(fault) => {
+                let finder = CauseFinder {
+                    translator: self.translator,
+                    grammar: self.grammar,
+                    sentence: Some(sentence),
+                };
+                let cause = finder.cause_of(self.alloc, &fault, a, b);
+                Outcome {
+                    result: Err(fault),
+                    cause,
+                }
             }
         }
     }
 
-    /// Returns what the message says of the cause, if the translation failed with O1 and the root's
-    /// `out` is an error. (After O1 the devices contain the last two tree files.) Returns `None` after
-    /// other results, and if no cause is found.
-    fn cause_of<D: Device>(
+    /// Translates a sentence with two devices, and writes the translation to `out`.
+    fn translate_on<D: Device, W: Write>(
         &self,
-        translated: &Result<aggen::Report, Fault>,
         sentence: Source<'_>,
         a: &mut D,
         b: &mut D,
-    ) -> Option<String> {
-        let Err(fault) = translated else {
-            return None;
-        };
-        let finder = CauseFinder {
-            translator: self.translator,
-            grammar: self.grammar,
-            sentence: Some(sentence),
-        };
-        finder.cause_of(self.alloc, fault, a, b)
+        out: &mut W,
+    ) -> Outcome {
+        let translated = self.translator.translate(sentence.bytes, a, b, out);
+        self.outcome_of(translated, sentence, a, b)
     }
 
     /// Translates a sentence without showing the progress, and writes the translation to `out`.
-    /// Sets `cause` to the result of `cause_of`, unless the tree files can't be opened.
-    fn run_unseen<W: Write>(
-        &self,
-        sentence: Source<'_>,
-        out: &mut W,
-        cause: &mut Option<String>,
-    ) -> Result<(), Fault> {
-        let translated = match self.work {
-            Some(folder) => {
-                let mut files = self.open_work(folder)?;
-                let translated = files.translate(self.alloc, self.translator, sentence.bytes, out);
-                *cause = self.cause_of(&translated, sentence, &mut files.a, &mut files.b);
-                translated
-            }
+    fn run_unseen<W: Write>(&self, sentence: Source<'_>, out: &mut W) -> Outcome {
+        match self.work {
+            Some(folder) => self.run_in(folder, sentence, out),
             None => {
                 let mut a = SharedDevice::new(self.alloc);
                 let mut b = SharedDevice::new(self.alloc);
-                let translated = self
-                    .translator
-                    .translate(sentence.bytes, &mut a, &mut b, out);
-                *cause = self.cause_of(&translated, sentence, &mut a, &mut b);
-                translated
+                self.translate_on(sentence, &mut a, &mut b, out)
             }
-        };
-        translated?;
-        Ok(())
+        }
+    }
+
+    /// Translates a sentence with the tree files in a folder, without showing the progress, and
+    /// writes the translation to `out`. Fails with F1 if a tree file can't be opened.
+    fn run_in<W: Write>(&self, folder: &str, sentence: Source<'_>, out: &mut W) -> Outcome {
+        match self.open_work(folder) {
+            Ok(mut files) => {
+                let translated = files.translate(self.alloc, self.translator, sentence.bytes, out);
+                self.outcome_of(translated, sentence, &mut files.a, &mut files.b)
+            }
+            Err(fault) => Outcome::failure(fault),
+        }
     }
 
     /// Translates a sentence into memory, and shows the progress. Then erases the line of progress,
-    /// and writes the translation to `out`. Sets `cause` as `run_unseen` does.
+    /// and writes the translation to `out`.
     fn run_shown<W: Write>(
         &self,
         sentence: Source<'_>,
         progress: &Progress<'_, R>,
         out: &mut W,
-        cause: &mut Option<String>,
-    ) -> Result<(), Fault> {
+    ) -> Outcome {
         let mut text = Vec::new(self.alloc);
-        let translated = match self.work {
-            Some(folder) => {
-                let (translated, found) = self.run_shown_in(
-                    folder, sentence, &*progress, &mut text,
-                );
-                *cause = found;
-                translated
-            }
+        let outcome = match self.work {
+            Some(folder) => self.run_shown_in(folder, sentence, &*progress, &mut text),
             None => {
                 let mut a = ShownDevice::new(SharedDevice::new(self.alloc), &*progress);
                 let mut b = ShownDevice::new(SharedDevice::new(self.alloc), &*progress);
-                let translated = self
-                    .translator
-                    .translate(sentence.bytes, &mut a, &mut b, &mut text);
-                *cause = self.cause_of(&translated, sentence, &mut a, &mut b);
-                translated
+                self.translate_on(sentence, &mut a, &mut b, &mut text)
             }
         };
         progress.erase();
-        write_translation(translated, text.as_slice(), out)
+        Outcome {
+            result: write_translation(outcome.result, text.as_slice(), out),
+            cause: outcome.cause,
+        }
     }
 
     /// Translates a sentence to `text` with the tree files in a folder, and shows the progress.
-    /// Returns the result of the translation and that of `cause_of`. If a tree file can't be opened
-    /// or written out, returns that fault and no cause.
+    /// Fails with F1 if a tree file can't be opened, and with D1 if one can't be written out.
     fn run_shown_in(
         &self,
         folder: &str,
         sentence: Source<'_>,
         progress: &Progress<'_, R>,
         text: &mut Vec<u8>,
-    ) -> (Result<aggen::Report, Fault>, Option<String>) {
+    ) -> Outcome {
         let WorkFiles { a, b } = match self.open_work(folder) {
             Ok(files) => files,
-            Err(fault) => return (Err(fault), None),
+            Err(fault) => return Outcome::failure(fault),
         };
         let mut a = ShownDevice::new(a, progress);
         let mut b = ShownDevice::new(b, progress);
-        let translated = self
-            .translator
-            .translate(sentence.bytes, &mut a, &mut b, text);
-        let cause = self.cause_of(&translated, sentence, &mut a, &mut b);
+        let outcome = self.translate_on(sentence, &mut a, &mut b, text);
         match finish(a.into_inner(), b.into_inner()) {
-            Ok(()) => (translated, cause),
-            Err(fault) => (Err(fault), None),
+            Ok(()) => outcome,
+            Err(fault) => Outcome::failure(fault),
         }
     }
 
@@ -299,7 +328,7 @@ pub fn finish<F: io::Read + Write + io::Seek + OpenFile + Drop>(
 /// writes nothing, and fails with the same fault; but in place of O2 with NoMemory, since a write to a
 /// buffer in memory fails only if memory is refused.
 pub fn write_translation<W: Write>(
-    translated: Result<aggen::Report, Fault>,
+    translated: Result<(), Fault>,
     text: &[u8],
     out: &mut W,
 ) -> Result<(), Fault>
@@ -308,7 +337,7 @@ pub fn write_translation<W: Write>(
     ensures failed { IsErr translated → IfErr result (λ e. e ≢ Fault.Write) × IsErr result }
 {
     match translated {
-        Ok(_) => match write_bytes(out, text) {
+        Ok(()) => match write_bytes(out, text) {
             Ok(()) => Ok(()),
             Err(_) => Err(Fault::Write),
         },
