@@ -28,7 +28,8 @@ pub trait Questions {
 
 /// Runs the rows on standard input. Prints each wrong line with its number, from 1, and then the
 /// number of right answer lines. Fails if standard input can't be read, if standard output can't be
-/// written, or if memory is refused.
+/// written, or if memory for lines and texts is refused. (If memory for an answer is refused, its line
+/// is printed as a wrong one, with `NoMemory`.)
 pub fn try_rows<R: Input + Print, Q: Questions>(
     rt: &R,
     alloc: Global,
@@ -39,9 +40,10 @@ pub fn try_rows<R: Input + Print, Q: Questions>(
     println!(rt; "{} answers are right", sheet.right)
 }
 
-/// Runs the lines on standard input. Prints what is wrong with a line after the line's number, from 1. An answer with
-/// lines that no row compares is reported with the number of the next line that isn't an answer or, at the end, with
-/// the number of the last line. Fails as `try_rows` does.
+/// Runs the lines on standard input. Prints what is wrong with a line after the line's number, from 1. If a line of an
+/// answer is not compared, this is reported with the number of the next line that is not an answer, empty or a comment,
+/// unless that line has a mistake of its own, which is then reported instead. At the end it is reported with the number of
+/// the last line. Fails as `try_rows` does.
 fn take_lines<R: Input + Print, Q: Questions>(
     rt: &R,
     alloc: Global,

@@ -49,7 +49,8 @@ pub fn short_number(word: &str) -> Result<u16, Mistake> {
 }
 
 /// Returns the parts of a text between separators, or no part for the text `-`. An empty text has
-/// one empty part. Fails if memory is refused.
+/// one empty part. The separator must not be empty: the loop takes for granted that each part but the last
+/// one takes at least one byte of the text. Fails if memory is refused.
 pub fn parts<'a>(
     alloc: Global,
     text: &'a str,
