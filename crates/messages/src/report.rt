@@ -37,7 +37,8 @@ impl FaultReport {
     }
 
     /// Returns the report with its location in a text, and with the name of the file if the location is a
-    /// position. Takes memory for the name; if that is refused, the name is left out.
+    /// position. (A fault of the whole text, such as P2 of a sentence, is printed without the name.) Takes
+    /// memory for the name; if that is refused, the name is left out.
     pub fn with_location(mut self, alloc: Global, location: Location, name: &str) -> FaultReport {
         self.location = location;
         match location {
