@@ -3,6 +3,7 @@
 use ag_value::{NoMemory, Value, ValueFault, decode};
 use list_tree::ListTree;
 use std::alloc::Global;
+use std::process::Abort;
 use std::test::Fail;
 
 /// The number of items of a long list.
@@ -88,16 +89,28 @@ fn an_encoding_is_that_of_the_flat_list(rt: HostRuntime) -> Result<(), ValueFaul
     Ok(())
 }
 
+/// Compares a list with a longer one that was made of it, and each with itself in another form.
+fn compare_versions(
+    rt: &impl Abort,
+    alloc: Global,
+    old: &ListTree,
+    new: &ListTree,
+) -> Result<(), ValueFault> {
+    assert!(rt; !old.same(new));
+    assert!(rt; new.same(&rebuilt(alloc, new)?));
+    assert!(rt; old.same(&old.share()?));
+    let value = Value::List(new.to_list(alloc)?);
+    assert!(rt; new.is_value(&value) && !old.is_value(&value));
+    Ok(())
+}
+
 #[test]
 fn other_versions_stay(rt: HostRuntime) -> Result<(), ValueFault> {
     let alloc = rt.alloc();
     let old = numbers(alloc, 20)?;
     let new = joined(alloc, &old, &single(alloc, 20)?)?;
     assert_eq!(rt; (old.len(), new.len()), (20, 21));
-    assert!(rt; !old.same(&new) && new.same(&rebuilt(alloc, &new)?) && old.same(&old.share()?));
-    assert!(rt; new.is_value(&Value::List(new.to_list(alloc)?)));
-    assert!(rt; !old.is_value(&Value::List(new.to_list(alloc)?)));
-    Ok(())
+    compare_versions(&rt, alloc, &old, &new)
 }
 
 #[test]

@@ -7,6 +7,7 @@ ghost use Rattle.treefile.specs.records.TreeFile.{version_two};
 
 use backreader::Back;
 use std::alloc::{AllocError, Global};
+use std::process::Abort;
 use std::test::Fail;
 use treefile::{Device, DeviceFault, FrameFault, FuseDevice, MemDevice};
 
@@ -94,26 +95,28 @@ fn refusal_of<D: Device>(
     Ok(None)
 }
 
+/// Reads a device with three bodies, of which a call may fail. Returns whether none failed. After a failure
+/// the device works, and a new reader lends all three bodies.
+fn reads_all<D: Device>(rt: &impl Abort, alloc: Global, device: &mut D) -> Result<bool, Fail> {
+    let Some((fault, again, records)) = refusal_of(alloc, device)? else {
+        return Ok(true);
+    };
+    assert_eq!(rt; fault, FrameFault::Device);
+    assert!(rt; again.is_none() || again == Some(fault));
+    assert!(rt; records < 3);
+    assert_eq!(rt; bodies_back(alloc, device)?.len(), 3);
+    Ok(false)
+}
+
 /// Lets the device fail at call 1, then at call 2, and so on, until the reader makes fewer calls.
-/// After the failure the device works, and a new reader lends all three bodies.
 #[test]
 fn a_device_that_fails_at_each_call(rt: HostRuntime) -> Result<(), Fail> {
-    let alloc = rt.alloc();
-    let bytes = file_of(alloc, &[1, 2, 3])?;
     for call in 1..100 {
-        let memory = MemDevice::from_bytes(Vec::from_slice(alloc, &bytes)?);
-        let mut device = FuseDevice::new(memory, call);
-        match refusal_of(alloc, &mut device)? {
-            None => {
-                assert!(rt; call > 1);
-                return Ok(());
-            }
-            Some((fault, again, records)) => {
-                assert_eq!(rt; fault, FrameFault::Device);
-                assert!(rt; again.is_none() || again == Some(fault));
-                assert!(rt; records < 3);
-                assert_eq!(rt; bodies_back(alloc, &mut device)?.len(), 3);
-            }
+        let bytes = file_of(rt.alloc(), &[1, 2, 3])?;
+        let mut device = FuseDevice::new(MemDevice::from_bytes(bytes), call);
+        if reads_all(&rt, rt.alloc(), &mut device)? {
+            assert!(rt; call > 1);
+            return Ok(());
         }
     }
     assert!(rt; false);

@@ -72,20 +72,25 @@ fn other_versions_stay(rt: HostRuntime) -> Result<(), PutFault> {
     Ok(())
 }
 
+/// Returns a table with 4,096 entries, whose keys are `first`, `first` + `step`, and so on, modulo 65,536, put in
+/// this order.
+fn stepped(alloc: Global, first: u32, step: u32) -> Result<TableTree, PutFault> {
+    let mut table = TableTree::new();
+    for turn in 0..4096u32 {
+        let key = first.wrapping_add(turn.wrapping_mul(step)) % 65_536;
+        table = with_number(alloc, &table, key)?;
+    }
+    Ok(table)
+}
+
 #[test]
 fn trees_are_balanced(rt: HostRuntime) -> Result<(), PutFault> {
-    let alloc = rt.alloc();
-    let count = 4096u32;
-    let mut up = TableTree::new();
-    let mut down = TableTree::new();
-    let mut mixed = TableTree::new();
-    for key in 0..count {
-        up = with_number(alloc, &up, key)?;
-        down = with_number(alloc, &down, count.saturating_sub(key))?;
-        mixed = with_number(alloc, &mixed, key.wrapping_mul(2_654_435_769) % 65_536)?;
+    // a balanced tree of 4,096 entries has a height of at most 1.45 · log2(4098), which is 17.4. The steps are 1 and
+    // -1, for keys that rise and that fall, and one for keys in no order
+    for (first, step) in [(0, 1), (4096, 65_535), (0, 31_161)] {
+        let table = stepped(rt.alloc(), first, step)?;
+        assert!(rt; table.height() <= 17);
+        assert_eq!(rt; rebuilt(rt.alloc(), &table)?.height(), 13);
     }
-    // a balanced tree of 4,096 entries has a height of at most 1.45 · log2(4098), which is 17.4
-    assert!(rt; up.height() <= 17 && down.height() <= 17 && mixed.height() <= 17);
-    assert_eq!(rt; rebuilt(alloc, &mixed)?.height(), 13);
     Ok(())
 }
