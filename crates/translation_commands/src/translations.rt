@@ -169,13 +169,13 @@ impl<R: Files + Print + Eprint + Clock> TranslationRun<'_, R> {
     /// Translates a sentence, and writes the translation to `out`. On failure returns a report
     /// (`report_of`). The progress begins with pass 0, the parser's tree file.
     fn run<W: Write>(&self, sentence: Source<'_>, out: &mut W) -> Result<(), FaultReport> {
-        let outcome = match self.screen.progress(self.rt, self.translator, 0) {
+        let Outcome { result, cause } = match self.screen.progress(self.rt, self.translator, 0) {
             Some(progress) => self.run_shown(sentence, &progress, out),
             None => self.run_unseen(sentence, out),
         };
-        match outcome.result {
+        match result {
             Ok(()) => Ok(()),
-            Err(fault) => Err(with_cause(self.report_of(fault, sentence), outcome.cause)),
+            Err(fault) => Err(with_cause(self.report_of(fault, sentence), cause)),
         }
     }
 
