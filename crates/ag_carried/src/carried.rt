@@ -52,10 +52,10 @@ enum Form {
 
 /// A value that is passed from node to node. Contracts see the value. Numbers and errors are stored
 /// inline, and every other value is shared by its owners: `share` neither copies nor walks it. A
-/// large value is stored beside its encoding, so `encode` copies bytes. A `Carried` has 24 bytes.
+/// large value is stored beside its encoding, which `encode` copies. A `Carried` has 24 bytes.
 ///
-/// No invariant says that the value is well: a `Form::Small` can store any `Value`. `encode`
-/// requires it of its caller.
+/// No invariant says that the value is well: a `Form::Small` can store any `Value`. So `encode`
+/// requires a well value.
 #[derive(Drop)]
 pub struct Carried {
     form: Form,
@@ -607,8 +607,8 @@ impl Carried {
 
 /// Returns the length in bytes of the encoding of a value, if it is a text of at most
 /// `MAX_FLAT_TEXT` bytes and the input begins with its encoding, and otherwise `None`. Takes no
-/// memory. A small text has at most 19 bytes, but no invariant says so. The limit shows the prover
-/// that the text is well, which is a part of `IsPrefix`.
+/// memory. A small text has at most 19 bytes, but no invariant says so. `IsPrefix` says that the
+/// text is well, and this is proved from the limit.
 fn prefix_of_small(value: &Value, input: &[u8]) -> Option<usize>
     ensures { IfSome result (IsPrefix value.now input.now) }
 {

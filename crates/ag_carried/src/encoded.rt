@@ -169,22 +169,23 @@ impl Encoded {
     {
         match &self.source {
             Source::Spelled(spelled) => {
-                // This call shows the prover that the value is well, as the clause `well` says.
+                // for the proof of the clause `well`: the contract of `Spelled::value` says that
+                // the value is well
                 let _well = spelled.value();
                 Ok(Carried::of_spelled(spelled.clone()?))
             }
             Source::Text(text) => {
-                // The same for the text.
+                // for the same proof: the contract of `len` says that the text is well
                 let _well = text.len();
                 Ok(Carried::from_text(text.share()?))
             }
             Source::Table(table) => {
-                // The same for the table.
+                // for the same proof: the contract of `weight` says that the table is well
                 let _well = table.weight();
                 Ok(Carried::from_table(table.share()?))
             }
             Source::List(list) => {
-                // The same for the list.
+                // for the same proof: the contract of `weight` says that the list is well
                 let _well = list.weight();
                 Ok(Carried::from_list(list.share()?))
             }

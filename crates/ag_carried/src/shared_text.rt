@@ -74,8 +74,8 @@ impl SharedText {
     }
 
     /// Returns the text of `left` and then `right`, or `None` if its weight would exceed
-    /// `MAX_WEIGHT`. Takes constant time, and copies at most 256 bytes, if two pieces become one.
-    /// Fails with NoMemory.
+    /// `MAX_WEIGHT`. Takes constant time. If a piece of `left` and one of `right` become one piece,
+    /// their bytes are copied, at most 256. Fails with NoMemory.
     pub fn join(
         alloc: Global,
         left: SharedText,

@@ -1,12 +1,12 @@
--- The decision of a value as a condition. All of this is this project's.
+-- The decision of a value as the condition of an `if`. All of this is this project's.
 use Rattle.std.specs.Prelude.{zero, suc, pos, negsuc, Bool, true, false, Result, Ok, Err}
 use Rattle.ag_value.specs.declared.value.ErrorCode.{ErrorCode}
 use Rattle.ag_value.specs.declared.value.ErrorCode.TheVariants.{Kind}
 use Rattle.ag_value.specs.declared.value.Value.{Value, out-Value}
 use Rattle.ag_value.specs.declared.value.Value.TheOpen.{Value-F}
 
--- The decision of a value, from its outermost level. A number decides true unless it is 0. The decision of an error fails with
--- that error, and that of any other value with `kind`.
+-- The decision of a value, from its outermost level. The decision of a number is true unless it is 0. The decision of an error
+-- fails with that error, and that of any other value with `kind`.
 abbrev pub decision_at : Value-F Value → Result Bool ErrorCode
 decision_at (Value-F.Num (pos zero)) = Ok false
 decision_at (Value-F.Num (pos (suc n))) = Ok true

@@ -65,11 +65,12 @@ abbrev pub operand_value : List Value → Operand → Value
 operand_value bound (operand.Held h) = held_value h
 operand_value bound (operand.Bound k) = bound_value (slice_get bound k)
 
--- the value of the operand `result` is that of the function f for the values of the operands `first` and `second`
+-- the value of the operand `result` is that of the function f for the values of the operands `first` and `second`, where `bound`
+-- has the values of the bindings
 abbrev pub Gives : List Value → (Value → Value → Value) → (first second : Operand) → Operand → Type 0
 Gives bound f first second result = operand_value bound result ≡ f (operand_value bound first) (operand_value bound second)
 
--- a bound operand has a binding with its number
+-- the number of a bound operand is that of a binding, where `bound` has the values of the bindings
 abbrev pub IsIn : List Value → Operand → Type 0
 IsIn bound (operand.Held h) = Unit {0}
 IsIn bound (operand.Bound k) = k < length bound

@@ -26,9 +26,9 @@ use ag_value::{ErrorCode, MAX_VALUE_DEPTH, MAX_WEIGHT, NoMemory, Value, copy, de
 use std::alloc::Global;
 
 impl<'e, V: Lender> Evaluation<'e, V> {
-    /// Computes the next step of a chain: the value of the operator in `other`, for the value so far
-    /// and the operand in `other`. Returns `None` unless both are scalars and the second one is a
-    /// literal, an occurrence or a bound name, and for `++` of two numbers.
+    /// Computes the next step of a chain: the value of the operator in `other`, for the value so
+    /// far and the operand in `other`. Returns `None` unless both are scalars and the second one is
+    /// a literal, an occurrence or a bound name, and for `++` of two numbers.
     #[inline(always)]
     pub fn next_scalar(
         &self,
@@ -49,9 +49,10 @@ impl<'e, V: Lender> Evaluation<'e, V> {
         Some(Operand::owned(Measured::new(scalar.into_value())))
     }
 
-    /// Computes the value of a literal, an occurrence, a bound name or a chain of these and of such
-    /// chains, if each of them is a scalar, without making operands. Returns `None` otherwise, and
-    /// for `++` of two numbers. Takes no memory.
+    /// Computes the value of a literal, an occurrence or a bound name, or of a chain of these and
+    /// of such chains, without making operands. Returns `None` for any other part of an expression,
+    /// if a literal, an occurrence or a bound name in it is not a scalar, and for `++` of two
+    /// numbers. Takes no memory.
     #[cycle(scalars)]
     #[inline(always)]
     pub fn scalar(&self, node: &Node, bindings: &Bindings<'_>) -> Option<Scalar>
@@ -100,8 +101,9 @@ impl<'e, V: Lender> Evaluation<'e, V> {
         }
     }
 
-    /// Lends the value of an expression that is an occurrence, or a literal within the limits. Returns
-    /// `None` for other expressions, and for an occurrence whose value is not stored as a `Value`.
+    /// Lends the value of an expression that is an occurrence, or a literal within the limits.
+    /// Returns `None` for other expressions, and for an occurrence whose value is not stored as a
+    /// `Value`.
     #[inline(always)]
     pub fn lent_value(&self) -> Option<&'e Value>
         ensures value { IfSome result (λ v. v.now
@@ -138,8 +140,8 @@ pub fn eval_number(expr: &Expr, meter: &mut Meter) -> Option<i64>
     Some(*value)
 }
 
-/// Returns a value if it is within the limits. It must be one that a list or table may contain, as a
-/// literal is.
+/// Returns a value if it is within the limits. It must be one that a list or table may contain, as
+/// a literal is.
 #[inline(always)]
 fn within_limits(item: &Value) -> Option<&Value>
     requires { is_item item.now ≡ true }
@@ -161,8 +163,8 @@ pub fn literal_value<'e>(literal: &'e Literal) -> Held<'e>
     }
 }
 
-/// Returns the error `deep` or `big` for a value beyond the limits, or `None` if it is within them. It
-/// must be one that a list or table may contain, as a literal is.
+/// Returns the error `deep` or `big` for a value beyond the limits, or `None` if it is within them.
+/// It must be one that a list or table may contain, as a literal is.
 #[inline(always)]
 fn limit_error(item: &Value) -> Option<ErrorCode>
     requires { is_item item.now ≡ true }
@@ -181,7 +183,8 @@ fn limit_error(item: &Value) -> Option<ErrorCode>
     None
 }
 
-/// Returns a copy of a value; a number is copied in one step. Fails with `NoMemory` if memory is refused.
+/// Returns a copy of a value; a number is copied in one step. Fails with `NoMemory` if memory is
+/// refused.
 #[inline(always)]
 pub fn copied(alloc: Global, value: &Value) -> Result<Value, NoMemory>
     requires { IsWell value.now }

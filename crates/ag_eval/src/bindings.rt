@@ -55,7 +55,8 @@ impl<'e> Bindings<'e> {
         Ok(())
     }
 
-    /// Removes the innermost binding. Returns an operand with the same value for the remaining bindings.
+    /// Removes the innermost binding. Returns an operand that has, with the remaining bindings, the
+    /// value that `operand` had before.
     pub fn unbind(&mut self, operand: Operand<'e>) -> Operand<'e>
         requires within { IsIn self.old operand }
         requires some { 0 < length self.old }

@@ -48,8 +48,8 @@ pub fn fault<'e>(code: ErrorCode) -> Operand<'e>
     Operand::Held(Held::fault(code))
 }
 
-/// Computes the value of an operator for two operands. Takes memory for what `++` makes, and for a plain
-/// copy of a shared text or of a tree.
+/// Computes the value of an operator for two operands. Takes memory for what `++` makes, and for a
+/// plain copy of a shared text or of a tree.
 pub fn apply<'e>(
     alloc: Global,
     operator: Operator,
@@ -119,8 +119,8 @@ fn calculate(operator: Operator, left: &Value, right: &Value) -> Value
     }
 }
 
-/// Computes the value of an operator for two scalars: the leftmost error, if one is an error. Returns
-/// `None` for `++` of two numbers.
+/// Computes the value of an operator for two scalars: the leftmost error, if one is an error.
+/// Returns `None` for `++` of two numbers.
 #[inline(always)]
 pub fn apply_to_scalars(operator: Operator, left: Scalar, right: Scalar) -> Option<Scalar>
     ensures { IfSome result
@@ -144,7 +144,8 @@ fn apply_to_number(operator: Operator, m: i64, right: Scalar) -> Option<Scalar>
     }
 }
 
-/// Computes `m == n`. Not inlined, so that the other operators need no values in memory.
+/// Computes `m == n`. Not inlined, since it needs references to values, which the other operators
+/// don't.
 #[tactic(auto, unfolding(ag_value::specs::operations::Arguments::leftmost))]
 #[inline(never)]
 fn equal_numbers(m: i64, n: i64) -> Option<Scalar>
@@ -227,8 +228,8 @@ fn call_with_plain(alloc: Global, call: UnaryCall, argument: &Value) -> Result<M
     Ok(Measured::new(value))
 }
 
-/// Computes the value of a call of one argument for a shared text. Only `number` takes memory, for a
-/// copy.
+/// Computes the value of a call of one argument for a shared text. Only `number` takes memory, for
+/// a copy.
 #[tactic(auto, unfolding(ag_value::specs::operations::Arguments::leftmost))]
 fn call_with_shared(
     alloc: Global,
@@ -246,7 +247,8 @@ fn call_with_shared(
     Ok(Measured::new(value))
 }
 
-/// Computes the value of a call of one argument for a table that is a tree. Only `keys` takes memory.
+/// Computes the value of a call of one argument for a table that is a tree. Only `keys` takes
+/// memory.
 #[tactic(auto, unfolding(ag_value::specs::operations::Arguments::leftmost))]
 fn call_with_table(
     alloc: Global,
@@ -298,9 +300,9 @@ pub fn call_binary<'e>(
     }
 }
 
-/// Computes `append(l, v)`: a tree shares its nodes with the result. A flat list is extended, and copied
-/// first if it is lent or bound; one of `MAX_FLAT_LIST` items or more becomes a tree. The item is moved,
-/// or copied if it is lent, bound, shared or a tree.
+/// Computes `append(l, v)`: a tree shares its nodes with the result. A flat list is extended, and
+/// copied first if it is lent or bound; one of `MAX_FLAT_LIST` items or more becomes a tree. The
+/// item is moved, or copied if it is lent, bound, shared or a tree.
 #[tactic(auto, using(crate::proofs::Arguments::no_faults))]
 fn call_append<'e>(
     alloc: Global,
@@ -327,9 +329,9 @@ fn call_append<'e>(
     Ok(Operand::owned(append(list, item)?))
 }
 
-/// Computes the value of a call that only reads its operands (`nth`, `join`, `get`, `has`). A part of
-/// the first operand is lent if the environment or the expression lends this operand; otherwise the part
-/// is copied.
+/// Computes the value of a call that only reads its operands (`nth`, `join`, `get`, `has`). A part
+/// of the first operand is lent if the environment or the expression lends this operand; otherwise
+/// the part is copied.
 fn call_reading<'e>(
     alloc: Global,
     call: BinaryCall,
@@ -457,9 +459,9 @@ fn or_else<'e>(value: Operand<'e>, other: Operand<'e>, bindings: &Bindings<'e>) 
     }
 }
 
-/// Computes `put(t, k, v)`: a tree shares its nodes with the result. A flat table is extended, and copied
-/// first if it is lent or bound; one of more than `MAX_FLAT_TABLE` pairs becomes a tree. The value is
-/// moved, or copied if it is lent, bound, shared or a tree.
+/// Computes `put(t, k, v)`: a tree shares its nodes with the result. A flat table is extended, and
+/// copied first if it is lent or bound; one of more than `MAX_FLAT_TABLE` pairs becomes a tree. The
+/// value is moved, or copied if it is lent, bound, shared or a tree.
 #[tactic(auto, using(crate::proofs::Arguments::no_faults))]
 pub fn call_put<'e>(
     alloc: Global,

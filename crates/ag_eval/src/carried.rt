@@ -16,13 +16,14 @@ use std::alloc::Global;
 
 /// Computes the value of an expression as `eval` does, for an `env` that lends carried values, and
 /// raises the meter by one evaluation, also if memory is refused. If the value is that of an
-/// occurrence (`$0.env`, also as chosen by `if`, `let` or `orelse`), it is shared and not copied.
-/// A text of more than 256 bytes that `++` made keeps the shared bytes of its operands, and a table or
-/// list that is a tree keeps the nodes that it shares.
+/// occurrence (`$0.env`, also as chosen by `if`, `let` or `orelse`), it is shared and not copied,
+/// unless it is a number or an error. A text of more than 256 bytes that `++` made keeps the shared
+/// bytes of its operands, and a table or list that is a tree keeps the nodes that it shares.
 ///
-/// Takes memory as `eval` does, but none for a copy of a result that is the value of an occurrence, a
-/// shared text or a tree. Every other result that is not a number or an error is stored in memory
-/// that its owners share, with its encoding if it is large. Fails with `NoMemory` if memory is refused.
+/// Takes memory as `eval` does, but none for a copy of a result that is the value of an occurrence,
+/// a shared text or a tree. Every other result that is not a number or an error is stored in memory
+/// that its owners share, with its encoding if that has more than 24 bytes. Fails with `NoMemory`
+/// if memory is refused.
 #[inline(always)]
 pub fn eval_carried<C: CarriedEnvironment>(
     alloc: Global,
@@ -44,9 +45,9 @@ pub fn eval_carried<C: CarriedEnvironment>(
 
 /// Returns the value of an expression that is a literal, an occurrence or a chain of these, if each
 /// of them is a number or an error, and raises the meter by one evaluation, as `eval_carried` does.
-/// Returns `None` for any other expression, for literals and occurrences of another kind, and for `++`
-/// of two numbers: no evaluation is counted then. No contract says for which expressions a value is
-/// returned. Takes no memory.
+/// Returns `None` for any other expression, for literals and occurrences of another kind, and for
+/// `++` of two numbers: no evaluation is counted then. No contract says for which expressions a
+/// value is returned. Takes no memory.
 #[inline(always)]
 pub fn eval_scalar<C: CarriedEnvironment>(
     alloc: Global,

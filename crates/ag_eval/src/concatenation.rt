@@ -1,6 +1,6 @@
-//! The operator `++`. A long text or list that it makes shares the parts of its operands, so that a text
-//! or list that grows from node to node is not copied. The functions that return a `Result` fail with
-//! `NoMemory` if memory is refused.
+//! The operator `++`. A long text or list that it makes shares the parts of its operands, so that a
+//! text or list that grows from node to node is not copied. The functions that return a `Result`
+//! fail with `NoMemory` if memory is refused.
 
 ghost use Rattle.std.specs.Prelude.{◌≡◌, ◌++◌, IfOk, IfSome, MatchOption, length, false, true};
 ghost use Rattle.ag_value.specs.declared.value.Value.TheVariants as value;
@@ -33,9 +33,9 @@ const MAX_TEXT: usize = MAX_WEIGHT as usize - 5;
 ///
 /// A result of at most `MAX_FLAT_TEXT` bytes or `MAX_FLAT_LIST` items is made by extending the left
 /// operand. An operand that is lent, bound, shared or a tree is copied first; but a right text is
-/// copied first only if it is shared. A longer text shares the bytes of operands that are shared
-/// texts, and a longer list the nodes of operands that are trees. Any other operand is moved into
-/// such a text or tree, or copied if it is lent or bound.
+/// copied first only if it is shared. A longer result shares the bytes of operands that are shared
+/// texts, or the nodes of operands that are trees. Any other operand is moved into such a text or
+/// tree, or copied if it is lent or bound.
 pub fn concatenate<'e>(
     alloc: Global,
     left: Operand<'e>,
@@ -60,7 +60,7 @@ pub fn concatenate<'e>(
     }
 }
 
-/// Joins two texts, each as a shared one, or returns the error `big`.
+/// Makes each of two texts a shared one, and joins them, or returns the error `big`.
 #[tactic(auto, using(crate::proofs::Texts::concatenations))]
 fn shared_text<'e>(
     alloc: Global,
@@ -99,7 +99,8 @@ fn flat_text<'e>(
     extend_text(alloc, left, bytes_of(right.get()))
 }
 
-/// Concatenates two operands that are not both texts. Returns the error `kind` unless both are lists.
+/// Concatenates two operands that are not both texts. Returns the error `kind` unless both are
+/// lists.
 fn list_of_both<'e>(
     alloc: Global,
     left: Operand<'e>,
@@ -152,8 +153,8 @@ fn joined_count(left: &Operand<'_>, right: &Operand<'_>, bindings: &Bindings<'_>
     Some(first + second)
 }
 
-/// Extends the left list by the items of the right one. The operands must not both be texts. Returns
-/// the error `kind` unless both are lists.
+/// Extends the left list by the items of the right one. The operands must not both be texts.
+/// Returns the error `kind` unless both are lists.
 fn extended_list<'e>(
     alloc: Global,
     left: Operand<'e>,

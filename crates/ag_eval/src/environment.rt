@@ -39,7 +39,7 @@ pub trait CarriedEnvironment {
         ensures { result.now ≡ lent self.now k };
 }
 
-/// A value that an environment lends: a plain value or a carried one.
+/// A value that an environment lends: a `Value` or a carried value.
 #[derive(Drop)]
 pub enum Loan<'e> {
     Value(&'e Value),
@@ -70,7 +70,7 @@ fn scalar_of(carried: &Carried) -> Option<Scalar>
     }
 }
 
-/// An environment of either kind.
+/// An environment that lends values or carried values: `ByValue` or `ByCarried`.
 pub trait Lender {
     ghost use Rattle.ag_value.specs.declared.value.Value.{Value as AttributeValue};
 

@@ -1,5 +1,5 @@
-//! The value of an expression. A function that returns a `Result` with `NoMemory` fails only if memory is
-//! refused, or if a shared value has 2^64 - 1 owners.
+//! The value of an expression. A function that returns a `Result` with `NoMemory` fails only if
+//! memory is refused, or if a shared value has 2^64 - 1 owners.
 
 ghost use Rattle.std.specs.Prelude.{◌≡◌, ◌+◌, ◌-◌, ◌^◌, ◌<◌, ◌≤◌, length, map, suc, true, IfOk};
 ghost use Rattle.std.specs.Prelude.{IfSome, IsTrue, MatchResult, OnOk, List, [], ◌∷◌, ◌++◌};
@@ -106,9 +106,9 @@ impl<'e, V: Lender> Evaluation<'e, V> {
         }
     }
 
-    /// Evaluates a part of the expression, with these bindings around it. The bindings are unchanged
-    /// after a success, and not used any more after a failure. Fails with `NoMemory` if memory is
-    /// refused.
+    /// Evaluates a part of the expression, with these bindings around it. The bindings are
+    /// unchanged after a success, and not used any more after a failure. Fails with `NoMemory` if
+    /// memory is refused.
     #[cycle(evaluating)]
     #[tactic(auto, using(ag_grammar::proofs::expressions::Trees::parts))]
     fn operand_of(
@@ -301,8 +301,8 @@ impl<'e, V: Lender> Evaluation<'e, V> {
         Ok(operand.into_owned(self.alloc, &bindings)?.into_value())
     }
 
-    /// Returns the value of the expression as a carried one. If it is the value of an occurrence,
-    /// it is shared.
+    /// Returns the value of the expression as a carried one. The value of an occurrence is shared,
+    /// unless it is a number or an error.
     #[inline(never)]
     pub fn carried(&self) -> Result<Carried, NoMemory>
         ensures value { IfOk result (λ v. v
@@ -340,9 +340,9 @@ fn empty_table<'e>(alloc: Global) -> Operand<'e>
     Operand::owned(Measured::new(Value::Table(Items::from_vec(Vec::new(alloc)))))
 }
 
-/// Returns whether a condition holds: whether its number is not 0. Fails with the condition's error if
-/// it is one, and with the error `kind` for a text, a list or a table. In the contract, e and f are any
-/// values of the two branches of the `if`.
+/// Returns whether a condition holds: whether its number is not 0. Fails with the condition's error
+/// if it is one, and with the error `kind` for a text, a list or a table. In the contract, e and f
+/// are any values of the two branches of the `if`.
 #[tactic(auto, using(crate::proofs::Decided::chooses))]
 fn decide(condition: Operand<'_>, bindings: &Bindings<'_>) -> Result<bool, ErrorCode>
     requires { IsIn bindings.now condition }
@@ -365,10 +365,9 @@ fn decided(condition: ValueRef<'_>) -> Result<bool, ErrorCode>
 }
 
 /// Computes the value of an expression for an `env` that lends the values of its occurrences, and
-/// raises the meter by one evaluation, also if memory is refused. The other public calls that take
-/// a meter are `eval_carried`, `eval_scalar` and `eval_number`; they too count one evaluation for
-/// each value that they compute. Fails with `NoMemory` if memory is refused. Requires that `env` lends a
-/// well value for each occurrence of the expression, and that the meter is not full.
+/// raises the meter by one evaluation, also if memory is refused. Fails with `NoMemory` if memory
+/// is refused. Requires that `env` lends a well value for each occurrence of the expression, and
+/// that the meter is not full.
 ///
 /// Takes memory for values that it makes, and for copies. It copies:
 ///

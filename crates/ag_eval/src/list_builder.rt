@@ -10,8 +10,8 @@ use ag_value::{Items, NoMemory, Value};
 use std::alloc::Global;
 use std::marker::Model;
 
-/// Items for a list, with the weight and the depth of the list. A greater weight than 2^64 - 1, or a
-/// greater depth than 2^32 - 1, is stored as this number.
+/// Items for a list, with the weight and the depth of the list. A greater weight than 2^64 - 1, or
+/// a greater depth than 2^32 - 1, is stored as this number.
 #[derive(Drop)]
 pub struct ListBuilder {
     items: Vec<Value>,

@@ -1,5 +1,4 @@
-//! The value of a part of an expression, lent or shared if possible. A value is well if it has the right
-//! form and is within the limits of weight and depth (README of `ag_value`). The functions that return a
+//! The value of a part of an expression, lent or shared if possible. The functions that return a
 //! `Result` fail with `NoMemory` if memory is refused.
 
 ghost use Rattle.std.specs.Prelude.{◌≡◌, IfOk, IfSome, is_some, true};
@@ -69,7 +68,7 @@ impl<'e> Lent<'e> {
         }
     }
 
-    /// Returns the value as a carried one: shared if a carried one stores it, else a copy.
+    /// Returns the value as a carried one: shared if `carried` has one that stores it, else a copy.
     pub fn into_carried(self, alloc: Global) -> Result<Carried, NoMemory>
         ensures value { IfOk result (λ c. c ≡ self.entry) }
         ensures well { IfOk result (λ c. IsWell c) }
@@ -92,7 +91,8 @@ impl<'e> Lent<'e> {
 /// A well value, in one of these forms.
 #[derive(Drop)]
 pub enum Held<'e> {
-    /// A plain value (one that is stored as a `Value`) that the environment or the expression lends.
+    /// A plain value (one that is stored as a `Value`) that the environment or the expression
+    /// lends.
     Lent(Lent<'e>),
     /// A plain value that the evaluation owns.
     Owned(Measured),
@@ -124,8 +124,8 @@ impl<'e> Held<'e> {
         Held::Lent(Lent::new(value))
     }
 
-    /// Makes a held value of a carried one. A shared text is shared, a number or an error is
-    /// copied, and every other value is lent.
+    /// Makes a held value of a carried one. A shared text is shared, a number or an error that is
+    /// not stored as a `Value` is copied, and every other value is lent.
     #[inline(always)]
     pub fn from_carried(alloc: Global, carried: &'e Carried) -> Result<Held<'e>, NoMemory>
         requires { IsWell carried.now }
@@ -183,8 +183,8 @@ impl<'e> Held<'e> {
         }
     }
 
-    /// Returns the value a second time: lent if it is lent, shared if it is a shared text or a tree, else a
-    /// copy.
+    /// Returns the value a second time: lent if it is lent, shared if it is a shared text or a
+    /// tree, else a copy.
     pub fn again(&self, alloc: Global) -> Result<Held<'e>, NoMemory>
         ensures { IfOk result (λ h. held_value h ≡ held_value self.now) }
     {
@@ -230,7 +230,8 @@ impl<'e> Held<'e> {
         SharedText::new(alloc, text)
     }
 
-    /// Returns a list as a tree. A flat list is copied if it is lent, and its items are moved into the tree.
+    /// Returns a list as a tree. A flat list is copied if it is lent, and its items are moved into
+    /// the tree.
     pub fn into_list(self, alloc: Global) -> Result<ListTree, NoMemory>
         requires { is_list (held_value self) ≡ true }
         ensures { IfOk result (λ list. held_value self.entry ≡ value.List list) }
@@ -347,8 +348,8 @@ impl<'e> Operand<'e> {
         }
     }
 
-    /// Returns the value for a new binding or as a result. The value of an existing binding is
-    /// returned a second time, as `Held::again` does.
+    /// Returns the value as a held one. That of a binding is returned a second time, as
+    /// `Held::again` does.
     pub fn into_held(self, alloc: Global, bindings: &Bindings<'e>) -> Result<Held<'e>, NoMemory>
         requires { IsIn bindings.now self }
         ensures { IfOk result (λ h. held_value h ≡ operand_value bindings.now self.entry) }

@@ -1,5 +1,6 @@
-//! Values that are read: plain ones, which are stored as a `Value`, shared texts, and tables and lists that
-//! are trees. The functions that return a `Result` fail with `NoMemory` if memory is refused.
+//! Values that are read: plain ones, which are stored as a `Value`, shared texts, and tables and
+//! lists that are trees. The functions that return a `Result` fail with `NoMemory` if memory is
+//! refused.
 
 ghost use Rattle.std.specs.Prelude.{◌≡◌, ◌≤◌, IfOk, IfSome, MatchOption, length, false, true};
 ghost use Rattle.ag_value.specs.Measure.{max_weight};

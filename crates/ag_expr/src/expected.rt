@@ -105,8 +105,8 @@ fn note(
 }
 
 /// Returns the description of an operand that could follow `before`, a prefix of `text`: a bound
-/// name if a name that is not reserved is there, else an expression if `if` could follow, else an
-/// operand. Fails with `NoMemory`.
+/// name if the token after `before` in `text` is a name that is not reserved, else an expression if
+/// `if` could follow, else an operand. Fails with `NoMemory`.
 fn operand_at(alloc: Global, text: &str, before: &str) -> Result<ExpectedPart, NoMemory> {
     if let Some(rest) = text.get(before.len()..) {
         if let Some(GrammarToken::Name(name)) = Cursor::new(rest).peek() {

@@ -17,7 +17,7 @@ use ag_grammar::{Expr, Node};
 use ag_tokens::Cursor;
 use std::alloc::Global;
 
-/// Parses a text as an expression: its tree, and the distinct occurrences in it.
+/// Parses a text as an expression, and returns its tree with the distinct occurrences in it.
 ///
 /// Fails at the first token that cannot be accepted: with X1 if no token begins there; with X3 if
 /// its number or place is above the limit; with X2 if no expression continues with it, or if the
@@ -38,10 +38,10 @@ pub fn read_expr(alloc: Global, text: &str) -> Result<Expr, ExprFault>
 /// Parses the expression from the byte offset `from` up to the first `;` (a token, not a part of a
 /// text literal), and returns it with the offset of the `;`. Offsets are those of the whole text.
 ///
-/// Fails as `read_expr` fails for the text up to the first `;`. If there is no `;`, fails as
-/// `read_expr` fails for the rest of the text, or, if that is an expression, with X2 at the end of
-/// the text. With any fault but `NoMemory`, it is proved that no expression followed by a `;`
-/// begins at `from`.
+/// Fails as `read_expr` fails for the part of the text from `from` up to the first `;`. If there is
+/// no `;`, fails as `read_expr` fails for the text from `from` on, or, if that is an expression,
+/// with X2 at the end of the text. With any fault but `NoMemory`, it is proved that no expression
+/// followed by a `;` begins at `from`.
 pub fn read_until(alloc: Global, text: &str, from: usize) -> Result<(Expr, usize), ExprFault>
     requires { IsCharBoundary text.now from }
     ensures exact { IsReadUntil text.now from result }

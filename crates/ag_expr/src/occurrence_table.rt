@@ -14,8 +14,8 @@ use std::marker::Model;
 /// The distinct occurrences so far, and the index of each by its place and name.
 #[derive(Drop)]
 pub struct OccurrenceTable<'t> {
-    /// The occurrences, in order of their first appearance. Up to four need no allocation of a
-    /// list.
+    /// The occurrences, in order of their first appearance. Up to four are stored here, without an
+    /// allocation of a list.
     listed: SmallVec<Occ, 4>,
     /// The index in `listed` of each place and name.
     indexes: HashMap<(u16, &'t str), usize>,
@@ -47,8 +47,7 @@ impl<'t> OccurrenceTable<'t> {
         }
     }
 
-    /// Returns the index of the listed occurrence with this place and name, or `None`. Does not
-    /// allocate.
+    /// Returns the index of the listed occurrence with this place and name, or `None`.
     fn position(&self, place: u16, attr: &'t str) -> Option<usize>
         ensures { result ≡ spec.position_of self.now place attr.now }
     {
@@ -86,7 +85,7 @@ impl<'t> OccurrenceTable<'t> {
         Ok(number)
     }
 
-    /// Returns the listed occurrences. Does not allocate.
+    /// Returns the listed occurrences.
     pub fn into_list(self) -> SmallVec<Occ, 4>
         ensures listed { result.items ≡ self.entry }
         ensures distinct_occurrences { AreDifferent result.items }

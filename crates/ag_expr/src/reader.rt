@@ -1,5 +1,5 @@
-//! The reader under the parser: a cursor over the tokens of an expression, the occurrences read so
-//! far, and the names in scope at the cursor.
+//! The reader that the parser uses: a cursor over the tokens of an expression, the occurrences read
+//! so far, and the names in scope at the cursor.
 
 ghost use Rattle.std.specs.Prelude.{◌≡◌, ◌++◌, ◌∷◌, [], Some, true, IfOk, OnOk, is_some, option_map};
 ghost use Rattle.ag_tokens.specs.Lexing.{token_of};
@@ -102,7 +102,7 @@ fn begins_expression(scope: &Scope<'_>, token: GrammarToken<'_>) -> bool
 
 impl<'t> Reader<'t> {
     /// Returns a reader of all tokens of a cursor, or, for a statement, of those before the first
-    /// `;`. Does not allocate.
+    /// `;`.
     pub fn new(alloc: Global, cursor: Cursor<'t>, is_statement: bool) -> Reader<'t>
         ensures { result ≡ state.start is_statement cursor.entry }
     {
@@ -121,7 +121,6 @@ impl<'t> Reader<'t> {
     }
 
     /// Returns the next token, or `None` at the end of the tokens and where no token can be read.
-    /// Does not allocate.
     #[tactic(auto, using(crate::proofs::language::States::prefix_is))]
     pub fn peek(&self) -> Option<GrammarToken<'t>>
         ensures { option_map token_of result ≡ next_token (input self.now) }
@@ -168,8 +167,7 @@ impl<'t> Reader<'t> {
     }
 
     /// Reads the next token, which is this occurrence, and returns its index among the distinct
-    /// ones. Allocates if it is the first with its place and name; fails with `NoMemory` if that is
-    /// impossible.
+    /// ones. Fails with `NoMemory` if it is the first with its place and name and memory runs out.
     #[tactic(auto, using(crate::proofs::language::States::taken_number))]
     pub fn take_occurrence(&mut self, place: u16, attr: &'t str) -> Result<usize, NoMemory>
         requires { next_token (input self.old) ≡ Some (tokens.Occurrence place attr.now) }
@@ -231,7 +229,7 @@ impl<'t> Reader<'t> {
         }
     }
 
-    /// Returns the distinct occurrences that were read, and the cursor. Does not allocate.
+    /// Returns the distinct occurrences that were read, and the cursor.
     pub fn into_parts(self) -> (SmallVec<Occ, 4>, Cursor<'t>)
         ensures listed { result.0.items ≡ self.entry.listed }
         ensures distinct_occurrences { AreDifferent result.0.items }
@@ -260,8 +258,7 @@ impl<'t> Reader<'t> {
         }
     }
 
-    /// Reads this punctuation. Fails with `refusal` if the next token is another one. Does not
-    /// allocate.
+    /// Reads this punctuation. Fails only if it is not the next token, with `refusal`.
     pub fn expect(&mut self, mark: Punctuation) -> Result<(), ExprFault>
         ensures { Reads (λ _ _. reading.expect (tokens.mark mark)) self.old result self.new }
     {
@@ -274,7 +271,7 @@ impl<'t> Reader<'t> {
         }
     }
 
-    /// Reads this name. Fails with `refusal` if the next token is another one. Does not allocate.
+    /// Reads this name. Fails only if it is not the next token, with `refusal`.
     pub fn expect_word(&mut self, name: &str) -> Result<(), ExprFault>
         ensures { Reads (λ _ _. reading.expect (tokens.word name.now)) self.old result self.new }
     {
@@ -287,8 +284,8 @@ impl<'t> Reader<'t> {
         }
     }
 
-    /// Reads a name that is not reserved in expressions. Fails with `refusal` if the next token is
-    /// another one. Does not allocate.
+    /// Reads a name that is not reserved in expressions. Fails only if the next token is not such a
+    /// name, with `refusal`.
     pub fn new_name(&mut self) -> Result<&'t str, ExprFault>
         ensures { ReadsAs (λ name. name.now) (λ _ _. reading.token_as syntax.new_name)
             self.old result self.new }

@@ -28,7 +28,8 @@ use Rattle.ag_fault.specs.declared.build_fault.BuildFault.TheVariants as build
 use Rattle.ag_fault.specs.declared.fault.Fault.{Fault}
 use Rattle.ag_fault.specs.declared.fault.Fault.TheVariants as fault
 
--- The faults of an expression, a sentence and a job: `NoMemory` becomes `NoMemory`; any other is kept in the variant of its kind
+-- The faults of an expression, of scanning a sentence, and of a job: `NoMemory` becomes `NoMemory`, and any other fault is put
+-- into the variant `Expr`, `Scan` or `Job`
 abbrev pub expr_fault_of : ExprFault → Fault
 expr_fault_of expr.NoMemory = fault.NoMemory
 expr_fault_of e = fault.Expr e
@@ -41,19 +42,19 @@ abbrev pub job_fault_of : JobFault → Fault
 job_fault_of job.NoMemory = fault.NoMemory
 job_fault_of e = fault.Job e
 
--- A failed device is always `Device`, and refused memory `NoMemory`; neither is inside another fault.
+-- the faults of parsing a sentence: a failed device becomes `Device`, and refused memory `NoMemory`; neither is put into `Parse`
 abbrev pub parse_fault_of : ParseFault → Fault
 parse_fault_of parse.Device = fault.Device
 parse_fault_of parse.NoMemory = fault.NoMemory
 parse_fault_of e = fault.Parse e
 
--- the faults of running passes; a failed device and refused memory as in `parse_fault_of`
+-- the faults of running passes and of converting a tree file; a failed device and refused memory as in `parse_fault_of`
 abbrev pub run_fault_of : RunFault → Fault
 run_fault_of run.Device = fault.Device
 run_fault_of run.NoMemory = fault.NoMemory
 run_fault_of e = fault.Run e
 
--- the faults of reading the root's text
+-- the faults of reading the root's text from the last tree file
 abbrev pub out_fault_of : OutFault → Fault
 out_fault_of (out.NoText x) = fault.NoText x
 out_fault_of out.NotATreeFile = fault.NotATreeFile
@@ -61,8 +62,9 @@ out_fault_of (out.Damaged at) = fault.Damaged at
 out_fault_of out.Device = fault.Device
 out_fault_of out.NoMemory = fault.NoMemory
 
--- The faults of reading a grammar, of checking it, and of its look-ahead tables. (`Translator::build` of `aggen` itself converts
--- those of the assignment of passes.) Refused memory is `NoMemory`; no call returns a `text.Expr` that contains it.
+-- The faults of reading a grammar, of checking it, and of its look-ahead tables. (`Translator::build` and `certify_plan` of
+-- `aggen` convert those of the assignment of passes.) Refused memory becomes `NoMemory`. The fault `text.Expr` could contain it
+-- too, but no call returns such a fault.
 abbrev pub build_fault_of_text : TextFault → BuildFault
 build_fault_of_text text.NoMemory = build.NoMemory
 build_fault_of_text e = build.Text e
@@ -83,11 +85,12 @@ build_fault_of (build.Table e) = fault.Table e
 build_fault_of (build.Assign e) = fault.Assign e
 build_fault_of build.NoMemory = fault.NoMemory
 
--- the faults of a device, and below them those of reading a tree file
+-- the faults of a device
 abbrev pub device_fault_of : DeviceFault → Fault
 device_fault_of device.Failed = fault.Device
 device_fault_of device.NoMemory = fault.NoMemory
 
+-- the faults of reading a tree file
 abbrev pub frame_fault_of : FrameFault → Fault
 frame_fault_of frame.NotATreeFile = fault.NotATreeFile
 frame_fault_of (frame.Damaged at) = fault.Damaged at

@@ -18,12 +18,12 @@ abbrev pub name_of_attribute : Symbol → Option (List ℕ) → List ℕ
 name_of_attribute symbol None = []
 name_of_attribute symbol (Some name) = symbol.name ++ codes "." ++ name
 
--- the same from a symbol, if there is one, and the number of its attribute; empty if the symbol or the attribute does not exist
+-- the same from a symbol, if there is one, and the number of its attribute, from 0; empty if the symbol or attribute is missing
 abbrev pub name_at : Option Symbol → ℕ → List ℕ
 name_at None attribute = []
 name_at (Some symbol) attribute = name_of_attribute symbol (slice_get (attribute_names symbol) attribute)
 
--- the same from a grammar, the number of the symbol and the number of its attribute
+-- the same from a grammar, the number of the symbol and the number of its attribute, both from 0
 abbrev pub qualified_name : Grammar → ℕ → ℕ → List ℕ
 qualified_name g symbol attribute = name_at (slice_get g.symbols symbol) attribute
 

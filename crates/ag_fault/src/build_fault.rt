@@ -1,4 +1,4 @@
-//! Why a translator can't be built from a text.
+//! Why a translator can't be built from a grammar's text.
 
 ghost use Rattle.std.specs.Prelude.{◌≡◌};
 ghost use Rattle.ag_fault.specs.Faults.{build_fault_of_normal, build_fault_of_table};
@@ -11,8 +11,8 @@ use ag_value::NoMemory;
 use llparse::TableFault;
 use normalform::NormalFault;
 
-/// Why a translator can't be built from a text. Calls of `aggen` return refused memory only as
-/// `NoMemory`, never inside another variant.
+/// Why a translator can't be built from a grammar's text. Calls of the crate `aggen` return refused
+/// memory only as `NoMemory`, never inside another variant.
 #[derive(Debug, Drop)]
 pub enum BuildFault {
     /// G1 to G4: the text can't be read as a grammar.

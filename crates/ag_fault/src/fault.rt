@@ -22,55 +22,55 @@ use roottext::OutFault;
 use std::alloc::AllocError;
 use treefile::{DeviceFault, FileFault, FrameFault};
 
-/// Why the program, or a call of its library, failed. Each fault except `Usage` and `NoMemory` has a
-/// number such as D1, which is printed first. Where a variant is said never to contain NoMemory, this
-/// holds for the faults that calls of `aggen` return.
+/// Why the program, or a call of its library, failed. Each fault except `Usage` and `NoMemory` has
+/// a number such as D1, which is printed first. Calls of the crate `aggen` return refused memory
+/// only as `NoMemory` and a failed device only as `Device`, never inside another variant.
 #[derive(Debug, Drop)]
 pub enum Fault {
     /// The command line is wrong.
     Usage,
     /// F1: a file can't be opened, read or created.
     File,
-    /// X1 to X4: the text is not an expression. It never contains NoMemory.
+    /// X1 to X4: the text is not an expression. X2 also if the expression has an occurrence of an
+    /// attribute (`$1.a`), which has no value without a tree.
     Expr(ExprFault),
-    /// G1 to G4: the text can't be read as a grammar. It never contains NoMemory.
+    /// G1 to G4: the text can't be read as a grammar.
     Text(TextFault),
-    /// N1 to N10: the grammar is not accepted. It never contains NoMemory.
+    /// N1 to N10: the grammar is not accepted.
     Normal(NormalFault),
-    /// L1: one token of look-ahead doesn't determine the next production. It never contains
-    /// NoMemory.
+    /// L1: one token of look-ahead doesn't determine the next production.
     Table(TableFault),
     /// A1: no assignment of passes to the grammar's attributes is legal.
     Assign(StuckGrammar),
-    /// S1 to S4: the sentence can't be split into tokens. It never contains NoMemory.
+    /// S1 to S4: the sentence can't be split into tokens.
     Scan(ScanFault),
-    /// P1 to P3: the sentence has no tree within the limits. It never contains D1 or NoMemory.
+    /// P1 to P3: the sentence has no tree within the limits.
     Parse(ParseFault),
-    /// R1, P2 or P3: a tree file that a pass or a conversion read encodes no tree of the grammar, or
-    /// none within the limits. It never contains D1 or NoMemory.
+    /// R1, P2 or P3: a tree file that a pass or a conversion read encodes no tree of the grammar,
+    /// or none within the limits.
     Run(RunFault),
-    /// J1 to J3: the bytes of a reader are not a job, or the reader failed. It never contains
-    /// NoMemory.
+    /// J1 to J3: the bytes of a reader are not a job, or the reader failed.
     Job(JobFault),
     /// O1: the translation is this value, which is not a text.
     NoText(Value),
     /// B1: a device does not contain a tree file.
     NotATreeFile,
-    /// B2: no frame ends at this offset in bytes, or one does and its body is not the record that
-    /// is expected there, such as that of the root at the end of the last tree file.
+    /// B2: no frame ends at this offset (in bytes from 0), or the frame that ends there is not that
+    /// of the expected record. At the end of the last tree file, the root's record is expected.
     Damaged(u64),
     /// D1: a call of a device failed.
     Device,
-    /// O2: a write failed, or took no byte. A prefix of the text may have been written.
+    /// O2: a write of the output failed, or took no byte. A prefix of the output may have been
+    /// written.
     Write,
     /// A request for memory was refused.
     NoMemory,
 }
 
 /// Returns the exit status of the program for a fault: 2 for usage, J1 and J3; 3 for X, G,
-/// N, L and A; 4 for S and P of a sentence; 5 for B1, B2, R1, and P2 and P3 of a tree file; 6 for
-/// O1; 7 for NoMemory; 8 for F1, J2, D1 and O2. A fault that contains NoMemory has 7 too, and one
-/// that contains D1 has 8.
+/// N, L and A (a letter alone means all its numbers); 4 for S and P of a sentence; 5 for B1, B2,
+/// R1, and P2 and P3 of a tree file; 6 for O1; 7 for NoMemory; 8 for F1, J2, D1 and O2. A fault
+/// that contains NoMemory has 7 too, and one that contains D1 has 8.
 pub fn status(fault: &Fault) -> u8
     ensures { result ≡ status_of fault.now }
 {

@@ -4,13 +4,14 @@ use ag_grammar::Grammar;
 use passassign::Stuck;
 use std::fmt;
 
-/// A grammar for which no assignment of passes to its attributes is legal, with the certificate that
-/// shows it. It prints as A1 and the attributes to which no pass can be assigned: `A1 R.out A.s A.i`.
+/// A grammar for which no assignment of passes to its attributes is legal, with the certificate
+/// that shows it. It prints as A1 and the attributes to which no pass can be assigned, as in
+/// `A1 R.out A.s A.i`.
 #[derive(Drop)]
 pub struct StuckGrammar {
     /// The certificate: the attributes to which no pass can be assigned, and why.
     pub stuck: Stuck,
-    /// The grammar, for the names.
+    /// The grammar, which has the attributes' names.
     pub grammar: Grammar,
 }
 

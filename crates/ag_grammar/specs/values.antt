@@ -1,4 +1,4 @@
--- The values of the forms of an expression for given values of their arguments, by subject.
+-- The values of calls, of `if` and of operators for given values of their arguments, and laws about them.
 pub mod Calls
 pub mod Laws
 pub mod Operators

@@ -54,8 +54,8 @@ impl Model for Grammar {
 
 impl Grammar {
     /// Makes a grammar from its lists. The caller must prove that the grammar is accepted and in
-    /// order; nothing is checked at run time. `check` of the crate `normalform` calls it. Does not
-    /// allocate.
+    /// order; nothing is checked at run time. `check` of the crate `normalform` calls it, through
+    /// its function `number`.
     pub fn new(
         symbols: Items<Symbol>,
         productions: Items<Production>,
@@ -94,7 +94,7 @@ impl Grammar {
         }
     }
 
-    /// Returns the declared symbols; the number of a symbol is its index. Does not allocate.
+    /// Returns the declared symbols; the number of a symbol is its index.
     pub fn symbols(&self) -> &[Symbol]
         ensures lent { result.now ≡ self.now.symbols }
         ensures accepted { IsAccepted self.now }
@@ -102,7 +102,7 @@ impl Grammar {
         self.symbols.as_slice()
     }
 
-    /// Returns the productions; the number of a production is its index. Does not allocate.
+    /// Returns the productions; the number of a production is its index.
     pub fn productions(&self) -> &[Production]
         ensures lent { result.now ≡ self.now.productions }
         ensures accepted { IsAccepted self.now }
@@ -111,7 +111,7 @@ impl Grammar {
     }
 
     /// Returns the distinct literals in the order of their first appearance on the right sides; the
-    /// number of a literal is its index. Does not allocate.
+    /// number of a literal is its index.
     pub fn literals(&self) -> &[Text]
         ensures lent { result.now ≡ self.now.literals }
         ensures accepted { IsAccepted self.now }
@@ -121,7 +121,6 @@ impl Grammar {
     }
 
     /// Returns the token classes in use, in ascending order: 0 is NAME, 1 is NUMBER, 2 is TEXT.
-    /// Does not allocate.
     pub fn classes(&self) -> &[u16]
         ensures lent { result.now ≡ self.now.classes }
         ensures accepted { IsAccepted self.now }

@@ -31,8 +31,8 @@ pub fn equations_kept()
     ensures { EquationsKept }
 {}
 
-/// States that values that satisfy the equations of every pass are a solution, if each target has a
-/// pass.
+/// States that values that satisfy the equations of every pass are a solution, if the target of
+/// each rule has a pass.
 pub fn passes_solve()
     ensures { PassesSolve }
 {}

@@ -43,7 +43,7 @@ pub const TEXT: u16 = 2;
 /// The number of token classes.
 pub const CLASS_COUNT: u16 = 3;
 
-/// The maximum length of the text of a token, in bytes.
+/// The maximum length of the text of a token of a sentence, in bytes.
 pub const MAX_TOKEN_BYTES: usize = 65_535;
 
 /// The maximum number of levels of an expression. An expression has one level more than the deepest

@@ -1,5 +1,6 @@
-//! Worked examples of the definitions; each is a law. The first grammar is `sample` of
-//! `Sample.antt`, whose one sentence is `x x`; the second one, `token_sample`, has a NAME.
+//! Worked examples of the definitions. Each function is a law: its contract is a fact, and the
+//! function does nothing. The first grammar is `sample` of `specs/grammars/Sample.antt`, whose one
+//! sentence is `x x`; the second one, `token_sample`, has a NAME.
 
 ghost use Rattle.std.specs.Prelude.{ℕ, ◌≡◌, [], ◌∷◌, pos, true, false};
 ghost use Rattle.ag_value.specs.declared.value.Value.{Num, Text, Value as AttributeValue};
@@ -99,7 +100,7 @@ pub fn sample_legal()
 {}
 
 /// States that the tree of `x x` has five rules: three at the root, and one at each of the two
-/// children. All are rules of pass 1.
+/// children. All are rules of pass 1 if all attributes have pass 1.
 pub fn sample_counts()
     ensures rules { rules_of sample sample_tree ≡ 5 }
     ensures first { rules_of_pass sample_passes 1 sample sample_tree ≡ 5 }

@@ -7,8 +7,8 @@ use Rattle.ag_job.specs.declared.reading.ReadFault.{ReadFault}
 use Rattle.ag_job.specs.declared.reading.ReadFault.TheVariants as read
 use Rattle.ag_job.specs.declared.job.TheConstants.{MAX_JOB_BYTES}
 
--- the maximal number of bytes of a job: 1,048,576 for the grammar, as many for the sentence, and 4 for the longest separator;
--- only the sum is limited here
+-- the maximal number of bytes of a job: 1,048,576 for the grammar, as many for the sentence, and 4 for the line `%%` with a CR
+-- and an LF; only the sum is limited here
 abbrev pub max_job_bytes : ℕ
 max_job_bytes = MAX_JOB_BYTES
 
@@ -44,7 +44,8 @@ pub record IsJob (bytes text sentence : List ℕ) : Type 0 where
 abbrev pub HasNoSeparator : List ℕ → Type 0
 HasNoSeparator bytes = (text sentence : List ℕ) → IsCut bytes text sentence → ⊥
 
--- If the bytes of the reader are known, J1 and J3 are true of them. J2 and NoMemory claim nothing about the bytes.
+-- If the bytes of the reader are known, they are at most `max_job_bytes` without a line `%%` after J1, and more after J3. J2 and
+-- NoMemory claim nothing about the bytes.
 abbrev pub IsJobFault : Option (List ℕ) → JobFault → Type 0
 IsJobFault known fault.NoSeparator = IfSome known (λ bytes. (length bytes ≤ max_job_bytes) × HasNoSeparator bytes)
 IsJobFault known fault.Read = Unit {0}

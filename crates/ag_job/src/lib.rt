@@ -1,5 +1,5 @@
-//! Reads jobs. A job is a text with a grammar, a line `%%` and a sentence. `read_prefix` reads a
-//! limited number of bytes from a reader.
+//! Reads jobs. A job is a text with a grammar, a line `%%` (the first such line) and a sentence.
+//! `read_prefix` reads a limited number of bytes from a reader.
 #![tactic(auto)]
 
 mod cutting;

@@ -73,7 +73,7 @@ pub record IsLeadingToken (v : Vocabulary) (cs : List ℕ) (f : LeadingWord) : T
   pub split : cs ≡ word ++ f.rest
   pub token : IsToken v f.kind f.lex word f.rest
 
--- the number of the first literal with this text, if their numbers begin at n
+-- the number of the first literal of a list that has this text, if the first literal of the list has the number n
 abbrev pub number_from : ℕ → List (List ℕ) → List ℕ → Option ℕ
 number_from n [] text = None
 number_from n (x ∷ xs) text = cond (pointwise nat_eq x text) (Some n) (number_from (n + 1) xs text)
@@ -99,7 +99,7 @@ longer_of (Some f) (Some g) = cond (nat_lt (width g.rest) (width f.rest)) (Some 
 abbrev pub word_from : Vocabulary → List ℕ → Option LeadingWord
 word_from v cs = longer_of (literal_within v.literals cs (length cs)) (class_from v.classes cs)
 
--- the first n tokens from the offset `at` on, or fewer if no word begins after them
+-- the first n tokens of the characters, which begin at the offset `at`, or fewer if no word begins after them
 abbrev pub tokens_from : Vocabulary → ℕ → ℕ → List ℕ → List Token
 tokens_from v zero at cs = []
 tokens_from v (suc n) at cs =
@@ -109,7 +109,7 @@ tokens_from v (suc n) at cs =
       | None ↦ []
     ]
 
--- The tokens of a text, up to the first offset where no word begins. Each token has a byte at least, so `length text` of them are
--- all.
+-- The tokens of a text, up to the first offset where no word begins. If no literal is empty, each token has at least
+-- one byte, so there are at most `length text` tokens.
 abbrev pub tokens_in : Vocabulary → List ℕ → List Token
 tokens_in v text = tokens_from v (length text) 0 (chars text)

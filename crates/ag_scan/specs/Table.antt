@@ -43,7 +43,7 @@ abbrev pub after_last : Option ℕ → ℕ
 after_last None = 0
 after_last (Some k) = k + 1
 
--- `shorter` has, for each entry, the index of the last entry before it that is a prefix of it.
+-- `shorter` has, for each entry, the index of the last entry before it whose text is a prefix of its own.
 pub record AreLinked (entries : List LiteralEntry) (shorter : List (Option ℕ)) : Type 0 where
   pub each : (i : ℕ) (w : LiteralEntry) (o : Option ℕ) → slice_get entries i ≡ Some w → slice_get shorter i ≡ Some o
       → IsLastPrefixIfAny entries i w.text.now o
@@ -59,8 +59,8 @@ pub record AreLiterals (literals : List (List ℕ)) (entries : List LiteralEntry
   pub whole : (n : ℕ) (x : List ℕ) → slice_get literals n ≡ Some x
       → (k : ℕ) × (w : LiteralEntry) × (slice_get entries k ≡ Some w) × (w.text.now ≡ x)
 
--- The entries are those of the literals, sorted by their texts, each linked to the last one before it that is
--- a prefix of it.
+-- The entries are those of the literals, sorted by their texts, each linked to the last one before it whose
+-- text is a prefix of its own.
 pub record IsTable (literals : List (List ℕ)) (entries : List LiteralEntry) (shorter : List (Option ℕ)) : Type 0 where
   pub literals_all : AreLiterals literals entries
   pub ordered : AreOrdered entries

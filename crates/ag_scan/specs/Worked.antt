@@ -4,7 +4,7 @@ use Rattle.ag_grammar.specs.declared.grammar.Terminal.TheVariants.{Literal, Clas
 use Rattle.ag_scan.specs.Tokens.{AreTokensOf, NoTokenAt}
 use Rattle.ag_scan.specs.Words.{vocabulary}
 
--- With the literal `if` and names, the tokens of `iffy if` are the name `iffy` and then the literal: the longest word
+-- With the literal `if` and the class NAME, the tokens of `iffy if` are the NAME `iffy` and then the literal: the longest word
 -- wins, and a literal wins a tie.
 abbrev pub LongestWins : Type 0
 LongestWins =

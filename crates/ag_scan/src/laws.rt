@@ -17,8 +17,8 @@ pub fn each_sentence_has_an_answer()
     ensures { AnAnswer }
 {}
 
-/// States a worked example: with the literal `if` and names, the tokens of `iffy if` are a name and
-/// then the literal.
+/// States a worked example: with the literal `if` and the class NAME, the tokens of `iffy if` are a
+/// NAME and then the literal.
 #[tactic(auto, using(crate::proofs::Examples::longest_wins))]
 pub fn the_longest_word_wins()
     ensures { LongestWins }

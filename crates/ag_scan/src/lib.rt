@@ -1,7 +1,7 @@
 //! The scanner: the tokens of a sentence, by longest match over the literals and the token classes
 //! of a grammar. A word is a part of the sentence that is the text of a literal, or has the form of
 //! a class that the grammar uses. From left to right, separators are skipped, and the longest word
-//! at the next offset becomes a token, with its terminal (its literal or class).
+//! that begins after them becomes a token, with its terminal (its literal or class).
 #![tactic(auto)]
 
 mod cutting;

@@ -239,7 +239,7 @@ impl<'g> Literals<'g> {
         })
     }
 
-    /// Returns the longest literal that is a prefix of the text, or `None`. Does not allocate.
+    /// Returns the longest literal that is a prefix of the text, or `None`.
     #[inline(always)]
     pub fn longest(&self, text: &str) -> Option<&LiteralEntry<'g>>
         ensures { MatchOption result (HasNoPrefix self.now text.now)

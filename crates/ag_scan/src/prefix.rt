@@ -95,7 +95,7 @@ fn class_among<'t>(classes: &[u16], text: &'t str) -> Option<LeadingWord<'t>>
     class_begun(classes, c, following, text)
 }
 
-/// Returns the word of a class in use at the beginning of a text, or `None`. Does not allocate.
+/// Returns the word of a class in use at the beginning of a text, or `None`.
 #[inline(always)]
 #[tactic(auto, unfolding(crate::specs::Cutting::class_from))]
 pub fn leading_class<'t>(classes: &[u16], text: &'t str) -> Option<LeadingWord<'t>>

@@ -18,8 +18,9 @@ use std::alloc::Global;
 use std::marker::Model;
 
 /// A sentence that is known to consist of separators and tokens with texts of at most 65,535 bytes.
-/// It stores the text of the sentence and a table of the literals, but not the tokens; `tokens`
-/// computes them again, one at a time. In contracts it is the list of its tokens.
+/// It stores the text of the sentence and a table of the literals, but not the tokens. The reader
+/// that `tokens` returns computes them again, one at a time. In contracts a sentence is the list of
+/// its tokens.
 #[derive(Drop)]
 pub struct Sentence<'s> {
     vocabulary: Vocabulary<'s>,
@@ -120,7 +121,7 @@ impl<'s> Sentence<'s> {
         Sentence { vocabulary, text }
     }
 
-    /// Returns a reader of the tokens, positioned at the first one. Does not allocate.
+    /// Returns a reader of the tokens, positioned at the first one.
     pub fn tokens(&self) -> Tokens<'_>
         ensures { result ≡ reader_at self.now 0 }
     {

@@ -76,7 +76,7 @@ impl<'t> Tokens<'t> {
         }
     }
 
-    /// Returns the next token, or `None` at the end. Does not allocate.
+    /// Returns the next token, or `None` at the end.
     #[inline(always)]
     pub fn ahead(&self) -> Option<Token<'t>>
         ensures { option_map (λ t. token_of t) result ≡ slice_get self.now.list self.now.taken }
@@ -106,7 +106,7 @@ impl<'t> Tokens<'t> {
         self.at
     }
 
-    /// Advances past the next token, which must exist. Does not allocate.
+    /// Advances past the next token, which must exist.
     #[inline(always)]
     pub fn advance(&mut self)
         requires { self.old.taken < length self.old.list }

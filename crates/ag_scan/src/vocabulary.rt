@@ -1,4 +1,4 @@
-//! The words of a language, and the first token of a text over them.
+//! The words of a grammar, and the first token of a text over them.
 
 ghost use Rattle.std.specs.Prelude.{◌≡◌, ◌≤◌, chars, length, IfErr, IfOk, MatchOption};
 ghost use Rattle.ag_grammar.specs.grammars.Accepted.{max_literals};
@@ -15,7 +15,7 @@ use ag_value::{NoMemory, Text};
 use std::alloc::Global;
 use std::marker::Model;
 
-/// The words of a language: the table of a grammar's literals, and the numbers of the token classes
+/// The words of a grammar: the table of its literals, and the numbers of the token classes
 /// in use. In contracts it is the texts of the literals and the classes.
 #[derive(Drop)]
 pub struct Vocabulary<'g> {
@@ -47,8 +47,8 @@ impl<'g> Vocabulary<'g> {
         Ok(Vocabulary { literals, classes })
     }
 
-    /// Returns the longest word at the beginning of a text, or `None`; a literal wins a tie. Does
-    /// not allocate.
+    /// Returns the longest word at the beginning of a text, or `None`. If a literal and a word
+    /// of a class are equally long, returns the literal.
     #[inline(always)]
     pub fn leading_word<'t>(&self, text: &'t str) -> Option<LeadingWord<'t>>
         ensures { MatchOption result

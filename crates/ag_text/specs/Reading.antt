@@ -30,7 +30,7 @@ Outcome = parsing.Outcome Stop
 abbrev pub Parser : Type 0 → Type 0
 Parser = parsing.Parser Stop
 
--- the fault for a token that cannot be accepted: its offset
+-- the fault if the next token cannot be accepted or is missing: its offset, or the offset where the tokens end
 abbrev pub refusal : Input → Stop
 refusal i = WrongAt (offset i)
 
@@ -45,7 +45,7 @@ many = further_from false
 
 -- ---- the expression of a rule
 
--- the result for an expression up to its `;`; the remaining input begins after the `;`
+-- the outcome for the input i, whose expression up to the first `;` has this result; the remaining input begins after the `;`
 abbrev pub ended : Input → Result Ended ExprFault → Outcome (Node × List Occ)
 ended i (Ok x) = Ok (x.0, record i { left = after_semicolon i.left })
 ended i (Err f) = Err (InExpr f)

@@ -30,9 +30,10 @@ const SIGNS: [&str; 9] = ["=", "{", "}", ",", ";", "start", "symbol", "syn", "in
 
 /// Returns what could be at the offset of this fault instead of the token there. Parses the text
 /// before the offset, for G3 only its last expression, up to 14 times, each time with another
-/// candidate after it. Returns nothing for any fault but G2, and G3 with X2. If an expression at the
-/// offset would be of level 65, the result contains no expression or operand. It can contain a `]`
-/// then: after a `[`, a `]` makes the empty list `[]`. Fails with `NoMemory` if memory runs out.
+/// candidate after it. Returns an empty list for any fault but G2, and G3 with X2. If an expression
+/// at the offset would be of level 65, the result contains no expression or operand. It can contain
+/// a `]` then: after a `[`, a `]` makes the empty list `[]`. Fails with `NoMemory` if memory runs
+/// out.
 pub fn expected_at(alloc: Global, text: &str, fault: TextFault) -> Result<Vec<Expected>, NoMemory> {
     match fault {
         TextFault::Unexpected(_, at) => expected_outside(alloc, text, at),
@@ -41,8 +42,8 @@ pub fn expected_at(alloc: Global, text: &str, fault: TextFault) -> Result<Vec<Ex
     }
 }
 
-/// Returns what could be at a byte offset outside of expressions; nothing if the offset is not on a
-/// character boundary. Fails with `NoMemory`.
+/// Returns what could be at a byte offset outside of expressions; an empty list if the offset is
+/// not on a character boundary. Fails with `NoMemory`.
 fn expected_outside(alloc: Global, text: &str, at: usize) -> Result<Vec<Expected>, NoMemory> {
     let mut found = Vec::new(alloc);
     if let Some(before) = text.get(..at) {
@@ -74,8 +75,8 @@ fn gather_outside(alloc: Global, before: &str, found: &mut Vec<Expected>) -> Res
     Ok(())
 }
 
-/// Returns what could be at a byte offset inside an expression; nothing if the offset is not on a
-/// character boundary. Fails with `NoMemory`.
+/// Returns what could be at a byte offset inside an expression; an empty list if the offset is not
+/// on a character boundary. Fails with `NoMemory`.
 fn expected_inside(alloc: Global, text: &str, at: usize) -> Result<Vec<Expected>, NoMemory> {
     let mut found = Vec::new(alloc);
     let from = expression_start(text, at);

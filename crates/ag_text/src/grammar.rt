@@ -41,7 +41,8 @@ fn line_of(text: &str, at: usize) -> usize
     1 + line_feeds(bytes)
 }
 
-/// Returns the fault of `read_grammar` for a fault of the parser: adds the line to a G2.
+/// Returns the fault of `read_grammar` for a fault of the parser. A `WrongAt` becomes a G2, with
+/// the line of its offset in `text`.
 fn fault_of_stop(text: &str, stop: Stop) -> TextFault
     ensures { result ≡ answers.fault_of text.now stop }
 {

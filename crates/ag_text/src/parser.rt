@@ -1,6 +1,6 @@
-//! The parser of grammars, which follows the productions of the syntax in LANGUAGE.md. All
+//! The parser of grammars, which follows the productions of the syntax in LANGUAGE.md. Its
 //! functions fail with `Stop::WrongAt` at the first token that cannot be accepted, with
-//! `Stop::InExpr` in an expression, and with `NoMemory`.
+//! `Stop::InExpr` if an expression has a fault, and with `NoMemory` if memory runs out.
 
 ghost use Rattle.std.specs.Prelude.{◌≡◌, [], Bool, codes};
 ghost use Rattle.ag_tokens.specs.Parsing.{sees};

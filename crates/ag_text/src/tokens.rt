@@ -190,8 +190,7 @@ fn named_item(alloc: Global, name: &str, at: usize) -> Result<Option<RawItem>, N
 }
 
 /// Returns the item of a right side for a token at the byte offset `at`, or `None` if the token
-/// cannot be one. Fails with `NoMemory` if memory runs out. (In the contract, `token.entry` is the
-/// argument `token`, as passed.)
+/// cannot be one. Fails with `NoMemory` if memory runs out.
 fn item_of(alloc: Global, token: GrammarToken<'_>, at: usize) -> Result<Option<RawItem>, NoMemory>
     ensures { IfOk result (λ found. found ≡ meanings.item_in at (token_of token.entry)) }
 {

@@ -1,7 +1,8 @@
--- The lexer as a plain function, `token_from`, which agrees with the definition of tokens (see the laws). Up to `token_from` a
--- text is the list of its characters, and a character is its code point: 34 is a double quote, 36 `$`, 46 a dot and 92 a
--- backslash. After `token_from`, the texts of the code are bytes, and `chars` are their characters. To *cut* a text is to read
--- its tokens. `lent.GrammarToken` is the Rust type, whose tokens borrow their texts.
+-- The lexer as a plain function, `token_from`, which agrees with the definition of tokens (see the laws). `token_from` and
+-- the functions that it uses read a list of characters. A character is its code point: 34 is a double quote, 36 `$`, 46 a dot
+-- and 92 a backslash. The definitions after `token_from` compare results of the code with those of these functions: there a text
+-- is a list of bytes, and `chars text` is the list of its characters. `lent.GrammarToken` is the Rust type, whose tokens borrow
+-- their texts.
 use Rattle.std.specs.Option.{option_and_then}
 use Rattle.std.specs.Prelude.{◌≡◌, ℕ, zero, suc, pos, Bool, true, false, cond, ◌==◌, List, [], ◌∷◌, ◌++◌, length, take, drop}
 use Rattle.std.specs.Prelude.{Option, Some, None, Result, Ok, Err, encode_utf8, encode_utf8_all, chars, is_some, option_map}

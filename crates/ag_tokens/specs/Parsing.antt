@@ -15,7 +15,7 @@ use Rattle.ag_tokens.specs.GrammarToken as token
 
 -- ---- the next token
 
--- the token at the head of a list, and that of an input
+-- the first token of a list, if there is one; `next_token` is the same for the remaining tokens of an input
 abbrev pub first_token : List PlacedToken → Option GrammarToken
 first_token [] = None
 first_token (p ∷ ps) = Some p.token
@@ -23,7 +23,7 @@ first_token (p ∷ ps) = Some p.token
 abbrev pub next_token : Input → Option GrammarToken
 next_token i = first_token i.left
 
--- the input after its next token; the same input if it has none
+-- the tokens after the first one, if there is one; `next` is the input after its next token, or the same input if it has none
 abbrev pub after_first : List PlacedToken → List PlacedToken
 after_first [] = []
 after_first (p ∷ ps) = ps
@@ -63,7 +63,7 @@ next_satisfies test (Some t) = test t
 abbrev pub sees : (GrammarToken → Bool) → Input → Bool
 sees test i = next_satisfies test (next_token i)
 
--- a test: two marks are the same; `sameb the_type` is the toolchain's test for an enum without fields
+-- a test: two punctuation marks are the same; `sameb the_type` is the toolchain's test for an enum without fields
 abbrev pub same_mark : Punctuation → Punctuation → Bool
 same_mark = sameb the_type
 
@@ -82,7 +82,7 @@ Outcome Fault A = Result (A × Input) Fault
 abbrev pub Parser : Type 0 → Type 0 → Type 0
 Parser Fault A = Input → Outcome Fault A
 
--- runs the parser `f a` on the remaining input, if a is the outcome's value; keeps a fault. `p >>= f` runs p before that
+-- runs the parser `f a` on the remaining input, if a is the outcome's value; keeps a fault. In `p >>= f`, p has this outcome
 abbrev pub and_then : {Fault A B : Type 0} → Outcome Fault A → (A → Parser Fault B) → Outcome Fault B
 and_then (Ok p) f = f p.0 p.1
 and_then (Err e) f = Err e
@@ -112,7 +112,7 @@ meaning_of meaning at None = None
 meaning_of meaning at (Some t) = meaning at t
 
 -- the parser of one token that has a meaning, which it returns. Without a next token, or if that has no meaning, the parser fails
--- with the fault that `wrong` gives.
+-- with the fault that `wrong` returns for the input.
 abbrev pub one_from : {Fault A : Type 0} → (Input → Fault) → (ℕ → GrammarToken → Option A) → Parser Fault A
 one_from wrong meaning = λ i. accept_as wrong (meaning_of meaning (offset i) (next_token i)) i
 
@@ -136,6 +136,6 @@ item_bound false ps = length ps
 abbrev pub further_from : {Fault A : Type 0} → Bool → (GrammarToken → Bool) → Parser Fault A → List A → Parser Fault (List A)
 further_from one begins item found = λ i. many_from begins item (item_bound one i.left) found i
 
--- reads nothing if the text ends here, and else fails with the fault that `wrong` gives
+-- reads nothing if the text ends here, and else fails with the fault that `wrong` returns for the input
 abbrev pub end_from : {Fault : Type 0} → (Input → Fault) → Parser Fault (Unit {0})
 end_from wrong = λ i. if is_end i.ending i.left then Ok (tt, i) else Err (wrong i)

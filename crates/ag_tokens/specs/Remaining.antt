@@ -36,7 +36,7 @@ abbrev pub ending_at : ℕ → List ℕ → Ending
 ending_at at [] = ending.EndsAt at
 ending_at at (c ∷ cs) = ending.NoTokenAt at
 
--- the ending for a fault of the lexer
+-- the ending at the offset `at`, where the characters `cs` begin and the lexer fails with this fault
 abbrev pub ending_by : TokenFault → ℕ → List ℕ → Ending
 ending_by token_fault.Nothing at cs = ending_at at cs
 ending_by token_fault.TooLarge at cs = ending.TooLargeAt at

@@ -116,7 +116,8 @@ pub record Reaches (from : ℕ) (cs : List ℕ) (at : ℕ) (rest : List ℕ) : T
   pub placed : List PlacedToken
   pub before : AreTokens from cs placed at rest
 
--- Whole tokens and separators extend up to the offset `at`. The character there is not a separator and begins no token.
+-- Whole tokens and separators extend up to the offset `at`. The character there is not a separator, and no token begins with it,
+-- not even one whose number or place is above its limit.
 pub record NoTokenAt (from : ℕ) (cs : List ℕ) (at : ℕ) : Type 0 where
   pub first : ℕ
   pub rest : List ℕ

@@ -53,7 +53,7 @@ fn fault_before(fault: TokenFault, rest: &str) -> Option<TokenFault>
 }
 
 impl<'t> Cursor<'t> {
-    /// Returns a cursor at the first token of a text. Does not allocate.
+    /// Returns a cursor at the first token of a text.
     pub fn new(text: &'t str) -> Cursor<'t>
         ensures { Lexes 0 (chars text.now) result }
     {
@@ -67,7 +67,6 @@ impl<'t> Cursor<'t> {
 
     /// Returns a cursor at the first token at or after the byte offset `from`, which must be at the
     /// beginning of a character or the end of the text. Its offsets are those of the whole text.
-    /// Does not allocate.
     pub fn at(text: &'t str, from: usize) -> Cursor<'t>
         requires { IsCharBoundary text.now from }
         ensures { Lexes from (chars (drop from text.now)) result }
@@ -82,7 +81,7 @@ impl<'t> Cursor<'t> {
     }
 
     /// Returns the next token, or `None` if the text ends here, or if no token begins here, or if
-    /// the number or place of the token here is above its limit. Does not allocate.
+    /// the number or place of the token here is above its limit.
     pub fn peek(&self) -> Option<GrammarToken<'t>>
         ensures { option_map token_of result ≡ next_token self.now }
     {
@@ -92,8 +91,7 @@ impl<'t> Cursor<'t> {
         }
     }
 
-    /// Returns the byte offset of the next token, or the byte offset where the tokens end. Does not
-    /// allocate.
+    /// Returns the byte offset of the next token, or the byte offset where the tokens end.
     #[tactic(auto, using(crate::proofs::States::offset_is))]
     pub fn offset(&self) -> usize
         ensures { result ≡ offset self.now }
@@ -101,7 +99,7 @@ impl<'t> Cursor<'t> {
         self.text.len() - self.rest.len()
     }
 
-    /// Returns whether the text ends here. Does not allocate.
+    /// Returns whether the text ends here.
     #[tactic(auto, using(crate::proofs::States::ends_here))]
     pub fn is_at_end(&self) -> bool
         ensures { result ≡ is_end self.now.ending self.now.left }
@@ -110,7 +108,7 @@ impl<'t> Cursor<'t> {
     }
 
     /// Returns why no token can be read here, or `None` if there is a next token or the text ends
-    /// here. Does not allocate.
+    /// here.
     pub fn fault(&self) -> Option<TokenFault>
         ensures { result ≡ fault_of self.now.ending self.now.left }
     {
@@ -120,7 +118,7 @@ impl<'t> Cursor<'t> {
         }
     }
 
-    /// Advances past the next token; does nothing if there is none. Does not allocate.
+    /// Advances past the next token; does nothing if `peek` returns `None`.
     pub fn bump(&mut self)
         ensures { self.new ≡ next self.old }
     {

@@ -51,8 +51,7 @@ pub fn starts_name(c: char) -> bool
     unicode_ident::is_xid_start(c) || c == '_'
 }
 
-/// Returns the first character and the text after it, or `None` if the text is empty. Does not
-/// allocate.
+/// Returns the first character and the text after it, or `None` if the text is empty.
 pub fn first(text: &str) -> Option<(char, &str)>
     ensures { MatchOption result (chars text.now ≡ []) (λ x. lexing.IsSplit text.now x.0 x.1.now) }
 {
@@ -75,7 +74,7 @@ fn after_one(class: Class, text: &str) -> Option<&str>
 }
 
 /// Splits a text after its longest prefix of characters of the class; returns the prefix and the
-/// rest. Does not allocate.
+/// rest.
 pub fn split_after(class: Class, text: &str) -> (&str, &str)
     ensures prefix { result.0.now ≡ encode_utf8_all (prefix_in class (chars text.now)) }
     ensures rest { chars result.1.now ≡ rest_in class (chars text.now) }
@@ -87,7 +86,7 @@ pub fn split_after(class: Class, text: &str) -> (&str, &str)
     text.split_at(text.len() - rest.len())
 }
 
-/// Returns the text after its leading separators. Does not allocate.
+/// Returns the text after its leading separators.
 pub fn skip_separators(text: &str) -> &str
     ensures { chars result.now ≡ after_separators (chars text.now) }
 {
@@ -460,7 +459,6 @@ fn plain_token<'t>(
 
 /// Reads the first token of a text; returns it and the text after it. Fails with `Nothing` if no
 /// token begins there, and with `TooLarge` if the number or place of the token is above its limit.
-/// Does not allocate.
 ///
 /// The functions that read a name, a quoted text or an occurrence are not inlined, and return less
 /// than a whole token; so this function assembles the token in registers.
@@ -479,7 +477,7 @@ pub fn leading_token(text: &str) -> Result<(GrammarToken<'_>, &str), TokenFault>
 }
 
 /// Reads the first token of a text, as `leading_token` does, if it is punctuation or a number below
-/// 10^18. Otherwise returns `None`. Does not allocate.
+/// 10^18. Otherwise returns `None`.
 #[inline(always)]
 #[tactic(auto, using(crate::proofs::TokenLaws::marked_token, crate::proofs::Numerals::numbered_token))]
 pub fn quick_token(text: &str) -> Option<(GrammarToken<'_>, &str)>

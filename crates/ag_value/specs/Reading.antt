@@ -1,5 +1,6 @@
--- Reading a value from a prefix of some bytes, as a plain function on lists. `value_at` with 64 levels reads the spelling of
--- each well value. The other values that it returns are too heavy, but well otherwise. Lemmas in `proofs` show both.
+-- Reading a value from a prefix of some bytes, as plain functions on lists. A name that ends with `_at` reads what is at the
+-- beginning of the bytes (in `operations` such names have another meaning). `value_at` with 64 levels reads the spelling of each
+-- well value. The other values that it returns are well but for a weight above the limit. Lemmas in `proofs` show both.
 use Rattle.std.specs.Prelude.{◌≡◌, ℕ, zero, suc, List, [], ◌∷◌, ◌++◌, length, take, drop, map, Option, Some, None, Result, Ok}
 use Rattle.std.specs.Prelude.{Err, nat_lt, if◌then◌else◌}
 use Rattle.std.specs.Option.{option_and_then}
@@ -17,17 +18,18 @@ use Rattle.ag_value.specs.Well.{are_keys, key_of}
 abbrev pub Read : Type 0 → Type 0
 Read A = Option (A × List ℕ)
 
--- the result of f for the value of an option
+-- the result of f for the value of the option o, or `None` if o is `None`
 infixl 10 ◌>>=◌
 abbrev pub ◌>>=◌ : {A B : Type 0} → Option A → (A → Option B) → Option B
 o >>= f = option_and_then f o
 
--- what the fault of a function says of the result `read` of reading: after V1 it is `None`; after NoMemory nothing is claimed
+-- if a function of the code fails with Malformed (V1), `read`, the result of reading by these definitions, is `None`; if it fails
+-- with NoMemory, nothing is claimed
 abbrev pub Fails : {Y : Type 0} → ValueFault → Option Y → Type 0
 Fails fault.Malformed read = read ≡ None
 Fails fault.NoMemory read = Unit {0}
 
--- the result of a function, mapped by `view`, is the result of reading, unless the function ran out of memory
+-- the result of a function of the code, mapped by `view`, is the result `read`, unless the function ran out of memory
 abbrev pub Agrees : {X Y : Type 0} → (X → Y) → Result X ValueFault → Option Y → Type 0
 Agrees view (Ok x) read = read ≡ Some (view x)
 Agrees view (Err e) read = Fails e read
@@ -42,7 +44,7 @@ unfoldable pub text_at : List ℕ → Read (List ℕ)
 text_at bytes = number_at w32 bytes >>= λ n.
     if nat_lt (length n.1) n.0 then None else (if is_utf8 (take n.0 n.1) then Some (take n.0 n.1, drop n.0 n.1) else None)
 
--- the error with this number from 1 to 8; `None` for any other number
+-- the error with this number (no bytes are read), from 1 to 8; `None` for any other number
 abbrev pub code_at : ℕ → Option ErrorCode
 code_at zero = None
 code_at (suc zero) = Some code.Overflow
@@ -69,7 +71,7 @@ all_at item (suc n) prefix bytes = item bytes >>= λ first. all_at item n (prefi
 unfoldable pub pair_at : (List ℕ → Read Value) → List ℕ → Read (List ℕ × Value)
 pair_at item bytes = text_at bytes >>= λ key. item key.1 >>= λ value. Some ((key.0, value.0), value.1)
 
--- A value that a list or table may contain, of a depth of at most `levels`. The keys of a table rise.
+-- a value that a list or table may contain (`is_item`), of a depth of at most `levels`
 unfoldable pub item_at : ℕ → List ℕ → Read Value
 item_at levels [] = None
 item_at levels (zero ∷ rest) = number_at w64 rest >>= λ n. Some (v.Num (cast_signed w64 n.0), n.1)

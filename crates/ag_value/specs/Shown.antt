@@ -19,8 +19,8 @@ name_of code.Number = codes "number"
 name_of code.Big = codes "big"
 name_of code.Deep = codes "deep"
 
--- a character in quotes: `"` and `\` have a backslash before them; line feed, carriage return and tab are `\n`, `\r` and `\t`;
--- all others are as they are
+-- a character as it is written inside quotes: `"` and `\` have a backslash before them; line feed, carriage return and tab are
+-- `\n`, `\r` and `\t`; all others are as they are
 abbrev pub escaped : ℕ → List ℕ
 escaped c =
     if c == 34 then codes "\\\"" else

@@ -17,7 +17,8 @@ number_of code.Number = 6
 number_of code.Big = 7
 number_of code.Deep = 8
 
--- the number of the bytes in four bytes (its lowest four, if it is 2^32 or more, which no well value has), and then the bytes
+-- the number of the bytes, in four bytes, and then the bytes. A number from 2^32 on loses its higher bytes, but no well value has
+-- a key or a text of that length.
 abbrev pub counted : List ℕ → List ℕ
 counted bytes = to_be_bytes w32 (length bytes) ++ bytes
 

@@ -53,7 +53,7 @@ key_of p = p.0
 abbrev pub is_item_pair : List ℕ × Value → Bool
 is_item_pair p = is_item p.1
 
--- whether a value is an error, from its outermost form
+-- whether a value is an error, from its outermost level
 abbrev pub fault_step : Value-F Bool → Bool
 fault_step (Value-F.Num n) = false
 fault_step (Value-F.Text text) = false

@@ -6,15 +6,15 @@ ghost use Rattle.ag_value.specs.declared.fault.ValueFault.TheVariants as value_f
 
 use std::alloc::{AllocError, AllocFailed};
 
-/// The fault of a call that can only run out of memory: the allocator refused memory, or a counter
-/// of 64 bits, of bytes or of the owners of a shared value, is at its end.
+/// The fault of a call that can only run out of memory: the allocator refused memory, or a number
+/// of bytes or of owners of a shared value would exceed 2^64 - 1.
 #[derive(Clone, Copy, Debug, PartialEq, Eq)]
 pub enum NoMemory {
     NoMemory,
 }
 
-/// The faults that only say that memory ran out. A crate converts all of them to its own fault by
-/// one `impl From`.
+/// The faults that have no other cause than those of [`NoMemory`]: two of std, and `NoMemory`. A
+/// crate converts all three to its own fault by one `impl From`.
 pub trait OutOfMemory: Drop {}
 
 impl OutOfMemory for AllocError {}

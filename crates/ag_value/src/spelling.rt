@@ -1,4 +1,4 @@
-//! The spelling of a value in bytes, which is written and read, and its text for a reader.
+//! Writing and reading the spelling of a value (its encoding in bytes), and its text for a reader.
 
 pub mod decoding;
 pub mod encoding;

@@ -1,4 +1,4 @@
--- The meaning of building a translator: the grammar of a text, or its first fault. All of this is this
+-- The meaning of building a translator: the grammar of a text, or its first fault. In this file t is a text. All of this is this
 -- project's.
 use Rattle.std.specs.Prelude.{ℕ, List}
 use Rattle.ag_grammar.specs.grammars.AttributeGrammar.{Grammar}

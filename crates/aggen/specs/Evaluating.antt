@@ -1,5 +1,7 @@
--- The effects of evaluating the tree of a file: the files on the devices, and the meaning of the faults. All
--- of this is this project's.
+-- The effects of evaluating the tree of a file: the files on the devices, and the meaning of the faults. In this file g is a
+-- grammar and m an assignment of passes. `content` is the content of the tree's device, a and b are the contents of the other two
+-- devices after the call, and `honest_tree` (ht), `honest_a` (ha) and `honest_b` (hb) say whether these devices are honest. `old`
+-- and `new` are the output's bytes before and after the call, if a contract can name them. All of this is this project's.
 use Rattle.std.specs.Prelude.{ℕ, ◌≤◌, List, Bool, Option}
 use Rattle.ag_grammar.specs.grammars.AttributeGrammar.{Grammar}
 use Rattle.ag_grammar.specs.grammars.Passes.{Passes}
@@ -27,8 +29,8 @@ abbrev pub EvaluatesTree : Grammar → (honest_tree honest_a honest_b : Bool) �
     → Report → Type 0
 EvaluatesTree g = Evaluates (ArePassesOf g) g
 
--- All passes ran over the one tree whose file of pass 0 a content is: the last two tree files have its solution,
--- and the report is true.
+-- `content` is the file of pass 0 of exactly one tree, and all passes ran over this tree: the last two tree files have its
+-- solution, and the report is true.
 pub record AreLeftOfTree (g : Grammar) (m : Passes) (content a b : List ℕ) (report : Report) : Type 0 where
   pub tree : Tree
   pub one : IsOneTree (IsTreeInFile g content) tree
@@ -37,16 +39,16 @@ pub record AreLeftOfTree (g : Grammar) (m : Passes) (content a b : List ℕ) (re
       (before_last report.passes report.last content a b)
   pub report_is : IsReport g report.passes tree report
 
--- The report has the greatest pass of an assignment, and if the devices are honest all passes of this assignment ran
--- over the one tree whose file of pass 0 a content is.
+-- The report has the greatest pass of the assignment `rows`. If the devices are honest, all passes of this assignment ran over
+-- the one tree of `content`.
 pub record LeavesFilesOfTree (g : Grammar) (rows : List (List ℕ)) (honest_tree honest_a honest_b : Bool) (content a b : List ℕ)
     (report : Report) : Type 0 where
   pub greatest : IsGreatest report.passes rows
   pub left : WhenHonest honest_tree
       (WhenHonest honest_a (WhenHonest honest_b (AreLeftOfTree g (passes_of rows) content a b report)))
 
--- If the devices are honest, all passes of a least plan ran over the one tree of a content, and the devices have
--- its last two files.
+-- If the devices are honest, all passes of a least plan ran over the one tree of `content`, and the devices have its last two
+-- files.
 pub record LeavesLastFilesOfTree (g : Grammar) (honest_tree honest_a honest_b : Bool) (content a b : List ℕ) : Type 0 where
   pub rows : List (List ℕ)
   pub code : Lists
@@ -54,16 +56,16 @@ pub record LeavesLastFilesOfTree (g : Grammar) (honest_tree honest_a honest_b : 
   pub report : Report
   pub files : LeavesFilesOfTree g rows honest_tree honest_a honest_b content a b report
 
--- Pass 1 of a plan whose passes are numbered from 1 finds this fault in a content that should be the file of pass 0
--- of a tree of the grammar, or finds that this limit is exceeded, before any other fault. Records of pass 0 have no
--- values of rules, so all plans find the same.
+-- Pass 1 of some plan reads a content that should be the file of pass 0 of a tree of the grammar. The first fault or exceeded
+-- limit that it finds is f. The plan's passes are numbered from 1. Records of pass 0 have no values of rules, so all plans find
+-- the same.
 abbrev pub ShowsInFile : Grammar → List ℕ → RunFault → Type 0
 ShowsInFile g content f =
     (plan : List (List ℕ) × Lists) × AreFromOne (passes_of plan.0) × Shows (source (setting_of g plan 1)) content f
 
--- R1: the content is the file of no tree of the grammar, and this shows at the offset. P2: it is the file of
--- none within the limit of levels, which is exceeded before a fault is found. P3: the same with the limit of
--- nodes. The other faults have no meaning for it.
+-- R1: the content is not the file of any tree of the grammar, and this shows at the offset. P2: it is not the file of any tree
+-- within the limit of levels, and this limit is exceeded before a fault is found. P3: the same with the limit of nodes. D1 and
+-- NoMemory say nothing of the content.
 abbrev pub IsTreeFileFault : Grammar → List ℕ → RunFault → Type 0
 IsTreeFileFault g content (run.Damaged at) = ((t : Tree) → IsTreeInFile g content t → ⊥) × ShowsInFile g content (run.Damaged at)
 IsTreeFileFault g content run.TooDeep =

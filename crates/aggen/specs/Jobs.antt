@@ -1,5 +1,6 @@
 -- The translation of a job, and the meaning of its faults: for the bytes of the reader, the text of its
--- grammar, and its sentence. All of this is this project's.
+-- grammar, and its sentence. `honest_a` (ha) and `honest_b` (hb) say whether the two devices are honest. The other arguments are
+-- those of `Translating.antt`. All of this is this project's.
 use Rattle.std.specs.Prelude.{◌≡◌, ◌⊎◌, List, ℕ, Bool, Option}
 use Rattle.std.specs.Option.{IfSome}
 use Rattle.ag_grammar.specs.grammars.AttributeGrammar.{Grammar}

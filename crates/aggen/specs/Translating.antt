@@ -1,5 +1,7 @@
--- The effects of translating a sentence: the files on the devices, and the meaning of the faults. All of this
--- is this project's.
+-- The effects of translating a sentence: the files on the devices, and the meaning of the faults. In this file g is a grammar, a
+-- and b are the contents of the two devices after the call, and `honest_a` (ha) and `honest_b` (hb) say whether these devices are
+-- honest. `old` and `new` are the output's bytes before and after the call, if a contract can name them. All of this is this
+-- project's.
 use Rattle.std.specs.Prelude.{ℕ, ◌≡◌, List, Bool, Option}
 use Rattle.ag_grammar.specs.grammars.AttributeGrammar.{Grammar}
 use Rattle.ag_grammar.specs.grammars.Passes.{Passes}
@@ -30,7 +32,8 @@ abbrev pub TranslatesSentence : Grammar → (sentence : List ℕ) → (honest_a 
     → (old new : Option (List ℕ)) → Report → Type 0
 TranslatesSentence g sentence = Translates (IsTreeOfSentence g sentence) (ArePassesOf g) g
 
--- All passes ran over a tree: the contents a and b are its last two tree files, with its solution, and the report is true.
+-- All passes of the assignment m ran over a tree: the contents a and b are its last two tree files, with its solution, and the
+-- report is true.
 pub record AreLeft (g : Grammar) (m : Passes) (t : Tree) (a b : List ℕ) (report : Report) : Type 0 where
   pub values : Valuation
   pub leaves : LeavesSolution g m report.passes t values (last_content report.last a b) (other_content report.last a b)

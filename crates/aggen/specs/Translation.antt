@@ -33,8 +33,9 @@ pub record IsReport (g : Grammar) (passes : ℕ) (t : Tree) (report : Report) : 
   pub read : report.read ≡ passes * node_count t
   pub written : report.written ≡ passes * node_count t
 
--- The translation of a tree was written: the last two tree files (`last`, `previous`) have its solution, the bytes
--- that were added to the output are the text of its root, and the report is true.
+-- The translation of a tree was written: the last two tree files (`last`, `previous`) have its solution, the bytes that were
+-- added to the output are the text of its root, and the report is true. m is the assignment of passes, and `passes` their number.
+-- `old` and `new` are the output's bytes before and after the call, if a contract can name them.
 pub record IsTranslated (g : Grammar) (m : Passes) (passes : ℕ) (t : Tree) (last previous : List ℕ) (old new : Option (List ℕ))
     (report : Report) : Type 0 where
   pub values : Valuation
@@ -95,14 +96,14 @@ pub record IsTreeInFile (g : Grammar) (content : List ℕ) (t : Tree) : Type 0 w
   pub tree : IsTreeOf g t
   pub file : IsFirstFile version_two g t content
 
--- The content of the file of the pass before the last one, for a tree that has a file of its own: that file if at
--- most one pass runs, and otherwise the content of the other device.
+-- The content of the file of the pass before the last one, for a tree that has a file of its own: that file if at most one pass
+-- runs, and otherwise the content of the device that does not have the last file.
 abbrev pub before_last : (passes : ℕ) → Last → (tree a b : List ℕ) → List ℕ
 before_last zero last tree a b = tree
 before_last (suc zero) last tree a b = tree
 before_last (suc (suc k)) last tree a b = other_content last a b
 
--- There is exactly one tree whose file of pass 0 the content is, and its translation was written.
+-- The content is the file of pass 0 of exactly one tree, and this tree's translation was written.
 pub record IsEvaluated (g : Grammar) (m : Passes) (passes : ℕ) (content a b : List ℕ) (old new : Option (List ℕ))
     (report : Report) : Type 0 where
   pub tree : Tree
@@ -110,7 +111,7 @@ pub record IsEvaluated (g : Grammar) (m : Passes) (passes : ℕ) (content a b : 
   pub translated : IsTranslated g m passes tree (last_content report.last a b)
       (before_last passes report.last content a b) old new report
 
--- The translation theorem for the file of a tree: it holds of the one tree whose file of pass 0 the content is.
+-- The translation theorem for the file of a tree: the content is the file of pass 0 of one tree, and the theorem holds of it.
 pub record Evaluates (ArePasses : Passes → ℕ → Type 0) (g : Grammar) (honest_tree honest_a honest_b : Bool) (content a b : List ℕ)
     (old new : Option (List ℕ)) (report : Report) : Type 0 where
   pub assignment : Passes

@@ -45,8 +45,8 @@ use tree_upgrade::upgrade;
 use treefile::{Device, Writer};
 
 /// A grammar with its look-ahead tables, its plan, and the allocator of its calls. The invariant:
-/// the grammar is accepted, the tables have exactly its predictions, and the plan is its least one.
-/// Contracts see the grammar in place of a translator.
+/// the grammar is accepted, the tables have exactly the grammar's predictions, and the plan is the
+/// grammar's least one. Contracts see the grammar in place of a translator.
 #[derive(Drop)]
 pub struct Translator {
     grammar: Grammar,
@@ -249,14 +249,13 @@ impl Translator {
     /// the last pass, `a` or `b`. The other one has the file of the pass before it, unless there is
     /// only one pass: then `tree` has that file.
     ///
-    /// Fails with R1 only if the content of `tree` is the file of pass 0 of no tree of the grammar.
-    /// If a limit is exceeded first, when the content is read from its end, fails with P2 or P3
-    /// instead: the content is then the file of no tree of at most `MAX_DEPTH` levels (65,536; P2),
-    /// or of none of at most `MAX_NODES` nodes (1,048,576; P3), and may be the file of no tree at
-    /// all. Fails with O1 NoText if the translation is not a text, with O2 Write if a write failed
-    /// or took no byte, with D1 Device if a call of a device failed, and with NoMemory if memory is
-    /// refused. B1, B2, or R1, P2 or P3 of a later pass's file are possible only on a device that
-    /// does not return the bytes that were written.
+    /// Fails with R1 only if the content of `tree` is not the file of pass 0 of any tree of the
+    /// grammar. If a limit is exceeded first, when the content is read from its end, fails with P2
+    /// or P3 instead: then the content is not the file of any tree of at most `MAX_DEPTH` levels
+    /// (65,536; P2) or `MAX_NODES` nodes (1,048,576; P3). Fails with O1 NoText if the translation
+    /// is not a text, with O2 Write if a write failed or took no byte, with D1 Device if a call of
+    /// a device failed, and with NoMemory if memory is refused. B1, B2, or R1, P2 or P3 of a later
+    /// pass's file are possible only on a device that does not return the bytes that were written.
     ///
     /// After every fault except O2 `out` is unchanged. After O1 and O2 the last two tree files are
     /// where they are after success. After each other fault each of `a` and `b` has its old
@@ -314,13 +313,13 @@ impl Translator {
     /// file in another order: those of a node's children from right to left, and then the node's.
     /// `old` is only read. Returns the number of nodes.
     ///
-    /// Fails with R1 only if the content of `old` is the file of version 1 and pass 0 of no tree of
-    /// the grammar. If a limit is exceeded first, when the content is read from its end, fails with
-    /// P2 or P3 instead: the content is then the file of no tree of at most `MAX_REVERSED_DEPTH`
-    /// levels (256; P2), or of none of at most `MAX_REVERSED_NODES` nodes (65,536; P3), and may be
-    /// the file of no tree at all. Fails with D1 if a call of a device failed, and with NoMemory if
-    /// memory is refused. R1 with an offset in `mid`, and P2 for its content, are possible only if
-    /// `mid` does not return the bytes that were written.
+    /// Fails with R1 only if the content of `old` is not the file of version 1 and pass 0 of any
+    /// tree of the grammar. If a limit is exceeded first, when the content is read from its end,
+    /// fails with P2 or P3 instead: then the content is not the file of any tree of at most 256
+    /// levels (`MAX_REVERSED_DEPTH`; P2) or 65,536 nodes (`MAX_REVERSED_NODES`; P3). Fails with D1
+    /// if a call of a device failed, and with NoMemory if memory is refused. R1 with an offset in
+    /// `mid`, and P2 for its content, are possible only if `mid` does not return the bytes that
+    /// were written.
     ///
     /// After a fault `mid` has its old content or a prefix of a file with the pass number 1, and
     /// `to` has its old content or a prefix of a file of pass 0. Claims on contents hold if the

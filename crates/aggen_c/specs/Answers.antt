@@ -13,21 +13,21 @@ use Rattle.aggen_c.specs.declared.refusal.RefusalFields.{RefusalFields}
 abbrev pub IsCopied : (bytes old new : List ℕ) → Type 0
 IsCopied bytes old new = new ≡ take (min (length bytes) (length old)) bytes ++ drop (min (length bytes) (length old)) old
 
--- The buffer of a message has a message of this length, or as many of its first bytes as there is room for. A missing
--- message counts as the empty one, of length 0.
+-- The buffer of a message has a message of `count` bytes, or as many of its first bytes as there is room for. A missing message
+-- counts as the empty one, of length 0.
 pub record HasMessage (old new : List ℕ) (count : ℕ) : Type 0 where
   pub message : List ℕ
   pub copied : IsCopied message old new
   pub counted : count ≡ length message
 
--- Bytes were copied to a buffer, with status 0, and the count is that of all of them.
+-- Bytes were copied to a buffer, with status 0, and `count` is the number of all these bytes, copied or not.
 pub record IsWritten (bytes old new : List ℕ) (count status : ℕ) (fields : RefusalFields) : Type 0 where
   pub copied : IsCopied bytes old new
   pub counted : count ≡ length bytes
   pub zero : status ≡ 0
   pub none : fields ≡ no_fields
 
--- a buffer is as before, and the count is 0
+-- a buffer is as before, and the number of bytes of the result, `count`, is 0
 abbrev pub IsUnwritten : (old new : List ℕ) → (count : ℕ) → Type 0
 IsUnwritten old new count = (new ≡ old) × (count ≡ 0)
 

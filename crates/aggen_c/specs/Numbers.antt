@@ -94,7 +94,7 @@ job_number job.Read = numbered 74 2
 job_number job.TooLong = numbered 74 3
 job_number job.NoMemory = unnumbered
 
--- the number of a fault; a misused command line has none either
+-- the number of a fault; `unnumbered` for NoMemory and for a misused command line
 abbrev pub number_of : Fault → Number
 number_of fault.Usage = unnumbered
 number_of fault.File = numbered 70 1
@@ -156,7 +156,7 @@ scan_offset (scan.LongToken at) = at
 scan_offset scan.TooLong = no_offset
 scan_offset scan.NoMemory = no_offset
 
--- the offset of a fault, in bytes from 0
+-- the offset of a fault, in bytes from 0; `no_offset` if it has none
 abbrev pub offset_of : Fault → ℕ
 offset_of (fault.Expr e) = expr_offset e
 offset_of (fault.Text e) = text_offset e

@@ -22,7 +22,7 @@ pub enum Operation {
     Translate,
     /// Translates the tree in a tree file of pass 0.
     Evaluate,
-    /// Returns the tree file of pass 0 of a sentence.
+    /// Returns the tree file of pass 0 of a sentence's tree.
     Parse,
     /// Returns the listing of the passes. The input is not used.
     Plan,

@@ -10,6 +10,7 @@ use std::marker::Model;
 pub struct RawBox<T, A: Allocator> {
     pub(crate) ptr: *mut T,
     pub(crate) alloc: A,
+    // for proofs: the value in the box
     pub ghost value: { T },
 }
 

@@ -51,6 +51,7 @@ impl RefusalFields {
 /// Why a call was refused.
 #[derive(Drop)]
 pub struct Refusal {
+    /// The status that the call returns.
     pub status: u8,
     pub fields: RefusalFields,
     /// The message. `None` if memory for it was refused, if the handle has no translator, and

@@ -5,7 +5,7 @@ use Rattle.agoutput.specs.Writing.{AppendsBeginning}
 use Rattle.ag_fault.specs.declared.fault.Fault.{Fault}
 use Rattle.ag_fault.specs.declared.fault.Fault.TheVariants as fault
 
--- a failed write (O2), or refused memory
+-- a write that failed or took no byte (O2), or refused memory
 abbrev pub IsPrintingFault : Fault → Type 0
 IsPrintingFault fault.Write = Unit {0}
 IsPrintingFault fault.NoMemory = Unit {0}

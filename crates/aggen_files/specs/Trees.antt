@@ -25,8 +25,8 @@ EvaluatesFile g honest content old new report = (a b : List ℕ) × EvaluatesTre
 abbrev pub IsFileEvaluationFault : Grammar → (honest_tree : Bool) → List ℕ → (old new : Option (List ℕ)) → Fault → Type 0
 IsFileEvaluationFault g honest content old new e = IsEvaluationFault g honest true true content old new e
 
--- If the old file is honest, it has exactly one tree, with `count` nodes; the new file, if honest, has the same tree. `content`
--- is the content of the old file, and `tree` that of the new one. `between` is the content of the device in memory that the
+-- If the old file is honest (`honest_old`), its content `content` has exactly one tree, with `count` nodes. If the new file is
+-- honest (`honest_tree`), its content `tree` has the same tree. `between` is the content of the device in memory that the
 -- conversion uses.
 abbrev pub UpgradesFile : Grammar → (honest_old : Bool) → List ℕ → (honest_tree : Bool) → List ℕ → ℕ → Type 0
 UpgradesFile g honest_old content honest_tree tree count =

@@ -1,8 +1,9 @@
-//! The commands of the program over files. A command calls the translator with one or two devices
-//! over files; `WorkFiles::evaluate` has a third device, of any kind, for the tree. If a command
-//! writes to a device over a file, it also writes out the file. So the file has the whole content of
-//! the device, unless D1 comes. A command prints to any writer, and its contract says what was
-//! printed if a contract can name the bytes of this writer.
+//! The functions that `aggen run --work`, `parse`, `eval` and `upgrade` call. Here they are called
+//! commands. A command calls the translator with one or two devices over files;
+//! `WorkFiles::evaluate` has a third device, of any kind, for the tree. If a command writes to a
+//! device over a file, it also writes out the file. So the file has the whole content of the
+//! device, unless D1 comes. A command prints to any writer, and its contract says what was printed
+//! if a contract can name the bytes of this writer.
 //!
 //! `WorkFiles::open` opens two files. `print_count` prints the line with the number of nodes for
 //! `parse_to_file` and `upgrade_file`.

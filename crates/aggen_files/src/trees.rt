@@ -110,8 +110,8 @@ pub fn evaluate_file<F: Read + Write + Seek + OpenFile, W: Write>(
 }
 
 /// Converts the tree file of version 1 on `old` to version 2, and replaces the content of `tree`
-/// with the converted file. Then prints a line with the number of the tree's nodes, and returns this
-/// number.
+/// with the converted file. Then prints a line with the number of the tree's nodes, and returns
+/// this number.
 ///
 /// All of `old` is read before `tree` is written; the converted records are kept in memory in the
 /// meantime. So both may be devices over one file. That file then has the new tree file, not the
@@ -119,9 +119,9 @@ pub fn evaluate_file<F: Read + Write + Seek + OpenFile, W: Write>(
 /// same by the record of its own calls.
 ///
 /// Fails with D1 if the new file can't be written out, even if the conversion failed with another
-/// fault. Otherwise fails as `Translator::upgrade` and `print_count` do. After O2 the new file is the converted one, and a
-/// prefix of the line was printed. After another failure the device `tree` has the content that it
-/// had, a prefix of a file of pass 0, or the whole converted file.
+/// fault. Otherwise fails as `Translator::upgrade` and `print_count` do. After O2 the new file is
+/// the converted one, and a prefix of the line was printed. After another failure the device `tree`
+/// has the content that it had, a prefix of a file of pass 0, or the whole converted file.
 pub fn upgrade_file<F: Read + Write + Seek + OpenFile, W: Write>(
     alloc: Global,
     translator: &Translator,

@@ -1,5 +1,5 @@
-//! The commands `check`, `plan` and `code`, which print something about a grammar, and `value`,
-//! which prints the value of an expression.
+//! The commands `check`, `plan` and `code`, which print counts, passes and instructions of a
+//! grammar, and `value`, which prints the value of an expression.
 
 use aggen::{Fault, print_code, print_counts, print_plan, show_value};
 use command_line::InputPath;
@@ -47,8 +47,9 @@ fn write_part<R: Print>(rt: &R, alloc: Global, text: &[u8], part: Part) -> Resul
     }
 }
 
-/// Prints the value of an expression. The value is written to a tree file in memory, and read back, as `show_value` of
-/// `aggen` does with each device.
+/// Prints the value of an expression. `show_value` of `aggen` writes the value to a tree file in
+/// memory, and prints what it reads back.
+///
 /// Fails with X1 to X4 if the text is not an expression, with X2 if the expression has occurrences
 /// of attributes (`$1.a`), with O2 if the output fails, and if memory is refused.
 pub fn print_value<R: Print>(rt: &R, alloc: Global, text: &str) -> Result<(), FaultReport> {

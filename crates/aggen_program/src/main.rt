@@ -1,7 +1,7 @@
 //! `aggen`: translators from attribute grammars.
 //!
 //! `run G S` translates the sentence in a file by the grammar in a file, and prints the
-//! translation; `eval G TREE` translates the tree in a tree file. With no word the program
+//! translation; `eval G TREE` translates the tree in a tree file. Without arguments the program
 //! translates the job on standard input. `check G` checks a grammar, and prints its numbers of
 //! symbols and productions; `plan G` and `code G` print its passes and what they do; `why G` prints
 //! why the passes are needed, and `why G SYMBOL.attribute` why no earlier pass can compute the
@@ -38,9 +38,10 @@ const FOLDER: &str = "/";
 
 /// Runs the program.
 ///
-/// If a standard stream is closed, the system gives its number to the file that is opened next. So
-/// the folder `/` is opened three times first, and kept open while the program runs. Reading from a
-/// closed stream, or printing to one, then fails, and doesn't read or write a tree file.
+/// If a standard stream is closed, the system gives its file descriptor to the file that is opened
+/// next. So the folder `/` is opened three times first, and kept open while the program runs.
+/// Reading from a closed stream, or printing to one, then fails, and doesn't read or write a tree
+/// file.
 fn main(rt: HostRuntime) -> ExitCode {
     let _input = fs::open(&rt, FOLDER);
     let _output = fs::open(&rt, FOLDER);
@@ -48,9 +49,9 @@ fn main(rt: HostRuntime) -> ExitCode {
     exit_code(&rt, rt.stderr().is_terminal())
 }
 
-/// Runs the command of the command line, and returns the status. `is_terminal` says whether standard error is a
-/// terminal. If no command line is parsed, the message of a failure is printed without colour
-/// (`Screen::plain`).
+/// Runs the command of the command line, and returns the status. `is_terminal` says whether
+/// standard error is a terminal. If parsing the command line fails, the message is printed without
+/// colour (`Screen::plain`).
 fn exit_code<R: Env + Files + Input + Print + Eprint + Clock + AllocGlobal>(
     rt: &R,
     is_terminal: bool,
@@ -96,9 +97,9 @@ fn fault_of(fault: CommandLineFault) -> Fault
     }
 }
 
-/// Runs the command of a request. Returns the status 0 or, for `run` with `--out-dir`, the status of
-/// the first sentence that failed, if one did. The messages of all failed sentences were printed
-/// then. Any other failure is returned as its report.
+/// Runs the command of a request. Returns the status 0, except for `run` with `--out-dir`: if
+/// sentences failed, this prints their messages, and returns the status of the first one. On any
+/// other failure returns its report.
 fn perform<R: Files + Input + Print + Eprint + Clock>(
     rt: &R,
     alloc: Global,

@@ -15,11 +15,12 @@ use std::alloc::Global;
 use std::io::{self, Write};
 use std::rt::Files;
 
-/// Prints why a grammar needs its passes or, for an attribute, why no pass before its own can
-/// compute it. If no assignment of passes is legal, prints why, and fails with A1.
+/// Prints why a grammar needs its passes or, if an attribute is named, why no pass before that of
+/// the attribute can compute it. If no assignment of passes is legal, prints why, and fails with
+/// A1.
 ///
-/// Also fails if the grammar can't be read or is refused, if it does not have the attribute (`usage`), if the output
-/// fails (O2), and if memory is refused.
+/// Also fails if the grammar can't be read or is refused, if it does not have the attribute
+/// (`usage`), if the output fails (O2), and if memory is refused.
 pub fn explain_plan<R: Files + Input + Print>(
     rt: &R,
     alloc: Global,
@@ -92,7 +93,7 @@ fn text_of_plan(
 }
 
 /// Returns why no pass computes some attributes of a grammar or, if an attribute is given, why no
-/// pass computes this one. If it is not one of those attributes, the text says so.
+/// pass computes this one. If it is not one of those attributes, the text says that.
 fn text_of_stuck(
     alloc: Global,
     source: Source<'_>,
@@ -108,7 +109,7 @@ fn text_of_stuck(
     Ok(text)
 }
 
-/// Prints a text. Fails with NoMemory if memory for it was refused, and with O2 if it can't be written.
+/// Prints a text. Fails with NoMemory if making the text failed, and with O2 if writing it fails.
 fn print_text<R: Print>(
     rt: &R,
     alloc: Global,
@@ -121,8 +122,8 @@ fn print_text<R: Print>(
     }
 }
 
-/// Writes a text. Fails with NoMemory, before anything is written, if memory for it was refused, and with
-/// O2 if a write fails or takes no byte.
+/// Writes a text. If making the text failed, fails with NoMemory, and writes nothing. Fails with O2
+/// if a write fails or takes no byte.
 fn write_explanation<W: Write>(out: &mut W, text: Result<String, NoMemory>) -> Result<(), Fault>
     ensures written { IfOk text (λ t. OnOk result
         (Appends (W.contents out.old) (W.contents out.new) (string_bytes t))) }

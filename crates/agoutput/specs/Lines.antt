@@ -4,11 +4,11 @@ use Rattle.ag_grammar.specs.grammars.AttributeGrammar.{Grammar}
 use Rattle.ag_value.specs.Shown.{shown_of}
 use Rattle.ag_value.specs.declared.value.Value.{Value}
 
--- the line of a value: its text as `show` returns it, and LF
+-- the line of a value: its text as `show` of `ag_value` returns it, and LF
 abbrev pub value_line : Value → List ℕ
 value_line value = shown_of value ++ codes "\n"
 
--- the noun after a number: the singular after 1, else the plural
+-- the noun after a number: `one`, the singular, after 1, else `many`, the plural
 abbrev pub noun_for : ℕ → List ℕ → List ℕ → List ℕ
 noun_for count one many = if count == 1 then one else many
 

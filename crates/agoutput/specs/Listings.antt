@@ -1,6 +1,7 @@
 -- The listings of a plan and of its code, as bytes. In these definitions `rows` is an assignment: it has for each symbol the
--- passes of its attributes, numbered from 1. g is a grammar, k a pass, q a production, p its number, j a place in it (0 is the
--- left side), a an attribute, and r a rule. All of this is this project's.
+-- passes of its attributes, numbered from 1. g is a grammar, k the number of a pass, q a production, p its number, and j a place
+-- in it (0 is the left side). a is the number of an attribute at its symbol, and r the number of a rule in its production, both
+-- from 0. All of this is this project's.
 use Rattle.std.specs.Prelude.{ℕ, zero, suc, ◌≡◌, ◌==◌, if◌then◌else◌, List, [], ◌++◌, Option, map, codes, decimal, slice_index_or}
 use Rattle.std.specs.Io.KnownBytes.{Appends}
 use Rattle.std.specs.List.{enumerate_from, flat_map, zip}
@@ -67,7 +68,7 @@ code_line g p q x =
 abbrev pub production_text : Grammar → (ℕ × Production) × List (List Instr) → List ℕ
 production_text g x = flat_map (code_line g x.0.0 x.0.1) (enumerate_from 1 x.1)
 
--- the listing of code: the lines of the productions from 0, in the order of the grammar's text
+-- the listing of code: the lines of the productions, numbered from 0 in the order of the grammar's text
 abbrev pub code_text : Grammar → Lists → List ℕ
 code_text g code = flat_map (production_text g) (zip (enumerate_from 0 g.productions) code)
 

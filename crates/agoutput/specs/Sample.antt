@@ -1,4 +1,4 @@
--- Examples of listings for the first sample grammar of ag_grammar, `R = A A` with the attributes R.out, A.s and A.i.
+-- Examples of listings for the grammar `sample` of ag_grammar, `R = A A` with the attributes R.out, A.s and A.i.
 use Rattle.std.specs.Prelude.{ℕ, List, [], ◌∷◌, codes}
 
 -- an assignment: all attributes belong to pass 1, which goes from right to left

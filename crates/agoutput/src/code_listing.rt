@@ -161,8 +161,8 @@ fn code_lines(alloc: Global, grammar: &Grammar, code: &Code) -> Result<String, A
 
 /// Writes the listing of a plan's code: one line for each production and pass, with the
 /// instructions of its list. Productions are in the order of the grammar's text, and the lines of a
-/// production in the order of the passes, from 1. `plan` has to be a plan for `grammar`;
-/// the listing of another one could lack lines or names. Contracts see a plan as the pair of its
+/// production in the order of the passes, from 1. `plan` has to be a plan for `grammar`.
+/// The listing of another one could lack lines or names. Contracts see a plan as the pair of its
 /// assignment (`plan.now.0`) and its code (`plan.now.1`).
 ///
 /// Fails with O2 if a write takes no byte, or fails for any reason, for example because the writer

@@ -42,7 +42,7 @@ pub fn nodes_line(alloc: Global, count: u32) -> Result<String, AllocError>
     Ok(line)
 }
 
-/// Returns the noun after a number: the singular after 1, else the plural.
+/// Returns the noun after a number: `one`, the singular, after 1, else `many`, the plural.
 fn noun_for<'a>(count: usize, one: &'a str, many: &'a str) -> &'a str
     ensures { result.now ≡ noun_text count one.now many.now }
 {

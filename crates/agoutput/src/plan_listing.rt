@@ -115,8 +115,8 @@ fn plan_lines(
 
 /// Writes the listing of a plan's passes: a line for each pass from 1, with its direction and the
 /// attributes that it computes. Symbols are in declared order, and for each symbol the synthesized
-/// attributes come before the inherited ones. `plan` has to be a plan for `grammar`;
-/// the listing of another one could lack lines or names. Contracts see a plan as the pair of its
+/// attributes come before the inherited ones. `plan` has to be a plan for `grammar`.
+/// The listing of another one could lack lines or names. Contracts see a plan as the pair of its
 /// assignment (`plan.now.0`) and its code (`plan.now.1`).
 ///
 /// Fails with O2 if a write takes no byte, or fails for any reason, for example because the writer

@@ -7,8 +7,8 @@ ghost use Rattle.passcode.specs.Sample.{sample_list, sample_production};
 ghost use Rattle.agoutput.specs.Listings.{IsPlanListing, code_line};
 ghost use Rattle.agoutput.specs.Sample.{sample_line, sample_plan, sample_rows};
 
-/// States that `sample_plan` is the listing of the passes of the first sample grammar under the
-/// assignment `sample_rows`.
+/// States that `sample_plan` is the listing of the passes of the grammar `sample` of `ag_grammar`
+/// under the assignment `sample_rows`.
 pub fn sample_passes_listed()
     ensures { IsPlanListing sample sample_rows sample_plan }
 {}

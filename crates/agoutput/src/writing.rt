@@ -7,8 +7,8 @@ ghost use Rattle.agoutput.specs.Writing.{AppendsBeginning};
 use crate::fault::TextOutFault;
 use std::io::Write;
 
-/// Writes bytes with as many writes as the writer needs to take all of them. Takes no memory; the
-/// writer may take some.
+/// Writes bytes with as many writes as the writer needs to take all of them. Does not allocate, but
+/// the writer may.
 ///
 /// Fails with O2 if a write takes no byte, or fails for any reason, for example because the writer
 /// is refused memory. A prefix of the bytes, perhaps empty, is written then.
@@ -22,6 +22,7 @@ pub fn write_bytes<W: Write>(out: &mut W, bytes: &[u8]) -> Result<(), TextOutFau
     while !rest.is_empty() {
         match out.write(rest) {
             Ok(0) => return Err(TextOutFault::Write),
+            // By the contract of `write`, `count` is at most the length of `rest`.
             Ok(count) => {
                 let (_, after) = rest.split_at(count);
                 rest = after;

@@ -95,8 +95,8 @@ impl Back {
         Back::start_version(alloc, FileVersion::One, device)
     }
 
-    /// Starts a reader at the end of a tree file of this version. Fails as `start` does, but with B1 if
-    /// the first four bytes are not those of the version (`AGT1` or `AGT2`).
+    /// Starts a reader at the end of a tree file of this version. Fails as `start` does, but with
+    /// B1 if the first four bytes are not those of the version (`AGT1` or `AGT2`).
     fn start_version<D: Device>(
         alloc: Global,
         version: FileVersion,
@@ -126,8 +126,8 @@ impl Back {
     }
 
     /// Lends the body of the frame before the one that was lent last, or of the last frame at the
-    /// first call. Returns `None` if the header ends there. Requires the device of `start`, with
-    /// the same content if it is honest.
+    /// first call. Returns `None` if the header ends there. Requires the device that the reader was
+    /// started on, with the same content if it is honest.
     ///
     /// Fails with B2 Damaged, and the offset where a frame is expected to end (`end`), if none ends
     /// there. Fails with D1 Device if a call of the device failed. After B2 and D1 every later call
@@ -149,7 +149,8 @@ impl Back {
         ensures memory { self.old.progress.fault ≡ None → WhenHonest (D.is_honest device.new)
             (IsErrOf result FrameFault.NoMemory →
             IsLarge (next_before self.old.progress.version (D.content device.old) self.old.progress.at)) }
-        // On any device: the body's length is within the limits, and its frame fits before the offset.
+        // On any device: the body's length is within the limits, and its frame fits before the
+        // offset.
         ensures body { IfOk result (λ found. IfSome found
             (λ body. IsBody self.old.progress.version body.now)) }
         ensures room { IfOk result (λ found. IfSome found
@@ -181,18 +182,19 @@ impl Back {
         }
     }
 
-    /// Returns whether the device lent the last body of the file when the reader was started. If not,
-    /// `lend_back` need not be called: a `SharedDevice` that has shared values would have lent that body.
+    /// Returns whether the device lent the last body of the file when the reader was started. If
+    /// not, `lend_back` need not be called: a `SharedDevice` that has shared values would have lent
+    /// that body.
     #[inline(always)]
     pub fn can_lend(&self) -> bool {
         self.can_lend
     }
 
-    /// Lends the same body as the next call of `back` would, but from the memory of the device. Returns
-    /// `None`, and changes nothing, if `back` has to be called instead: if the device doesn't lend the body
-    /// (`Device::lend_before`), at the header, in a file of version 1, after B2 or D1, and if no
-    /// frame ends at the offset. Requires the device of `start`, with the same content if it is honest.
-    /// Takes no memory.
+    /// Lends the same body as the next call of `back` would, but from the memory of the device.
+    /// Returns `None`, and changes nothing, if `back` has to be called instead: if the device
+    /// doesn't lend the body (`Device::lend_before`), at the header, in a file of version 1, after
+    /// B2 or D1, and if no frame ends at the offset. Requires the device that the reader was
+    /// started on, with the same content if it is honest. Takes no memory.
     #[inline(always)]
     pub fn lend_back<'d, D: Device>(&mut self, device: &'d D) -> Option<Body<'d>>
         requires { WhenHonest (D.is_honest device.now) (IsOver (D.content device.now) self.old) }
@@ -203,7 +205,8 @@ impl Back {
         ensures exact { IfSome result (λ body. WhenHonest (D.is_honest device.now)
             (next_before self.old.progress.version (D.content device.now) self.old.progress.at
             ≡ Ok (Some body))) }
-        // On any device: the body's length is within the limits, and its frame fits before the offset.
+        // On any device: the body's length is within the limits, and its frame fits before the
+        // offset.
         ensures body { IfSome result (λ body. IsBody self.old.progress.version body) }
         ensures room { IfSome result
             (λ body. length body + length_bytes ≤ self.old.progress.at) }

@@ -48,8 +48,8 @@ pub(crate) struct Window {
 impl Window {
     ghost use Rattle.backreader.specs.Windows.{Keeps, taken, unread};
 
-    /// Makes a window at offset `at`, with no bytes read yet and a buffer of 4,096 bytes. Takes memory
-    /// for the buffer, and fails if it is refused.
+    /// Makes a window at offset `at`, with no bytes read yet and a buffer of 4,096 bytes. Takes
+    /// memory for the buffer, and fails if it is refused.
     #[tactic(auto, using(crate::proofs::EndingAt::buffer_is_small))]
     pub(crate) fn new(alloc: Global, version: FileVersion, at: u64) -> Result<Window, AllocError>
         requires { header_bytes ≤ at }
@@ -83,8 +83,8 @@ impl Window {
         self.version == FileVersion::Two
     }
 
-    /// Skips the frame that ends at the offset, whose body has `length` bytes, without reading it: the
-    /// device has lent it. Drops the unread bytes of the buffer.
+    /// Skips the frame that ends at the offset, whose body has `length` bytes, without reading it:
+    /// the device has lent it. Drops the unread bytes of the buffer.
     #[inline(always)]
     pub(crate) fn pass_over(&mut self, length: usize)
         requires { header_bytes + length + length_bytes ≤ self.old.at }
@@ -101,8 +101,8 @@ impl Window {
     ///
     /// Fails with B2 Damaged if no frame ends there, and with D1 Device if a call of the device
     /// failed. Takes memory for a frame that has more bytes than the buffer, and fails with
-    /// NoMemory if it is refused. After NoMemory the offset and the unread bytes are as before, so the
-    /// call can be repeated.
+    /// NoMemory if it is refused. After NoMemory the offset and the unread bytes are as before, so
+    /// the call can be repeated.
     #[inline(always)]
     #[tactic(auto, unfolding(treefile::specs::framing::Backward::next_before))]
     pub(crate) fn next<D: Device>(&mut self, device: &mut D) -> Result<Option<usize>, FrameFault>
@@ -189,8 +189,8 @@ impl Window {
     }
 
     /// Returns the length of the body whose frame ends at the offset, or `None` if no frame ends
-    /// there. Reads the length from the device if it is not in the buffer. Fails with D1 if the device
-    /// fails.
+    /// there. Reads the length from the device if it is not in the buffer. Fails with D1 if the
+    /// device fails.
     #[cold]
     #[inline(never)]
     #[tactic(auto, unfolding(treefile::specs::framing::Ending::body_before))]
@@ -245,8 +245,8 @@ impl Window {
         u32::from_be_bytes(number)
     }
 
-    /// Takes the frame that ends at the offset, and whose body has `length` bytes, from the unread bytes:
-    /// moves the offset and `to` before it.
+    /// Takes the frame that ends at the offset, and whose body has `length` bytes, from the unread
+    /// bytes: moves the offset and `to` before it.
     fn take(&mut self, length: usize)
         requires { length + length_bytes ≤ self.old.to - self.old.from }
         ensures body { (content : List ℕ) →
@@ -310,9 +310,9 @@ impl Window {
         self.fill(device)
     }
 
-    /// Moves the unread bytes to the end of the buffer, and reads the bytes of the file before them: as
-    /// many as the buffer has room for, or all after the header. Fails with `Failed` if the device
-    /// fails; no bytes were added then.
+    /// Moves the unread bytes to the end of the buffer, and reads the bytes of the file before
+    /// them: as many as the buffer has room for, or all after the header. Fails with `Failed` if
+    /// the device fails; no bytes were added then.
     #[cold]
     #[inline(never)]
     fn fill<D: Device>(&mut self, device: &mut D) -> Result<(), DeviceFault>

@@ -8,8 +8,8 @@ use rows::words::{
 use std::alloc::{AllocError, Global};
 use treefile::{Device, DeviceFault, FrameFault, Kind, MemDevice, Writer, last_body, split_body};
 
-/// The number of children of each node in trees of binary fractions, by the number of its production in the grammar
-/// `examples/binary-fractions.ag`.
+/// The number of children of each node in trees of binary fractions, by the number of its
+/// production in the grammar `examples/binary-fractions.ag`.
 struct Fractions {}
 
 impl Arity for Fractions {
@@ -51,17 +51,18 @@ pub fn split_answer(alloc: Global, body: &[u8]) -> Result<String, Mistake> {
     }
 }
 
-/// Returns the pass of a content, its bodies from the last to the first, then how reading ends, and whether the next
-/// call returns the same.
+/// Returns the pass of a content, its bodies from the last to the first, how reading ends (`end` or
+/// a fault), and whether the next call returns the same.
 pub fn back_answer(alloc: Global, bytes: Vec<u8>) -> Result<String, Mistake> {
     bodies_answer(alloc, &mut MemDevice::from_bytes(bytes))
 }
 
-/// The greatest number of calls of a reader.
+/// The greatest number of calls that read the bodies of a file.
 const MAX_READS: u32 = 1000;
 
-/// Returns the pass of a file, its bodies from the last to the first, how reading ends, and whether the next call
-/// returns the same. Fails with `Unfit` if reading doesn't end within `MAX_READS` calls.
+/// Returns the pass of a file, its bodies from the last to the first, how reading ends, and whether
+/// the next call returns the same. Fails with `Unfit` if reading doesn't end within `MAX_READS`
+/// calls.
 fn bodies_answer<D: Device>(alloc: Global, device: &mut D) -> Result<String, Mistake> {
     let mut back = match Back::start(alloc, device) {
         Ok(back) => back,
@@ -105,9 +106,9 @@ fn file_answer(alloc: Global, count: u64, file: &[u8]) -> Result<String, Mistake
     Ok(format!(in alloc; "{count} records, {file}")?)
 }
 
-/// Writes the file of a pass with the records of a text, separated by `;`, and returns it. A record is spelled by its
-/// kind, its number and its values (none, one or three numbers: no row needs another number of them), as `node 4 1` or
-/// `token 0 14`, or by its bytes, as `body 090807`.
+/// Writes the file of a pass with the records of a text, separated by `;`, and returns it. A record
+/// is spelled by its kind, its number and its values (none, one or three numbers: no row needs
+/// another number of them), as `node 4 1` or `token 0 14`, or by its bytes, as `body 090807`.
 pub fn write_answer(alloc: Global, text: &str) -> Result<String, Mistake> {
     let (pass, records) = halves(text, " : ")?;
     let mut device = used_device(alloc)?;

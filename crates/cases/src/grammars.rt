@@ -11,7 +11,7 @@ use normalform::{NormalFault, check, is_readable};
 use rows::words::{Mistake, printed};
 use std::alloc::{AllocError, Global};
 
-/// Returns what a text reads as, or its fault.
+/// Returns the raw grammar of a text (`raw_text`), or the fault of the text.
 pub fn read_answer(alloc: Global, text: &[u8]) -> Result<String, Mistake> {
     match read_grammar(alloc, text) {
         Ok(raw) => raw_text(alloc, &raw),
@@ -69,7 +69,8 @@ fn show_production(answer: &mut String, production: &RawProduction) -> Result<()
     Ok(())
 }
 
-/// Writes the target of a rule and the occurrences in its expression, each with its offset in bytes.
+/// Writes the target of a rule and the occurrences in its expression, each with its offset in
+/// bytes.
 fn show_rule(answer: &mut String, rule: &RawRule) -> Result<(), AllocError> {
     let target = &rule.target;
     write!(
@@ -90,7 +91,8 @@ fn show_rule(answer: &mut String, rule: &RawRule) -> Result<(), AllocError> {
     Ok(())
 }
 
-/// Returns what is expected at the offset of a text's fault. Fails with `Unfit` if the text has no fault.
+/// Returns what is expected at the offset of a text's fault. Fails with `Unfit` if the text has no
+/// fault.
 pub fn could_answer(alloc: Global, text: &str) -> Result<String, Mistake> {
     match read_grammar(alloc, text.as_bytes()) {
         Ok(_) => Err(Mistake::Unfit),
@@ -170,7 +172,8 @@ fn show_literals_and_productions(answer: &mut String, grammar: &Grammar) -> Resu
     Ok(())
 }
 
-/// Writes a line with a production, by numbers: its items, and the targets and arguments of its rules.
+/// Writes a line with a production, by numbers: its items, and the targets and arguments of its
+/// rules.
 fn show_numbers(answer: &mut String, production: &Production) -> Result<(), AllocError> {
     write!(
         answer,

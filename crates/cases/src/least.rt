@@ -9,8 +9,8 @@ use planchecker::check_least;
 use rows::words::{Mistake, halves, parts};
 use std::alloc::{AllocError, Global};
 
-/// Returns the strikes of the passes of a grammar's least assignment, as in a row. Fails with
-/// `Unfit` if the grammar has no legal assignment.
+/// Returns the strikes of the passes of a grammar's least assignment, as a row spells them
+/// (`lists_of`). Fails with `Unfit` if the grammar has no legal assignment.
 pub fn strikes_answer(alloc: Global, grammar: &Grammar) -> Result<String, Mistake> {
     match assign_with_strikes(alloc, grammar) {
         Ok((_, strikes)) => lists_text(alloc, strikes.lists.as_slice()),
@@ -19,7 +19,7 @@ pub fn strikes_answer(alloc: Global, grammar: &Grammar) -> Result<String, Mistak
     }
 }
 
-/// Returns lists of strikes as in a row.
+/// Returns lists of strikes as a row spells them (`lists_of`).
 fn lists_text(alloc: Global, lists: &[Items<Strike>]) -> Result<String, Mistake> {
     let mut out = String::new(alloc);
     for list in lists {

@@ -1,4 +1,7 @@
-//! Runs the rows about the libraries, from values to the text of the root. `tests/README.md` lists the verbs.
+//! Runs the rows about the libraries, from values to the text of the root. `tests/README.md` lists
+//! the verbs. `Mistake`, of the crate `rows`, is the reason why a question has no answer.
+//! `Misspelt`: a word of the row is unknown or missing, or spells no such number or bytes. `Unfit`:
+//! a text is not what the verb needs, or a call did not end as the row assumes.
 #![tactic(auto)]
 
 mod carried;

@@ -13,8 +13,8 @@ use rows::words::{Mistake, bytes_of, first_word, halves, printed, short_number, 
 use std::alloc::Global;
 use treefile::MemDevice;
 
-/// Splits a row into a number and a content. Returns the number and a device with the content. If the content is
-/// missing, it is the current text.
+/// Splits a row into the number of a pass and a content. Returns the number and a device with the
+/// content. If the content is missing, it is the current text.
 fn numbered_content(
     alloc: Global,
     texts: &CurrentTexts,
@@ -37,8 +37,8 @@ fn passed_answer(
     Ok(format!(in alloc; "{} nodes, {rules} rules, {file}", passed.nodes)?)
 }
 
-/// Runs a pass of a plan from a file to an empty device. Returns the pass's counts and its output file, or its
-/// fault. Fails with `Unfit` if the plan doesn't have that pass.
+/// Runs a pass of a plan from a file to an empty device. Returns the pass's counts and its output
+/// file, or its fault. Fails with `Unfit` if the plan doesn't have that pass.
 fn pass_over(
     alloc: Global,
     grammar: &Grammar,
@@ -128,9 +128,9 @@ fn sum_answer(
     )?)
 }
 
-/// Runs the passes of a plan from `first` on over a file, alternating between its device and an empty one. Returns
-/// their counts and their last file, or their fault. Fails with `Unfit` unless `first` is at least 1 and at most one
-/// more than the number of passes.
+/// Runs the passes of a plan from `first` on over a file, alternating between its device and an
+/// empty one. Returns their counts and their last file, or their fault. Fails with `Unfit` unless
+/// `first` is at least 1 and at most one more than the number of passes.
 fn run_from(
     alloc: Global,
     grammar: &Grammar,
@@ -159,8 +159,8 @@ pub fn run_answer(alloc: Global, grammar: &Grammar, sentence: &str) -> Result<St
     run_from(alloc, grammar, &plan, 1, &mut device)
 }
 
-/// Runs all passes of another plan for a grammar over the tree of a sentence. In the row, `by` separates the
-/// sentence from the plan's assignment and code.
+/// Runs all passes of another plan for a grammar over the tree of a sentence. In the row, `by`
+/// separates the sentence from the plan's assignment and code.
 pub fn run_by_answer(alloc: Global, grammar: &Grammar, spelled: &str) -> Result<String, Mistake> {
     let (sentence, spelled) = halves(spelled, " by ")?;
     let mut device = tree_of(alloc, grammar, sentence)?;

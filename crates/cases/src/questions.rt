@@ -19,8 +19,8 @@ use rows::sheet::Questions;
 use rows::words::{Mistake, bytes_of, number};
 use std::alloc::Global;
 
-/// The current value, which rows set by `given` and other verbs. Each occurrence of an attribute (`$1.x`) in an
-/// expression has this value.
+/// The current value, which the verbs `given`, `letters`, `wrap` and `doubled` set. Each occurrence
+/// of an attribute (`$1.x`) in an expression has this value.
 #[derive(Drop)]
 pub struct CurrentValue {
     pub value: Value,
@@ -90,8 +90,8 @@ impl Question<'_> {
         }
     }
 
-    /// Answers questions about a grammar's parts, and about assignments, code and certificates; leaves others to
-    /// `of_passes`.
+    /// Answers questions about a grammar's parts, and about assignments, code and certificates.
+    /// Calls `of_passes` for each other verb.
     fn of_plans(&self, grammar: &Grammar) -> Result<String, Mistake> {
         let (alloc, rest) = (self.alloc, self.rest);
         match self.verb {
@@ -106,7 +106,8 @@ impl Question<'_> {
         }
     }
 
-    /// Answers questions about passes and the text of the root; leaves others to `of_sentences`.
+    /// Answers questions about passes and the text of the root. Calls `of_sentences` for each other
+    /// verb.
     fn of_passes(&self, grammar: &Grammar) -> Result<String, Mistake> {
         let (alloc, texts) = (self.alloc, self.texts);
         match self.verb {
@@ -121,7 +122,8 @@ impl Question<'_> {
         }
     }
 
-    /// Answers questions about sentences and their parse tables. Fails with `Misspelt` if no question has this verb.
+    /// Answers questions about sentences and their parse tables. Fails with `Misspelt` if no
+    /// question has this verb.
     fn of_sentences(&self, grammar: &Grammar) -> Result<String, Mistake> {
         let alloc = self.alloc;
         match self.verb {
@@ -136,8 +138,8 @@ impl Question<'_> {
         }
     }
 
-    /// Answers questions about texts of grammars, and about assignments and code without a grammar; leaves others to
-    /// `value_questions`.
+    /// Answers questions about texts of grammars, and about assignments and code without a grammar.
+    /// Calls `value_questions::answer` for each other verb.
     fn of_texts(&self, given: &Value) -> Result<String, Mistake> {
         let (alloc, rest) = (self.alloc, self.rest);
         match self.verb {

@@ -45,7 +45,7 @@ fn production(alloc: Global, number: u32, last: u32) -> Result<RawProduction, Mi
     })
 }
 
-/// Appends `last` symbols.
+/// Appends the symbols of the chain, of which the last one has number `last`.
 fn more_symbols(
     alloc: Global,
     symbols: Items<RawSymbol>,
@@ -81,9 +81,9 @@ fn chain(alloc: Global, raw: RawGrammar, last: u32) -> Result<RawGrammar, Mistak
     })
 }
 
-/// Checks the grammar of S and a chain of `last` symbols. Returns `accepted`, or the first fault.
-/// The test `is_readable` is there only for the contract of `verdict`: it accepts each of these
-/// grammars.
+/// Checks the grammar of the start symbol S and a chain of `last` symbols. Returns `accepted`, or
+/// the first fault. The test `is_readable` is there only for the contract of `verdict`: it accepts
+/// each of these grammars.
 pub fn chain_answer(alloc: Global, last: u32) -> Result<String, Mistake> {
     let bare = raw_grammar(alloc, "start S; symbol S syn out; S = s1 { $0.out = 0; }")?;
     let raw = chain(alloc, bare, last)?;

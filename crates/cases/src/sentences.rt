@@ -112,7 +112,8 @@ fn tokens_of<'s>(
     }
 }
 
-/// Parses tokens and writes the tree's file onto a device. Returns the number of stored nodes, or the fault.
+/// Parses tokens and writes the tree's file onto a device. Returns the number of stored nodes, or
+/// the fault.
 fn parse_tokens<D: Device>(
     alloc: Global,
     grammar: &Grammar,
@@ -127,8 +128,8 @@ fn parse_tokens<D: Device>(
     parse(alloc, grammar, tables, tokens, device, &mut writer)
 }
 
-/// Scans and parses a sentence and writes the tree's file onto a device. Returns the number of stored nodes, or the
-/// parser's fault.
+/// Scans and parses a sentence and writes the tree's file onto a device. Returns the number of
+/// stored nodes, or the parser's fault.
 fn parse_sentence(
     alloc: Global,
     grammar: &Grammar,
@@ -149,8 +150,8 @@ pub fn parse_answer(alloc: Global, grammar: &Grammar, sentence: &str) -> Result<
     }
 }
 
-/// Parses a sentence over a device. The row's first word is the number, from 1, of the device's
-/// call that fails. Returns the result and the number of bytes on the device.
+/// Parses a sentence onto a device of which one call fails. The row's first word is the number of
+/// this call, from 1. Returns the result and the number of bytes on the device.
 pub fn parse_failing_answer(
     alloc: Global,
     grammar: &Grammar,
@@ -164,7 +165,8 @@ pub fn parse_failing_answer(
     Ok(format!(in alloc; "{parsed:?} {}", device.inner().bytes().len())?)
 }
 
-/// Returns a device with the tree's file of a sentence. Fails with `Unfit` if the parser rejects it.
+/// Returns a device with the tree's file of a sentence. Fails with `Unfit` if the parser rejects
+/// it.
 pub fn tree_of(alloc: Global, grammar: &Grammar, sentence: &str) -> Result<MemDevice, Mistake> {
     let mut device = MemDevice::new(alloc);
     match parse_sentence(alloc, grammar, sentence, &mut device)? {

@@ -19,7 +19,7 @@ pub fn assign_answer(alloc: Global, grammar: &Grammar) -> Result<String, Mistake
     }
 }
 
-/// Returns a certificate as in a row.
+/// Returns a certificate as a row spells it (`stuck`).
 fn certificate_text(alloc: Global, stuck: &Stuck) -> Result<String, Mistake> {
     let mut answer = String::from_str(alloc, "stuck")?;
     show_parts(&mut answer, stuck)?;
@@ -45,7 +45,7 @@ fn show_strikes(answer: &mut String, strikes: &[Strike]) -> Result<(), AllocErro
     Ok(())
 }
 
-/// Writes a strike as in a row.
+/// Writes a strike as a row spells it (`strike`).
 pub fn show_strike(answer: &mut String, strike: &Strike) -> Result<(), AllocError> {
     write!(answer, "{}.{}", strike.symbol, strike.attr)?;
     write!(
@@ -55,7 +55,7 @@ pub fn show_strike(answer: &mut String, strike: &Strike) -> Result<(), AllocErro
     )
 }
 
-/// Returns the attribute that a word spells: attribute 0 of symbol 1 is `1.0`.
+/// Returns the attribute that a word spells: `1.0` is attribute 0 of symbol 1.
 fn attribute(word: &str) -> Result<(u16, u16), Mistake> {
     let (symbol, attr) = halves(word, ".")?;
     Ok((short_number(symbol)?, short_number(attr)?))
@@ -71,8 +71,8 @@ fn attributes(alloc: Global, text: &str) -> Result<Items<(u16, u16)>, Mistake> {
     Ok(Items::from_vec(set))
 }
 
-/// Returns the strike that a word spells: attribute 1 of symbol 2 by argument 0 of rule 4 of production 3 is
-/// `2.1.3.4.0`.
+/// Returns the strike that a word spells: `2.1.3.4.0` is the strike of attribute 1 of symbol 2 by
+/// argument 0 of rule 4 of production 3.
 fn strike(word: &str) -> Result<Strike, Mistake> {
     let (symbol, rest) = halves(word, ".")?;
     let (attr, rest) = halves(rest, ".")?;

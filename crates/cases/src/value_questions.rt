@@ -12,8 +12,8 @@ use rows::current_texts::CurrentTexts;
 use rows::words::{Mistake, bytes_of, first_word, short_number};
 use std::alloc::Global;
 
-/// Answers questions about expressions (each occurrence has the value `given`), about that value, and about
-/// contents. Fails with `Misspelt` if no question has this verb.
+/// Answers questions about expressions (each occurrence has the value `given`), about that value,
+/// and about contents. Fails with `Misspelt` if no question has this verb.
 pub fn answer(
     alloc: Global,
     texts: &CurrentTexts,
@@ -36,7 +36,8 @@ pub fn answer(
     }
 }
 
-/// Answers questions about values and their encodings; leaves others to `answer_of_contents`.
+/// Answers questions about values and their encodings. Calls `answer_of_contents` for each other
+/// verb.
 fn answer_of_values(
     alloc: Global,
     texts: &CurrentTexts,

@@ -1,6 +1,7 @@
 -- The chain of rules that passed an error on, from one rule to that in which the error arises. In these definitions `rules` are
 -- the rules of a node's production, e has the values at the node's places (`Table` of `origins`), and `target` is the attribute
--- that a rule computes. All of this is this project's.
+-- that a rule computes. g is a grammar, q a production and p its number, and vs are the values of a record. All of this is this
+-- project's.
 use Rattle.std.specs.Prelude.{ℕ, suc, ◌≡◌, ◌<◌, ◌⊎◌, List, [], ◌∷◌, ◌++◌, map, Some, None, Ok, slice_get, true}
 use Rattle.ag_value.specs.declared.value.Value.{Value}
 use Rattle.ag_grammar.specs.declared.grammar.Production.{Production}
@@ -104,8 +105,8 @@ pub record IsPassedFrom (R : Reading) (places : List ℕ) (target : Target) (the
   pub passes : R places target (rule_does.Passes argument)
   pub goes : GoesTo places argument there from
 
--- What following a rule leads to: to the rule whose error it passes on; to the rule itself if the error arises in it; `Nothing`
--- claims nothing.
+-- What following the rule for `target` at the end of `places` leads to. `To`: the rule passes on the error of the rule for `from`
+-- at the end of `there`. `Arises`: the error arises in the rule itself. Of `Nothing` nothing is claimed.
 abbrev pub Follows : Reading → List ℕ → Target → List ℕ → Step → Type 0
 Follows R places target there (step.To from) = IsPassedFrom R places target there from
 Follows R places target there (step.Arises number) = (there ≡ places) × R places target (rule_does.Arises number)

@@ -1,5 +1,5 @@
--- What a chain that is followed along the nodes of an index shows of the tree whose file has this index. All of this is this
--- project's.
+-- What a chain that is followed along the nodes of an index shows of the tree whose file has this index. In these definitions g
+-- is a grammar, m the passes of its attributes, k the number of a pass, t a tree and v its values. All of this is this project's.
 use Rattle.std.specs.Prelude.{ℕ, suc, ◌≡◌, ◌^◌, ◌<◌, ◌≤◌, ◌⊎◌, List, [], ◌∷◌, ◌++◌, map, reverse, Some, None, Ok}
 use Rattle.ag_value.specs.declared.value.Value.{Value}
 use Rattle.ag_grammar.specs.declared.direction.Direction.{Direction}
@@ -43,7 +43,8 @@ pub record IsEndAt (g : Grammar) (index : TreeIndex) (places : List ℕ) (end : 
   pub numbered : IsNumberAt g index places number
   pub ends : end_of index number ≡ Some end
 
--- the places that lead to the first of some nodes, each of which is a child of the next
+-- the places that lead from the root to the first of some nodes; each node is a child of the next one, and the last one of the
+-- root
 abbrev pub way : List PathNode → List ℕ
 way [] = []
 way (n ∷ ns) = way ns ++ n.place ∷ []

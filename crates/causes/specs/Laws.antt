@@ -1,4 +1,5 @@
--- What the laws state: chains whose rules are read in a tree. All of this is this project's.
+-- What the laws state: chains whose rules are read in a tree. In these definitions g is a grammar, t a tree, v its values, and n
+-- a number of rules. All of this is this project's.
 use Rattle.std.specs.Prelude.{ℕ, suc, ◌≡◌, List, map, Some}
 use Rattle.ag_grammar.specs.declared.grammar.Production.{Production}
 use Rattle.ag_grammar.specs.declared.grammar.Target.{Target}

@@ -1,4 +1,5 @@
--- The rules of the nodes of a tree, and the errors among their values. All of this is this project's.
+-- The rules of the nodes of a tree, and the errors among their values. In these definitions g is a grammar, t a tree and v its
+-- values. All of this is this project's.
 use Rattle.std.specs.Prelude.{ℕ, suc, ◌≡◌, ◌≤◌, List, [], map, None, Some}
 use Rattle.ag_grammar.specs.declared.grammar.Production.{Production}
 use Rattle.ag_grammar.specs.declared.grammar.Rule.{Rule}

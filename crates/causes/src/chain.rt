@@ -18,8 +18,8 @@ use std::alloc::Global;
 use tree_index::{NodeKind, TreeFault, TreeIndex};
 use treefile::Device;
 
-/// The greatest number of rules of a chain that are followed: one for each attribute of a tree. A symbol
-/// has at most 16 attributes.
+/// The greatest number of rules of a chain that are followed: 16 for each of `MAX_NODES` nodes,
+/// since a symbol has at most 16 attributes.
 const MAX_STEPS: u32 = 16 * MAX_NODES;
 
 /// The cause of an error.
@@ -75,10 +75,10 @@ struct Chain<'a> {
 }
 
 impl<'a> Chain<'a> {
-    /// Reads the record of the node at which the chain is, and returns what the rule for a target does there.
-    /// Returns `None` if `record` returns `None`, if the node has no such rule, or if the rule's value is
-    /// not an error. Fails with R1 if the record is damaged, with D1 if a call of the device fails, and
-    /// with NoMemory if memory is refused.
+    /// Reads the record of the node at which the chain is, and returns what the rule for a target
+    /// does there. Returns `None` if `record` returns `None`, if the node has no such rule, or if
+    /// the rule's value is not an error. Fails with R1 if the record is damaged, with D1 if a call
+    /// of the device fails, and with NoMemory if memory is refused.
     fn read_next<D: Device>(
         &self,
         alloc: Global,
@@ -144,8 +144,8 @@ impl<'a> Chain<'a> {
         }
     }
 
-    /// Returns the left side of the production of a node. Returns `None` for a token, for a node that the index
-    /// does not have, and for a production that the grammar does not have.
+    /// Returns the left side of the production of a node. Returns `None` for a token, for a node
+    /// that the index does not have, and for a production that the grammar does not have.
     fn left_of(&self, node: u32) -> Option<u16>
         ensures { IfNone result (HasNoRecord self.now.grammar.now self.now.index.now node) }
     {
@@ -159,8 +159,8 @@ impl<'a> Chain<'a> {
         Some(productions[usize::from(number)].left)
     }
 
-    /// Goes to the child at a place. Returns whether there is one; if not, stays at the node. Fails with
-    /// NoMemory if memory is refused.
+    /// Goes to the child at a place. Returns whether there is one; if not, stays at the node. Fails
+    /// with NoMemory if memory is refused.
     fn go_to_child(&mut self, place: u16) -> Result<bool, TreeFault>
         requires leads { Leads self.old.grammar.now self.old.index.now self.old.nodes.items }
         ensures places { IfOk result (λ found. IsTrue found → places_of self.new.nodes.items
@@ -277,8 +277,8 @@ impl<'a> Chain<'a> {
         }
     }
 
-    /// Returns the places from the root to the node at which the chain is. Fails with NoMemory if memory
-    /// is refused.
+    /// Returns the places from the root to the node at which the chain is. Fails with NoMemory if
+    /// memory is refused.
     fn places(&self, alloc: Global) -> Result<Vec<u16>, TreeFault>
         ensures places { IfOk result (λ places. places.items ≡ places_of self.now.nodes.items) }
         ensures device { IsErrOf result TreeFault.Device → ⊥ }
@@ -293,14 +293,14 @@ impl<'a> Chain<'a> {
     }
 }
 
-/// Finds the cause of an error, which the rule for a target computes: follows the rules that passed the error
-/// on. `device` contains the file of the last pass, and `index` is its index.
+/// Finds the cause of an error that the rule for a target computes: follows the rules that passed
+/// the error on. `device` contains the file of the last pass, and `index` is its index.
 ///
 /// Returns `None` if the places lead to no node, the target has no rule there, or the rule's value
 /// is not an error. Also returns `None` if the chain stops later without a cause, or if 16,777,216
-/// rules passed the error on, 16 for each of `MAX_NODES` nodes. These two cases do not occur with the
-/// index of the file, in an accepted grammar, if the file is that of a tree of at most `MAX_NODES` nodes
-/// whose values are a solution.
+/// rules passed the error on, 16 for each of `MAX_NODES` nodes. These two cases do not occur with
+/// the index of the file, in an accepted grammar, if the file is that of a tree of at most
+/// `MAX_NODES` nodes whose values are a solution.
 ///
 /// Fails with R1 if the record of a rule of the chain is damaged, with D1 if a call of the device
 /// fails, and with NoMemory if memory is refused. Reads a record for each rule in the chain.

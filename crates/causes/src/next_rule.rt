@@ -22,8 +22,8 @@ pub(crate) enum Next {
     Arises(u16),
 }
 
-/// Returns the number of the rule for a target, from 0. Returns `None` if none of the first 65,536
-/// rules has that target.
+/// Returns the number, from 0, of the first rule for a target. Returns `None` if none of the first
+/// 65,536 rules has that target.
 pub fn rule_for(rules: &[Rule], target: Target) -> Option<u16>
     ensures number { IfSome result (IsNumberFor rules.now target) }
     ensures none { IfNone result ((number : ℕ) → (rule : TheRule) → number < 65536
@@ -37,11 +37,12 @@ pub fn rule_for(rules: &[Rule], target: Target) -> Option<u16>
     None
 }
 
-/// Returns what the rule for a target does at a node. Returns `None` if the node has no such rule, or the
-/// rule's value is not an error. Fails with NoMemory if memory is refused.
+/// Returns what the rule for a target does at a node. Returns `None` if the node has no such rule,
+/// or the rule's value is not an error. Fails with NoMemory if memory is refused.
 ///
-/// Requires that each rule has exactly one argument for each different occurrence in its expression (the
-/// list `r.expr.1`), and that no two rules have the same target. Both hold in an accepted grammar.
+/// Requires that each rule has exactly one argument for each different occurrence in its expression
+/// (the list `r.expr.1`), and that no two rules have the same target. Both hold in an accepted
+/// grammar.
 fn next_in(alloc: Global, row: &Row<'_>, target: Target) -> Result<Option<Next>, NoMemory>
     requires arguments { Each (λ (r : TheRule). length r.args ≡ length r.expr.1)
         row.now.production.now.rules }

@@ -46,9 +46,10 @@ pub fn tokens_before(
 /// Returns the number of tokens in the subtrees of those children of `node` that come before the child
 /// `child` in the sentence. Returns `None` if the index or the counts lack one of the two nodes.
 fn tokens_between(index: &TreeIndex, counts: &TokenCounts, node: u32, child: u32) -> Option<u32> {
-    // the index numbers nodes from the end of the file on: in the file of an odd pass, the numbers
-    // of a node's children rise from left to right, and the children left of `child` have numbers
-    // before it; in the file of an even pass these have the numbers after its subtree
+    // The index numbers nodes from the end of the file on. In the file of an odd pass, the numbers
+    // of a node's children rise from left to right, so the subtrees left of `child` have the
+    // numbers between those of `node` and `child`. In the file of an even pass they have the
+    // numbers after the subtree of `child`, up to the last number of the subtree of `node`.
     match Direction::of_pass(index.pass()).turned() {
         Direction::LeftToRight => counts.between(node.checked_add(1)?, child),
         Direction::RightToLeft => counts.between(end_of(index, child)?, end_of(index, node)?),

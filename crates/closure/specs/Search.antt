@@ -14,8 +14,8 @@ abbrev pub IsOpen : List Bool → List Addition → (visited : ℕ) → ℕ → 
 IsOpen marks added visited t =
     (is_marked marks t ≡ false) ⊎ ((i : ℕ) × (x : Addition) × (visited ≤ i) × (slice_get added i ≡ Some x) × (x.number ≡ t))
 
--- A clause whose head is marked, or whose body has an open number. At the end of a search the visit of each marked number
--- has begun and ended. So a settled clause whose whole body is marked then has a marked head.
+-- A clause whose head is marked, or whose body has an open number (`IsOpen`). At the end of a search the visit of each marked
+-- number has begun and ended. So a settled clause whose whole body is marked then has a marked head.
 abbrev pub IsSettled : List Bool → List Addition → ℕ → Clause → Type 0
 IsSettled marks added visited q = (is_marked marks q.head ≡ true) ⊎ ((t : ℕ) × Contains q.body t × IsOpen marks added visited t)
 

@@ -6,7 +6,7 @@ use ag_value::Items;
 /// than once.
 #[derive(Drop)]
 pub struct Clause {
-    /// The number that follows if the body does.
+    /// The number that follows if each number of the body does.
     pub head: usize,
     /// The numbers from which the head follows. A clause without any is a fact.
     pub body: Items<usize>,

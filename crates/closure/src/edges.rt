@@ -1,5 +1,5 @@
 //! Edges between numbers, as clauses with one number in the body: the numbers that follow are those
-//! that are reached.
+//! that are reached from the seeds.
 ghost use Rattle.std.specs.Prelude.{◌≡◌, map, IfOk};
 ghost use Rattle.closure.specs.Edges.{clause_of_edge};
 

@@ -19,7 +19,8 @@ pub fn with_seed()
     ensures { Follows sample (3 ∷ []) 2 }
 {}
 
-/// States that along two edges 2 is reached from 0, and 3 is not.
+/// States that along the edges `two_edges`, from 0 to 1 and from 1 to 2, 2 is reached from the seed
+/// 0, and 3 is not.
 #[tactic(auto, using(crate::proofs::Sample::two_is_reached, crate::proofs::Sample::three_is_not))]
 pub fn edges_lead_on()
     ensures reached { Follows (map clause_of_edge two_edges) (0 ∷ []) 2 }

@@ -1,6 +1,6 @@
-//! The commands of the program and their arguments, with the texts that help prints. Each public constant is the name
-//! of an argument or of an option, by which clap finds its value. An option's name is also its word on the command
-//! line, after `--`.
+//! The commands of the program and their arguments, with the texts that help prints. Each public
+//! constant is the name of an argument or of an option, by which clap finds its value. An option's
+//! name is also its word on the command line, after `--`.
 
 use crate::tree_options::{at, attributes, depth, errors, json, node, of_sentence, only, width};
 use clap::error::ErrorKind;
@@ -140,8 +140,8 @@ const COMMANDS: &[Entry] = &[
     },
 ];
 
-/// A command, as help describes it: its name, what it does, its arguments in their order, and an example, which comes
-/// last in the help.
+/// A command, as help describes it: its name, what it does, its arguments in their order, and an
+/// example, which comes last in the help.
 #[derive(Clone, Copy)]
 struct Entry {
     name: &'static str,
@@ -378,8 +378,9 @@ fn root_command<'a>(alloc: Global) -> Result<Command<'a>, AllocError> {
     program.bin_name("aggen")
 }
 
-/// Returns an error that clap prints with `message` and the usage of the command `name`: for words that are wrong
-/// although clap accepts them. The error is that of refused memory if memory for it is refused.
+/// Returns an error that clap prints with `message` and the usage of the command `name`: for words
+/// that are wrong although clap accepts them. If memory for this error is refused, returns the
+/// error of refused memory.
 pub fn misuse_of(alloc: Global, name: &str, message: &str) -> Error {
     match usage_error(alloc, name, message) {
         Ok(error) => error,
@@ -387,8 +388,8 @@ pub fn misuse_of(alloc: Global, name: &str, message: &str) -> Error {
     }
 }
 
-/// Returns an error with `message` and the usage of the command `name`, or that of the program if it has no such
-/// command. Fails if memory is refused.
+/// Returns an error with `message` and the usage of the command `name`, or that of the program if
+/// it has no such command. Fails if memory is refused.
 fn usage_error(alloc: Global, name: &str, message: &str) -> Result<Error, AllocError> {
     let bin_name = format!(in alloc; "aggen {name}")?;
     for entry in COMMANDS {

@@ -7,6 +7,6 @@ pub enum CommandLineFault {
     Usage,
     /// Help or the version could not be printed.
     Write,
-    /// A request for memory was refused.
+    /// The allocator refused memory.
     NoMemory,
 }

@@ -16,7 +16,8 @@ pub enum InputPath<'a> {
 }
 
 impl<'a> InputPath<'a> {
-    /// Returns the input that a word names: standard input for `-`, and for any other word the file at this path.
+    /// Returns the input that a word names: standard input for `-`, and for any other word the file
+    /// at this path.
     pub fn of(word: &'a str) -> InputPath<'a>
         ensures name { name_of result ≡ word.now }
         ensures standard { word.now ≡ codes "-" → result ≡ InputPath.Standard }

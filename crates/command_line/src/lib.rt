@@ -1,7 +1,7 @@
 //! The command line: its words, the request that they make, and how messages are printed.
 //!
-//! `CommandLine::from_words` reads the words of a command line. It also prints help, the version, and what
-//! is wrong with the words, so its caller needs only the kind of a failure.
+//! `CommandLine::from_words` reads the words of a command line. It also prints help, the version,
+//! and what is wrong with the words, so its caller needs only the kind of a failure.
 #![tactic(auto)]
 
 mod commands;

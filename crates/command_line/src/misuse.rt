@@ -1,5 +1,5 @@
 //! Checks of words that clap accepts. Each fails with an error that clap prints with the command's
-//! usage, or with that of refused memory.
+//! usage, or with the error of refused memory.
 
 use crate::commands::misuse_of;
 use crate::input::{InputPath, STANDARD};
@@ -18,8 +18,8 @@ pub fn check_once(alloc: Global, command: &str, inputs: [InputPath<'_>; 2]) -> R
     }
 }
 
-/// Fails if the path of a tree file is `-`. Only `eval`, which doesn't call this, reads a tree file from standard
-/// input, and no command writes one to standard output.
+/// Fails if the path of a tree file is `-`. Only `eval`, which doesn't call this, reads a tree file
+/// from standard input, and no command writes one to standard output.
 pub fn check_tree(alloc: Global, command: &str, path: &str) -> Result<(), Error> {
     if path == STANDARD {
         return Err(misuse_of(
@@ -73,7 +73,8 @@ fn doubled_name<'a>(
     Ok(None)
 }
 
-/// Returns the name of a path's file in its folder: what follows the last slash, or the path if it has none.
+/// Returns the name of a path's file in its folder: what follows the last slash, or the path if it
+/// has none.
 pub fn file_name_of(path: &str) -> &str {
     match path.rsplit_once('/') {
         Some((_, name)) => name,

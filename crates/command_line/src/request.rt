@@ -16,7 +16,7 @@ use clap::error::ErrorKind;
 use clap::{ArgMatches, Error};
 use std::alloc::Global;
 
-/// A command line: what it asks for, and how messages are printed.
+/// A command line: its request, and how messages are printed.
 #[derive(Drop)]
 pub struct CommandLine<'a> {
     /// The request: what the program has to do.
@@ -52,7 +52,7 @@ pub enum Color {
 pub enum Request<'a> {
     /// Nothing: help or the version has been printed.
     Nothing,
-    /// The translation of the job on standard input.
+    /// The translation of the job on standard input: a grammar, the line `%%`, and a sentence.
     Job,
     /// The translation of a sentence.
     Run(RunPaths<'a>),
@@ -66,7 +66,7 @@ pub enum Request<'a> {
     Check(InputPath<'a>),
     /// The passes of a grammar.
     Plan(InputPath<'a>),
-    /// Why the passes of a grammar, or of one of its attributes, are needed.
+    /// Why the passes of a grammar are needed, or why no earlier pass can compute an attribute.
     Why(WhyWords<'a>),
     /// The code of the passes of a grammar.
     Code(InputPath<'a>),
@@ -116,7 +116,7 @@ pub struct EvalPaths<'a> {
     pub tree: InputPath<'a>,
     /// The file for the translation. If there is none, the translation is printed.
     pub output: Option<&'a str>,
-    /// The folder for the tree files. If there is none, they are kept in memory.
+    /// The folder for the tree files that are written. If there is none, they are kept in memory.
     pub work: Option<&'a str>,
 }
 
@@ -152,10 +152,10 @@ pub struct UpgradePaths<'a> {
 }
 
 impl<'a> CommandLine<'a> {
-    /// Returns the command line of these words; the first word is the program's name. If they ask for
-    /// help or the version, prints it on standard output, and fails with `Write` if that can't be done.
-    /// If they are wrong, prints what is wrong on standard error, and fails with `Usage` even if that
-    /// can't be printed. Fails with `NoMemory` if memory is refused.
+    /// Returns the command line of these words. The first word is the program's name. If help or
+    /// the version is requested, prints this text on standard output, and fails with `Write` if it
+    /// can't be printed. If the words are wrong, prints what is wrong on standard error, and fails
+    /// with `Usage` even if that can't be printed. Fails with `NoMemory` if memory is refused.
     pub fn from_words<R: Print + Eprint>(
         rt: &R,
         alloc: Global,
@@ -179,7 +179,8 @@ impl<'a> CommandLine<'a> {
     }
 }
 
-/// Parses the words of a command line. Fails with an error of clap: help, the version, what is wrong, or refused memory.
+/// Parses the words of a command line. Fails with an error of clap: help, the version, what is
+/// wrong, or refused memory.
 fn parse<'a>(alloc: Global, words: &'a [String]) -> Result<CommandLine<'a>, Error> {
     let matches = program(alloc)?.try_get_matches_from(words)?;
     match matches.subcommand() {
@@ -207,9 +208,9 @@ fn messages_of(matches: &ArgMatches<'_>) -> Messages {
     }
 }
 
-/// Returns the request that a command makes. `name` is the command's name, and `matches` are its arguments as clap has
-/// parsed them. Fails with the error that clap prints if the words are wrong although clap accepts them, or with that
-/// of refused memory.
+/// Returns the request that a command makes. `name` is the command's name, and `matches` are its
+/// arguments as clap has parsed them. Fails with the error that clap prints if the words are wrong
+/// although clap accepts them, or with the error of refused memory.
 fn request_of<'a>(
     alloc: Global,
     name: &str,
@@ -309,7 +310,8 @@ fn input_of<'a>(matches: &ArgMatches<'a>, name: &str) -> InputPath<'a> {
     InputPath::of(value_of(matches, name))
 }
 
-/// Returns the file for the translation. None if the translation is printed: no file is named, or the word is `-`.
+/// Returns the file for the translation. None if the translation is printed: no file is named, or
+/// the word is `-`.
 fn output_of<'a>(matches: &ArgMatches<'a>) -> Option<&'a str> {
     match matches.get_str(OUTPUT) {
         Some(path) if path != STANDARD => Some(path),
@@ -355,7 +357,7 @@ fn print_error<'a, R: Print + Eprint>(
 /// Prints on standard error what is wrong with the words of a command line. Control characters,
 /// except line feeds, are printed as escapes.
 fn print_misuse<R: Eprint>(rt: &R, alloc: Global, error: &Error) {
-    // the status says enough if the message can't be printed
+    // if the message can't be printed, the exit status says enough
     if let Ok(text) = error.to_string(alloc) {
         let _ = rt.eprint(&PlainLines(text.as_str()));
     }

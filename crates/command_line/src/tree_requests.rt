@@ -59,17 +59,18 @@ pub struct ExplainWords<'a> {
     pub grammar: InputPath<'a>,
     /// The path of the tree file, or of the folder with two of them.
     pub tree: &'a str,
-    /// The node.
+    /// The node whose values are explained.
     pub node: NodeWords<'a>,
     /// Whether the rules of the whole tree in which errors arise are printed instead of a node. The
     /// fields `node` and `attributes` are then only checked: they have no effect on the output.
     pub errors: bool,
-    /// The names of the attributes. If there are none, all are explained.
+    /// The names of the node's attributes that are explained. If there are none, all are.
     pub attributes: Vec<&'a str>,
 }
 
-/// Returns the words that `show` takes. Fails with the error that clap prints if the tree file is `-`, or `--depth` or
-/// `--width` is out of range. Fails with that of refused memory if memory is refused.
+/// Returns the words that `show` takes. Fails with the error that clap prints if the tree file is
+/// `-`, or `--depth` or `--width` is out of range. Fails with the error of refused memory if memory
+/// is refused.
 pub fn show_words<'a>(alloc: Global, matches: &ArgMatches<'a>) -> Result<ShowWords<'a>, Error> {
     let tree = matches.get_str(TREE).unwrap_or("");
     check_tree(alloc, "show", tree)?;
@@ -93,8 +94,8 @@ pub fn show_words<'a>(alloc: Global, matches: &ArgMatches<'a>) -> Result<ShowWor
     })
 }
 
-/// Returns the number that an option has, or `other` if the option is not there. Returns `None` if its value is not a
-/// number below 2^32.
+/// Returns the number that an option has, or `other` if the option is not there. Returns `None` if
+/// its value is not a number below 2^32.
 fn number_of(matches: &ArgMatches<'_>, name: &str, other: u32) -> Option<u32> {
     match matches.get_str(name) {
         Some(word) => word.parse::<u32>().ok(),
@@ -102,9 +103,9 @@ fn number_of(matches: &ArgMatches<'_>, name: &str, other: u32) -> Option<u32> {
     }
 }
 
-/// Returns the words that `explain` takes. Fails with the error that clap prints if the tree file is `-`, if `--at` is
-/// not two numbers from 1, or if both the grammar and the sentence are `-`. Fails with that of refused memory if memory
-/// is refused.
+/// Returns the words that `explain` takes. Fails with the error that clap prints if the tree file
+/// is `-`, if `--at` is not two numbers from 1, or if both the grammar and the sentence are `-`.
+/// Fails with the error of refused memory if memory is refused.
 pub fn explain_words<'a>(
     alloc: Global,
     matches: &ArgMatches<'a>,
@@ -125,8 +126,8 @@ pub fn explain_words<'a>(
     })
 }
 
-/// Returns how the words name the node that `explain` explains. Fails with the error that clap prints if the value of
-/// `--at` is not two numbers from 1.
+/// Returns how the words name the node that `explain` explains. Fails with the error that clap
+/// prints if the value of `--at` is not two numbers from 1.
 fn node_words<'a>(alloc: Global, matches: &ArgMatches<'a>) -> Result<NodeWords<'a>, Error> {
     let Some(at) = matches.get_str(AT) else {
         return Ok(match matches.get_str(NODE) {

@@ -11,7 +11,8 @@ use std::alloc::Global;
 use treefile::MemDevice;
 
 /// Calls the function that the verb `what` names, which writes a text, a grammar's counts, a plan,
-/// its code, the value 14 or a translation to the writer. Returns how the call ends.
+/// its code, the value 14 or, for any other verb, a translation to the writer. Returns how the call
+/// ends.
 fn ending_of_writes(alloc: Global, what: &str, out: &mut NarrowWriter) -> Result<Ending, Mistake> {
     let fractions = FRACTIONS.as_bytes();
     match what {

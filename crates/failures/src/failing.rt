@@ -114,8 +114,8 @@ fn evaluates_without(
 }
 
 /// Upgrades the old tree twice and returns whether the first run succeeds. One of the two runs must
-/// fail with D1. The other must succeed, and write the same tree in version 2. `kept` is the file
-/// of the old tree. Fails with `Unfit` in all other cases, and if the content of the device `old`
+/// fail with D1. The other must succeed, and write `FRACTION_TREE`. `kept` is the file of the old
+/// tree. Fails with `Unfit` in all other cases, and if the content of the device `old`
 /// has changed.
 fn upgrades_twice(
     translator: &Translator,
@@ -173,7 +173,7 @@ fn first_succeeds_without(
     }
 }
 
-/// Returns the number, from 1, of the first call of a device that a run doesn't make. Fails with
+/// Returns one more than the number of calls of a device that a run makes. Fails with
 /// `Unfit` if a run with an earlier failing call doesn't end as it should, or if a run makes 999
 /// calls of the device or more, which no run does.
 fn first_unmade_call(

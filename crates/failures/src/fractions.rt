@@ -24,14 +24,14 @@ B = \"0\" { $0.bit = 0; }
 B = \"1\" { $0.bit = 1; }
 ";
 
-/// A sentence of this grammar, which is 13.25 in binary. Its translation is 868352, the number of
-/// 65536ths.
+/// A sentence of the grammar `FRACTIONS`: 13.25 in binary. Its translation is 868352, the value in
+/// units of 1/65536.
 pub const FRACTION_SENTENCE: &[u8] = b"1101.01";
 
-/// The file of its tree before the first pass: the header `AGT2` with pass 0, and after it the
-/// records of nodes of the productions 7, 7, 6, 7, 4, 5, 5, 5, 3, 6, 7, 4, 5, 3, 2 and 0, which are
-/// numbered from 0. Each record has a byte 0 for a node and the production's number in two bytes,
-/// and is followed by its length, 3, in four bytes.
+/// The file of the tree of `FRACTION_SENTENCE` before the first pass: the header `AGT2` with pass
+/// 0, and after it the records of nodes of the productions 7, 7, 6, 7, 4, 5, 5, 5, 3, 6, 7, 4, 5,
+/// 3, 2 and 0, which are numbered from 0. Each record has a byte 0 for a node and the production's
+/// number in two bytes, and is followed by its length, 3, in four bytes.
 pub const FRACTION_TREE: &[u8] = b"AGT2\0\0\
     \0\0\x07\0\0\0\x03\0\0\x07\0\0\0\x03\0\0\x06\0\0\0\x03\0\0\x07\0\0\0\x03\
     \0\0\x04\0\0\0\x03\0\0\x05\0\0\0\x03\0\0\x05\0\0\0\x03\0\0\x05\0\0\0\x03\

@@ -9,8 +9,9 @@ use std::alloc::Global;
 use std::io::{self, Read};
 use treefile::MemDevice;
 
-/// A reader that returns at most `step` bytes in a read. If `reads_left` is k at first, read k and
-/// all later ones fail; if k is 0, all fail.
+/// A reader that returns at most `step` bytes in a read. The first value of `reads_left` is the
+/// number, from 1, of the first read that fails. All later reads fail too. If it is 0, all reads
+/// fail.
 #[derive(Drop)]
 struct FalteringReader<'a> {
     bytes: &'a [u8],
@@ -63,7 +64,7 @@ fn is_done(alloc: Global, job: &[u8], step: usize, read: u64) -> Result<bool, Mi
     }
 }
 
-/// Returns the number, from 1, of the first read that a job doesn't make. Fails with `Unfit` if a
+/// Returns one more than the number of reads that a job makes. Fails with `Unfit` if a
 /// job with an earlier failing read doesn't end as it should, or if it makes 999 reads or more,
 /// which no job of the rows does.
 fn first_unmade_read(alloc: Global, job: &[u8], step: usize) -> Result<u64, Mistake> {

@@ -1,5 +1,5 @@
 //! Devices that lie, which means that they return wrong lengths or bytes. Each call over them must
-//! return. If it fails, and not because of the writer, it must write nothing.
+//! return. If it fails with another fault than O2 (the writer failed), it must write nothing.
 
 ghost use Rattle.std.specs.Prelude.{[], false, Some};
 
@@ -28,8 +28,9 @@ enum Lie {
     Changing,
 }
 
-/// A device that lies. Contracts claim nothing of the content of a device that isn't honest, so the
-/// content that it states can be any. Its calls never fail with D1, so it counts no failures.
+/// A device that lies, so it isn't *honest* (an honest device returns what was written to it).
+/// Contracts claim nothing of the content of such a device, so `content` can be any list of bytes.
+/// Its calls never fail with D1, so it counts no failures.
 #[derive(Drop)]
 struct LyingDevice {
     file: MemDevice,
@@ -88,8 +89,8 @@ fn lie_named(word: &str) -> Result<Lie, Mistake> {
     }
 }
 
-/// An arity by which each record has one child. `turn` needs some arity. Which one doesn't matter
-/// here, since the test is only that `turn` returns.
+/// An `Arity`, which says how many children a record has: here each one has one child. `turn` needs
+/// some `Arity`. Which one doesn't matter here, since the test is only that `turn` returns.
 struct Chain {}
 
 impl Arity for Chain {
@@ -140,8 +141,8 @@ fn evaluation(alloc: Global, translator: &Translator, lie: Lie) -> Result<String
 }
 
 /// Runs the first pass, and then all passes, over devices that lie. The results are not used: the
-/// test is that the calls return. The plan of binary fractions has passes. The `if` is there only
-/// because the contract of `run_pass` requires that the pass is one of the plan's.
+/// test is that the calls return. The `if` is never true here. It is there since the contract of
+/// `run_pass` requires that the plan has the pass.
 fn run_passes(alloc: Global, translator: &Translator, a: &mut LyingDevice, b: &mut LyingDevice) {
     let (grammar, plan) = (translator.grammar(), translator.plan());
     if plan.assignment().passes() == 0 {
@@ -202,7 +203,7 @@ fn reverse_lying(alloc: Global, lie: Lie) -> Result<(), Mistake> {
 }
 
 /// Reverses a file over devices with the lie that a word names, and returns the text `returned`,
-/// whether that fails or not. Fails with `Misspelt` if the word names no lie.
+/// also if the reversal fails. Fails with `Misspelt` if the word names no lie.
 pub fn lie_turn_answer(alloc: Global, word: &str) -> Result<String, Mistake> {
     reverse_lying(alloc, lie_named(word)?)?;
     Ok(String::from_str(alloc, "returned")?)

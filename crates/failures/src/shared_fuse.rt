@@ -13,7 +13,7 @@ use treefile::{Device, DeviceFault, SharedDevice};
 #[derive(Drop)]
 pub struct SharedFuse {
     inner: SharedDevice,
-    /// The number of calls up to the one that fails; 0 if none fails any more.
+    /// The number of calls up to the one that fails, including it; 0 if no further call fails.
     calls_left: u64,
     /// The number of calls that failed.
     failed: u64,

@@ -46,9 +46,9 @@ fn devices(alloc: Global, word: &str, call: u64) -> Result<(SharedFuse, SharedFu
 }
 
 /// Translates the sentence twice over the same two devices, of which one fails at one call. Returns
-/// whether that call is one of the second translation. Fails with `Unfit` unless exactly one of the
-/// translations fails, with D1 and without output, and each device got a record
-/// with shared values, by `append_parts`, in one of the translations.
+/// whether that call is one of the second translation. Exactly one of the translations must fail,
+/// with D1 and without output, and `append_parts` must have put a record with shared values on each
+/// device. Fails with `Unfit` otherwise.
 fn fails_later(
     alloc: Global,
     translator: &Translator,
@@ -68,9 +68,9 @@ fn fails_later(
     }
 }
 
-/// Returns the number, from 1, of the first call of a device that the first translation doesn't
-/// make. Fails with `Unfit` as `fails_later` does, or if a translation makes 999 calls of the
-/// device or more, which none does.
+/// Returns one more than the number of calls of a device that the first translation makes. Fails
+/// with `Unfit` as `fails_later` does, or if a translation makes 999 calls of the device or more,
+/// which none does.
 fn first_unmade_call(alloc: Global, translator: &Translator, word: &str) -> Result<u64, Mistake> {
     for call in 1..1000 {
         if fails_later(alloc, translator, word, call)? {

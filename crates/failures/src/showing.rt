@@ -15,9 +15,10 @@ fn shown_over<D: Device>(alloc: Global, text: &str, device: &mut D) -> Result<St
     Ok(ending.answer(alloc, out.as_slice())?)
 }
 
-/// Shows 14 over a device that fails at the row's call, counted from 1. Returns how `show_value`
-/// ends, and what was written. `show_value` makes eight calls of the device: they clear it, append
-/// to it, return its length, and read it. Fails with `Misspelt` if the row is no number.
+/// Shows the value 14 over a device that fails at the row's call, counted from 1. Returns how
+/// `show_value` ends, and what was written. `show_value` makes eight calls of the device: they
+/// clear it, append to it, return its length, and read it. Fails with `Misspelt` if the row is no
+/// number.
 pub fn show_without_answer(alloc: Global, call: &str) -> Result<String, Mistake> {
     let call = number(call)? as u64;
     let mut device = FuseDevice::new(MemDevice::new(alloc), call);
@@ -55,7 +56,8 @@ impl Device for OtherFileDevice {
     }
 }
 
-/// Shows 1 over a device that returns these bytes. Returns how the call ends, and what was written.
+/// Shows the value 1 over a device that returns these bytes. Returns how the call ends, and what
+/// was written.
 pub fn show_of_answer(alloc: Global, file: Vec<u8>) -> Result<String, Mistake> {
     let mut device = OtherFileDevice {
         file: MemDevice::from_bytes(file),

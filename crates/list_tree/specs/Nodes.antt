@@ -4,7 +4,8 @@ use Rattle.ag_value.specs.declared.value.Value.{Value}
 use Rattle.list_tree.specs.declared.items.ItemNode.{ItemNode}
 use Rattle.list_tree.specs.declared.items.ItemNode.TheVariants.{Empty, Fork, Item}
 
--- the items of a tree in their order; `left` and `right` are trees, of which definitions see the lists of their items
+-- the items of a tree in their order; `left` and `right` are trees, which contracts and definitions see as the lists of their
+-- items
 abbrev pub items_of : ItemNode → List Value
 items_of Empty = []
 items_of (Item item) = item.value ∷ []

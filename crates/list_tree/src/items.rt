@@ -35,8 +35,8 @@ struct ItemBranch {
     right: ItemTree,
     /// The number of items of both sides.
     len: usize,
-    /// The number of nodes on the longest way down from this one, itself included. A greater number
-    /// than 255 is stored as 255.
+    /// The number of nodes on the longest way down from this one, itself included, or 255 if there
+    /// are more.
     height: u8,
 }
 

@@ -66,7 +66,7 @@ impl fmt::Debug for ListTree {
 }
 
 impl ListTree {
-    /// Returns the tree of the items of a well list, which are moved. Fails with NoMemory.
+    /// Moves the items of a well list into a tree. Fails with NoMemory; the items are then dropped.
     pub fn from_list(alloc: Global, items: Items<Value>) -> Result<ListTree, NoMemory>
         requires { IsWell (v.List items) }
         ensures { IfOk result (λ list. list ≡ items) }
@@ -90,7 +90,7 @@ impl ListTree {
         })
     }
 
-    /// Lends the tree of the items, which contracts see as their list, and the encodings.
+    /// Lends the tree of the items and the rope of their encodings.
     #[inline(always)]
     fn parts(&self) -> &ListParts
         ensures items { result.now.items ≡ self.now }
@@ -106,8 +106,8 @@ impl ListTree {
         self.parts().items.len()
     }
 
-    /// Returns the number of levels, 0 for the empty list. For n > 0 items it is meant to be at
-    /// most 1 + 1.45 · log2(n). No contract says so.
+    /// Returns the number of levels, 0 for the empty list. That it is at most 1 + 1.45 · log2(n)
+    /// for n > 0 items is tested, and not proved.
     pub fn height(&self) -> u8 {
         self.parts().items.height()
     }

@@ -1,5 +1,5 @@
 -- Look-ahead (the textbook): nullable symbols, FIRST, FOLLOW, the predictions of productions, and conflicts.
--- Each relation is the least one that its cases make.
+-- Each `data` relation is the least one that is closed under its cases.
 use Rattle.std.specs.Prelude.{◌≡◌, ◌<◌, ℕ, List, [], ◌∷◌, ◌++◌, ◌⊎◌}
 use Rattle.ag_grammar.specs.declared.grammar.Item.TheVariants as item
 use Rattle.ag_grammar.specs.declared.grammar.Item.{Item}
@@ -10,7 +10,8 @@ use Rattle.ag_grammar.specs.grammars.Yield.{Lexeme}
 use Rattle.llparse.specs.declared.ahead.Ahead.{Ahead}
 use Rattle.llparse.specs.declared.ahead.Ahead.TheVariants as ahead
 
--- A symbol is nullable: it has a production whose items all are. A terminal is not. AreNullable: all items of a list are.
+-- A symbol is nullable if all items of one of its productions are nullable. A terminal is not nullable. `AreNullable`: all items
+-- of a list are nullable.
 mutual
   pub data IsNullable (g : Grammar) : ℕ → Type 0 where
     by_production : (p : ℕ) (q : Production) {s : ℕ} → IsProduction g p q → q.left ≡ s → AreNullable g q.items → IsNullable g s
@@ -19,7 +20,7 @@ mutual
     nothing : AreNullable g []
     a_symbol : {s : ℕ} {xs : List Item} → IsNullable g s → AreNullable g xs → AreNullable g (item.Symbol s ∷ xs)
 
--- A terminal is in FIRST of a symbol if it is in FIRST of the right side of one of its productions. It is in
+-- A terminal is in FIRST of a symbol if it is in FIRST of the right side of one of the symbol's productions. It is in
 -- FIRST of a right side if it is the first item, if it is in FIRST of the first item, or if the first item is
 -- nullable and the terminal is in FIRST of the rest.
 mutual

@@ -2,7 +2,8 @@
 //! them, the proof that a grammar without conflicts has at most one tree of a sentence, and the
 //! parser, which writes that tree's file.
 //!
-//! A function whose error is the type `NoMemory` fails only if memory is refused; no contract says so.
+//! A function whose error is the type `NoMemory` fails only if memory is refused; no contract says
+//! so.
 #![tactic(auto)]
 
 mod ahead;

@@ -14,7 +14,8 @@ pub const MAX_NAMED: usize = 12;
 const MAX_SHOWN: usize = 24;
 
 /// A number that prints in groups of three digits, as in `1,048,576`. It prints with at most two
-/// commas: above 999,999,999 the first group has more digits.
+/// commas: above 999,999,999 the first group has more than three
+/// digits.
 #[derive(Clone, Copy)]
 pub struct GroupedNumber(pub usize);
 
@@ -36,8 +37,9 @@ impl fmt::Display for GroupedNumber {
     }
 }
 
-/// A text that prints in one line. Each control character, each white space but the plain space, and each
-/// character of `is_unseen` prints as an escape with its number, such as `\u{1b}`.
+/// A text that prints in one line. Each control character, each white space but the plain space,
+/// and each character of `is_unseen` prints as an escape with its code point in hexadecimal, such
+/// as `\u{1b}`.
 #[derive(Clone, Copy)]
 pub struct PlainText<'a>(pub &'a str);
 
@@ -50,8 +52,8 @@ impl fmt::Display for PlainText<'_> {
     }
 }
 
-/// The text of a literal, which prints as a grammar writes it: in quotes, with a backslash before each quote and each
-/// backslash. Otherwise it prints as by `PlainText`.
+/// The text of a literal, which prints as a grammar writes it: in quotes, with a backslash before
+/// each quote and each backslash. Otherwise it prints as by `PlainText`.
 #[derive(Clone, Copy)]
 pub struct QuotedText<'a>(pub &'a str);
 
@@ -68,9 +70,9 @@ impl fmt::Display for QuotedText<'_> {
     }
 }
 
-/// What was found, such as a token or a value. It prints in backquotes, as by `PlainText`. If it has more than
-/// `MAX_SHOWN` characters, only the first `MAX_SHOWN` print, and `..` after them. None means that the text ended there,
-/// and prints as `END`.
+/// What was found, such as a token or a value. It prints in backquotes, as by `PlainText`. If it
+/// has more than `MAX_SHOWN` characters, only the first `MAX_SHOWN` print, and `..` after them.
+/// None means that the text ended there, and prints as `END`.
 #[derive(Clone, Copy)]
 pub struct FoundText<'a>(pub Option<&'a str>);
 
@@ -93,9 +95,9 @@ impl fmt::Display for FoundText<'_> {
     }
 }
 
-/// Returns whether a character is in a fixed list of characters that have no shape, or that change the direction of
-/// the text beside them. The list has the byte order mark, other characters of Unicode's category Cf (but not all),
-/// and unassigned ones in the same ranges.
+/// Returns whether a character is in a fixed list of characters that have no shape, or that change
+/// the direction of the text beside them. The list has the byte order mark, other characters of
+/// Unicode's category Cf (but not all), and unassigned ones in the same ranges.
 fn is_unseen(character: char) -> bool {
     matches!(
         character,
@@ -104,7 +106,7 @@ fn is_unseen(character: char) -> bool {
     )
 }
 
-/// Writes a character: as an escape with its number if it is a control character, white space other than the plain
+/// Writes a character: as an escape if it is a control character, white space other than the plain
 /// space, or one of `is_unseen`.
 fn write_character<W: fmt::Write>(f: &mut fmt::Formatter<W>, character: char) -> fmt::Result {
     let is_plain = character == ' ' || !character.is_whitespace();

@@ -12,8 +12,8 @@ use ag_grammar::{Grammar, Symbol};
 use ag_value::Text;
 use std::alloc::AllocError;
 
-/// The numbers of an attribute, from 0: the number of its symbol, and its own number in the symbol. The synthesized
-/// attributes of a symbol come first, then the inherited ones.
+/// The numbers of an attribute, from 0: the number of its symbol, and its own number in the symbol.
+/// The synthesized attributes of a symbol come first, then the inherited ones.
 pub type Attribute = (u16, u16);
 
 /// Why a text is not the name of an attribute.
@@ -29,7 +29,7 @@ pub enum NameFault<'a> {
 }
 
 /// Returns the attribute of a name such as `L.p`. Fails with the first fault that applies, in the
-/// order of `NameFault`. Does not allocate.
+/// order of `NameFault`.
 pub fn attribute_named<'a>(grammar: &Grammar, name: &'a str) -> Result<Attribute, NameFault<'a>>
     ensures { IfOk result (λ x. IsAttributeNamed grammar.now name.now x.0 x.1) }
 {
@@ -69,8 +69,8 @@ fn has_name(symbol: &Symbol, attr: u16, name: &str) -> bool
     }
 }
 
-/// Returns the number of a symbol's first attribute of this name, if there is one. A symbol of an accepted grammar has
-/// at most `MAX_ATTRIBUTES` attributes.
+/// Returns the number of a symbol's first attribute of this name, if there is one. A symbol of an
+/// accepted grammar has at most `MAX_ATTRIBUTES` attributes.
 fn attribute_number(symbol: &Symbol, name: &str) -> Option<u16>
     ensures { IfSome result (λ a. slice_get (attribute_names symbol.now) a ≡ Some name.now) }
 {
@@ -125,8 +125,8 @@ fn write_symbols(out: &mut String, symbols: &[Symbol]) -> Result<(), AllocError>
     }
 }
 
-/// Writes that a symbol has no attribute of this name, and the names of those that it has. Writes nothing if the
-/// grammar has no symbol of this number.
+/// Writes that a symbol has no attribute of this name, and the names of those that it has. Writes
+/// nothing if the grammar has no symbol of this number.
 fn write_attributes(
     out: &mut String,
     grammar: &Grammar,

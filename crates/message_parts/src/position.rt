@@ -68,8 +68,9 @@ impl<'a> Source<'a> {
         }
     }
 
-    /// Returns the grammar and the sentence of a job on standard input. The grammar ends with the
-    /// line break before the line `%%`, or is empty. The line `%%` comes next, then the sentence.
+    /// Returns the grammar and the sentence of a job on standard input. The caller has split the
+    /// job at the line `%%`: `grammar` ends with the line break before this line, or is empty, and
+    /// `sentence` comes after this line.
     pub fn of_job(grammar: &'a [u8], sentence: &'a [u8]) -> (Source<'a>, Source<'a>) {
         let breaks = grammar.iter().filter(|byte| **byte == b'\n').count();
         let grammar = Source::new(STANDARD_INPUT, grammar);

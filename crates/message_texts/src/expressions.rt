@@ -18,8 +18,8 @@ const UNBOUND: &str = ", a name that no `let` binds here";
 /// a grammar.
 const NO_VALUE: &str = ", but attributes have values only in a grammar";
 
-/// Returns the location of a fault of an expression: a line and a column if its text has several lines, and
-/// else only the offset that the fault prints.
+/// Returns the location of a fault of an expression: a line and a column if its text has several
+/// lines, and else only the offset that the fault prints.
 pub fn locate_in_expression(fault: ExprFault, text: &str) -> Location {
     match offset_in(fault) {
         Some(at) if text.contains('\n') => Location::At(Position::of(text, at)),
@@ -41,7 +41,8 @@ pub fn describe_expression(
     }
 }
 
-/// Returns what an expression could go on with at X2, and nothing for other faults. Fails if memory is refused.
+/// Returns what an expression could go on with at X2, and nothing for other faults. Fails if memory
+/// is refused.
 fn expected_in(alloc: Global, fault: ExprFault, text: &str) -> Result<Vec<Expected>, NoMemory> {
     let mut expected = Vec::new(alloc);
     if let ExprFault::Unexpected(at) = fault {
@@ -63,8 +64,8 @@ pub fn offset_in(fault: ExprFault) -> Option<usize> {
     }
 }
 
-/// Describes a fault of an expression. `context` is the text around the fault's offset, and `expected` is what could be
-/// at this offset.
+/// Describes a fault of an expression. `context` is the text around the fault's offset, and
+/// `expected` is what could be at this offset.
 pub fn describe_fault(
     parts: &mut Parts,
     fault: ExprFault,
@@ -114,8 +115,8 @@ fn describe_depth(parts: &mut Parts) -> Result<(), AllocError> {
         .push_str("compute a part of it in another attribute")
 }
 
-/// Describes X2: the token that was found, what could be there instead (`expected`) or what is wrong
-/// with the token (as `describe_expected` does), and a hint.
+/// Describes X2: the token that was found, what could be there instead (`expected`) or, in some
+/// cases (`describe_expected`), what is wrong with the token. Adds a hint.
 fn describe_unexpected(
     parts: &mut Parts,
     context: &Context<'_>,

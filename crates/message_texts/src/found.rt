@@ -3,9 +3,9 @@
 use ag_expr::{Cursor, ExprFault, refusal};
 
 /// Returns the token at an offset in bytes. If no token begins there, returns what looks like a
-/// number or an occurrence (an attribute such as `$1.sum`), for example a number that is too large,
-/// or else the characters up to the next separator, at least one. None at the text's end, and if
-/// the offset is inside a character or after the text.
+/// number or an occurrence (an attribute such as `$1.sum`), for example a number that is too large.
+/// If there is none, returns the characters up to the next separator, at least one. None at the
+/// text's end, and if the offset is inside a character or after the text.
 pub fn found_at(text: &str, at: usize) -> Option<&str> {
     let rest = text.get(at..)?;
     let mut cursor = Cursor::new(rest);
@@ -35,8 +35,8 @@ fn leading_number(text: &str) -> Option<&str> {
     if has_digits { Some(text) } else { None }
 }
 
-/// Returns whether a character may be in an occurrence (`$1.size`) at an offset in bytes from its beginning. A `$` may
-/// be at offset 0 only.
+/// Returns whether a character may be in an occurrence (`$1.size`) at an offset in bytes from its
+/// beginning. A `$` may be at offset 0 only.
 fn is_part_of_occurrence(character: char, offset: usize) -> bool {
     match character {
         '$' => offset == 0,
@@ -69,7 +69,8 @@ pub fn token_fault(found: &str) -> Option<ExprFault> {
     }
 }
 
-/// Returns whether the text that was found begins with this character. False if there is no such text.
+/// Returns whether the text that was found begins with this character. False if there is no such
+/// text.
 pub fn begins_with(found: Option<&str>, character: char) -> bool {
     match found {
         Some(found) => found.starts_with(character),

@@ -37,8 +37,9 @@ impl<'a> GrammarText<'a> {
         Location::At(self.source.position(at))
     }
 
-    /// Reads the text once more (since `check` consumes what was read), and returns the grammar with numbers in place
-    /// of names. None if the text reads as no accepted grammar, or memory is refused.
+    /// Reads the text once more (since `check` consumes what was read), and returns the grammar
+    /// with numbers in place of names. None if the text reads as no accepted grammar, or memory is
+    /// refused.
     pub fn numbered(&self) -> Option<Grammar> {
         let raw = read_grammar(self.alloc, self.source.bytes).ok()?;
         // Every grammar that was read from a text is readable: its literals are not empty and have

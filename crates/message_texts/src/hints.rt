@@ -1,4 +1,5 @@
-//! Hints for writers who are used to other languages: what they may have meant where a text is refused.
+//! Hints for writers who are used to other languages: what they may have meant where a text is
+//! refused.
 
 use crate::found::{begins_with, found_at};
 use ag_expr::{Cursor, ExpectedPart as Part, GrammarToken};
@@ -59,8 +60,7 @@ pub struct Context<'a> {
     before: &'a str,
     /// The part from the offset on.
     rest: &'a str,
-    /// The token at the offset, or the characters up to the next separator, as `found_at` returns them. None at the
-    /// text's end, or if there is no offset.
+    /// What `found_at` returns for the offset. None if there is no offset.
     pub found: Option<&'a str>,
 }
 
@@ -100,8 +100,8 @@ impl<'a> Context<'a> {
         ""
     }
 
-    /// Returns a hint about the token at the offset, which can't be there in an expression, or an
-    /// empty text. `expected` is what could be there.
+    /// Returns a hint about the token at the offset, in an expression, where it can't be. Returns
+    /// an empty text if there is no hint. `expected` is what could be there.
     pub fn expression_hint(&self, expected: &[Expected]) -> &'static str {
         let is_operand = expected.contains(&Expected::Part(Part::Operand))
             || expected.contains(&Expected::Part(Part::Expression));
@@ -129,8 +129,8 @@ impl<'a> Context<'a> {
         }
     }
 
-    /// Returns a hint about what is at the offset, and can't be there in a grammar outside its
-    /// expressions, or an empty text. `expected` is what could be there.
+    /// Returns a hint about what is at the offset, outside the expressions of a grammar, where it
+    /// can't be. Returns an empty text if there is no hint. `expected` is what could be there.
     pub fn grammar_hint(&self, expected: &[Expected]) -> &'static str {
         if begins_with(self.found, BYTE_ORDER_MARK) {
             return MARK;
@@ -147,15 +147,16 @@ impl<'a> Context<'a> {
         ""
     }
 
-    /// Returns whether a comment of another language begins at the offset or, as `--` can, one character before it.
+    /// Returns whether a comment of another language begins at the offset or, as `--` can, one
+    /// character before it.
     fn is_comment(&self) -> bool {
         let is_second = self.before.ends_with('-') && self.rest.starts_with('-');
         let is_first = |sign: &&str| self.rest.starts_with(*sign);
         is_second || ["//", "#", "--", "/*"].iter().any(is_first)
     }
 
-    /// Returns `hint` if a name was found, and else an empty text. It is called where a name or an
-    /// operand is expected: a name that is refused there is a reserved one.
+    /// Returns `hint` if a name was found, and else an empty text. The callers expect a name or an
+    /// operand: a name that is refused there is a reserved word.
     fn reserved_hint(&self, hint: &'static str) -> &'static str {
         let Some(found) = self.found else {
             return "";

@@ -1,12 +1,12 @@
-//! The texts of messages: where a fault is, what was expected, what was found there, and what to do, with
-//! the names of the grammar. The crate `messages` makes reports of them.
+//! The texts of messages: where a fault is, what was expected, what was found there, and what to
+//! do, with the names of the grammar. The crate `messages` makes reports of them.
 //!
 //! A function `describe_..` writes the parts of the message of a fault. There are such functions
 //! for the faults whose numbers begin with X, G, N, L, A, S or P, for R1 and for O1. Faults of
 //! expressions and sentences, and those of grammars except A1, also have a function that locates
 //! them (`locate_..`).
 //!
-//! The functions take memory: if it is refused, a function fails or writes less. Most names of
+//! If memory is refused, some functions fail, and others write less or nothing. Most names of
 //! symbols and attributes are written as they are. Other parts of the input are written by
 //! `PlainText`, `QuotedText` and `FoundText` of `message_parts`. These write escapes, such as
 //! `\u{1b}`, for control characters, for white space other than the plain space, and for the

@@ -21,8 +21,8 @@ pub fn write_ahead(out: &mut String, grammar: &Grammar, ahead: Ahead) -> Result<
     }
 }
 
-/// Writes a list of look-aheads, such as "`0`, `1` or the end of the text". If there are more than twelve, writes
-/// the first twelve and the number of the others, such as "one of 5 more".
+/// Writes a list of look-aheads, such as "`0`, `1` or the end of the text". If there are more than
+/// twelve, writes the first twelve and the number of the others, such as "one of 5 more".
 pub fn write_aheads(
     out: &mut String,
     grammar: &Grammar,
@@ -68,7 +68,8 @@ pub fn write_terminals(out: &mut String, grammar: &Grammar) -> Result<(), AllocE
     write_rest(out, remaining)
 }
 
-/// Returns the terminal of an index: the literals first, and then the classes in use.
+/// Returns the terminal with this index, from 0: the literals come first, and then the classes that
+/// the grammar uses. None if the index is too large.
 fn terminal_at(grammar: &Grammar, index: usize) -> Option<Terminal> {
     match index.checked_sub(grammar.literals().len()) {
         Some(among) => Some(Terminal::Class(*grammar.classes().get(among)?)),

@@ -5,8 +5,8 @@ use message_parts::Parts;
 use message_parts::display::{FoundText, GroupedNumber};
 use std::alloc::{AllocError, Global};
 
-/// The greatest number of bytes of a text that is a value. The spelling of a text in a tree file has 5 bytes more,
-/// and its length is the value's weight.
+/// The greatest number of bytes of a text that is a value. The encoding of a text in a tree file
+/// has 5 bytes more, and has at most `MAX_WEIGHT` bytes.
 const MAX_BYTES_OF_TEXT: usize = MAX_WEIGHT as usize - 5;
 
 /// What to do about a value that is an error.
@@ -16,8 +16,8 @@ const CORRECT_RULE: &str =
 /// What to do about a value that is neither a text nor an error.
 const MAKE_TEXT: &str = "make it a text, as `text(..)` does with a number";
 
-/// Describes O1: the value of the root's `out`, and what to do. Nothing if memory for showing it is
-/// refused.
+/// Describes O1: the value of the root's `out`, and what to do. Writes nothing if memory for the
+/// value's text is refused.
 pub fn describe_value(alloc: Global, parts: &mut Parts, value: &Value) -> Result<(), AllocError> {
     match show(alloc, value) {
         Ok(shown) => describe_shown(parts, value, shown.as_str()),
@@ -25,7 +25,8 @@ pub fn describe_value(alloc: Global, parts: &mut Parts, value: &Value) -> Result
     }
 }
 
-/// Describes a value of the root's `out` that is not a text, by how it is shown.
+/// Describes a value of the root's `out` that is not a text. `shown` is the value as `show` prints
+/// it.
 fn describe_shown(parts: &mut Parts, value: &Value, shown: &str) -> Result<(), AllocError> {
     write!(
         parts.found,

@@ -10,7 +10,7 @@ use Rattle.message_parts.specs.declared.parts.Parts.{Parts}
 use Rattle.message_parts.specs.declared.position.Position.{Position}
 use Rattle.messages.specs.declared.report.FaultReport.{FaultReport}
 
--- a position with its file as editors read it, as in ` (grammar.ag:4:47)`, or without one
+-- a position: with its file as editors read it, ` (grammar.ag:4:47)`, or without a file as ` (line 4, column 47)`
 abbrev pub place_text : Option (String Global) → Position → List ℕ
 place_text (Some path) position =
     codes " (" ++ string_bytes path ++ codes ":" ++ decimal position.line ++ codes ":" ++ decimal position.column ++ codes ")"

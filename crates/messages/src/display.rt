@@ -79,7 +79,8 @@ fn write_place<W: fmt::Write>(
     }
 }
 
-/// Writes the parts that are not empty: the first one after the separator `first`, the others after commas.
+/// Writes the parts that are not empty: the first one after the separator `first`, the others after
+/// commas.
 fn write_parts<W: fmt::Write>(f: &mut fmt::Formatter<W>, first: &str, parts: &Parts) -> fmt::Result
     ensures { WritesOnOk W.write_str_gives f.old result (parts_text first.now parts.now) f.new }
 {

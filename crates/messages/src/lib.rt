@@ -1,11 +1,11 @@
-//! Messages about faults: `FaultReport` has a fault, its location by file, line and column, what was expected,
-//! what was found, and what to do, with the names of the grammar. It prints as one line.
+//! Messages about faults: `FaultReport` has a fault, its location by file, line and column, what
+//! was expected, what was found, and what to do. It prints as one line.
 //!
-//! Each kind of input has a call that makes the report of a fault: `of_expression`, `of_grammar`,
-//! `of_sentence`, `of_tree`, `of_old_tree`. `of_file` makes the report of a fault of a file or of
-//! its content, and `new` that of a fault alone. All but `new` take memory. If memory is refused,
-//! the report leaves out what needs it. Control characters, white space other than the plain space,
-//! and some invisible characters are written as escapes, such as `\u{1b}`.
+//! Each kind of input has a function that makes the report of a fault: `of_expression`,
+//! `of_grammar`, `of_sentence`, `of_tree`, `of_old_tree`. `of_file` makes the report of a fault of
+//! a file or of its content, and `new` that of a fault alone. All but `new` may take memory. If
+//! memory is refused, the report leaves out what needs it. Control characters, white space other
+//! than the plain space, and some invisible characters are written as escapes, such as `\u{1b}`.
 #![tactic(auto)]
 
 mod display;

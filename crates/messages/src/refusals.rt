@@ -32,8 +32,8 @@ pub struct ConvertedPaths<'a> {
 
 impl FaultReport {
     /// Returns the report of a fault of the file at `path`, or of its content. The report names the
-    /// file if the fault is F1 or D1, or R1, P2 or P3 of the tree in the file (`Fault::Run`). D1 and
-    /// NoMemory of a pass are `Fault::Device` and `Fault::NoMemory`, never `Fault::Run`.
+    /// file if the fault is F1 or D1, or R1, P2 or P3 of the tree in the file (`Fault::Run`). D1
+    /// and NoMemory of a pass are `Fault::Device` and `Fault::NoMemory`, never `Fault::Run`.
     pub fn of_file(alloc: Global, fault: Fault, path: &str) -> FaultReport {
         let is_named = matches!(fault, Fault::File | Fault::Device | Fault::Run(_));
         let report = FaultReport::new(alloc, fault);
@@ -108,8 +108,8 @@ impl FaultReport {
         ensures content { LeavesContent (D.is_honest tree.new)
             (D.content tree.old) (D.content tree.new) }
         // the last argument of `Persists` is a premise: if it holds, the number of failures rose.
-        // Here it is ⊥ (false), so the clause never says that the number rose: the report does not
-        // show whether a call of the device failed
+        // This premise is ⊥ (false), so the clause never says that the number rose: the report does
+        // not show whether a call of the device failed
         ensures persists { Persists (D.is_honest tree.old) (D.is_honest tree.new)
             (D.failures tree.old) (D.failures tree.new) ⊥ }
     {
@@ -122,8 +122,8 @@ impl FaultReport {
 
     /// Returns the report of a fault of converting the tree in an old file. Reads the old file
     /// again, from the device `old`, if a record is damaged (R1). The report names the old file if
-    /// that one is damaged or its tree exceeds a limit, or if the fault is D1 and the old file can't
-    /// be read (`can_read`). It names the new file after F1, and after any other D1.
+    /// that one is damaged or its tree exceeds a limit, or if the fault is D1 and the old file
+    /// can't be read (`can_read`). It names the new file after F1, and after any other D1.
     pub fn of_old_tree<D: Device>(
         alloc: Global,
         fault: Fault,
@@ -133,9 +133,7 @@ impl FaultReport {
     ) -> FaultReport
         ensures content { LeavesContent (D.is_honest old.new)
             (D.content old.old) (D.content old.new) }
-        // the last argument of `Persists` is a premise: if it holds, the number of failures rose.
-        // Here it is ⊥ (false), so the clause never says that the number rose: the report does not
-        // show whether a call of the device failed
+        // as in `of_tree`: the clause never says that the number of failures rose
         ensures persists { Persists (D.is_honest old.old) (D.is_honest old.new)
             (D.failures old.old) (D.failures old.new) ⊥ }
     {
@@ -195,8 +193,8 @@ fn locate_fault_of_grammar(fault: &Fault, text: &GrammarText<'_>) -> Location {
     }
 }
 
-/// Returns whether the length of a device and its first byte, if it has one, can be read. (Of a folder that was opened
-/// in place of a file, the length can be read.)
+/// Returns whether the length of a device and its first byte, if it has one, can be read. (Of a
+/// folder that was opened in place of a file, the length can be read.)
 fn can_read<D: Device>(device: &mut D) -> bool
     ensures content { LeavesContent (D.is_honest device.new)
         (D.content device.old) (D.content device.new) }

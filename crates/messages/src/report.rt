@@ -36,9 +36,9 @@ impl FaultReport {
         self
     }
 
-    /// Returns the report with its location in a text, and with the name of the file if the location is a
-    /// position. (A fault of the whole text, such as P2 of a sentence, is printed without the name.) Takes
-    /// memory for the name; if that is refused, the name is left out.
+    /// Returns the report with its location in a text, and with the name of the file if the
+    /// location is a position. (A fault of the whole text, such as P2 of a sentence, is printed
+    /// without the name.) Takes memory for the name; if that is refused, the name is left out.
     pub fn with_location(mut self, alloc: Global, location: Location, name: &str) -> FaultReport {
         self.location = location;
         match location {
@@ -47,8 +47,8 @@ impl FaultReport {
         }
     }
 
-    /// Returns the report with its parts, or without them if memory for writing them was refused. `written` is
-    /// the result of writing them.
+    /// Returns the report with its parts, or without them if memory for writing them was refused.
+    /// `written` is the result of writing them.
     pub fn or_bare(mut self, written: Result<(), AllocError>) -> FaultReport {
         if written.is_err() {
             self.parts.clear();

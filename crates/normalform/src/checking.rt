@@ -110,8 +110,8 @@ fn further_fault(
 
 /// Returns the number of the first symbol that is not productive (N4), if there is one. `clauses`
 /// has the clause of each production: its left side is productive if each symbol of its right side
-/// is. Without N1 to N3 all these symbols are declared, so their numbers are below the count of
-/// symbols.
+/// is. The grammar must have none of N1 to N3. So all these symbols are declared, and their numbers
+/// are below the count of symbols.
 fn unproductive(
     alloc: Global,
     raw: &RawGrammar,
@@ -129,8 +129,8 @@ fn unproductive(
 }
 
 /// Returns the number of the first symbol that is not reached (N5), if there is one. `start` is the
-/// number of the start symbol. `edges` leads from the left side of each production to each symbol
-/// of its right side. The grammar must have none of N1 to N4.
+/// number of the start symbol. `edges` has an edge from the left side of each production to each
+/// symbol of its right side. The grammar must have none of N1 to N4.
 fn unreachable(
     alloc: Global,
     raw: &RawGrammar,
@@ -265,8 +265,8 @@ fn refusal(found: Found, raw: RawGrammar) -> NormalFault
 /// appearance. Names and expressions are moved into it.
 ///
 /// Fails with the first fault: the first one of the first kind that occurs, in the order of
-/// `NormalFault`; that type says which fault is the first of a kind. Then the numbered grammar is
-/// not accepted, and the raw grammar is dropped. Fails with `NoMemory` only if memory was refused.
+/// `NormalFault`, which says which fault of a kind is the first. The numbered grammar is then not
+/// accepted, and the raw grammar is dropped. Fails with `NoMemory` only if memory was refused.
 #[tactic(auto, using(crate::proofs::numbered::Accepting::refused))]
 pub fn check(alloc: Global, raw: RawGrammar) -> Result<Grammar, NormalFault>
     requires { IsReadable raw }

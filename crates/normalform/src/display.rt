@@ -4,9 +4,9 @@ use crate::fault::NormalFault;
 use std::error::Error;
 use std::fmt;
 
-/// Prints the number of the fault, and its offset in bytes if it has one: `N9 at 100`, `N6`. N4 and N5
-/// have the offset of the symbol's name in its declaration. `NoMemory` has no number, and prints as
-/// this name.
+/// Prints the number of the fault, and its offset in bytes if it has one: `N9 at 100`, `N6`. N4 and
+/// N5 have the offset of the symbol's name in its declaration. `NoMemory` has no number, and prints
+/// as this name.
 impl fmt::Display for NormalFault {
     ghost use Rattle.std.specs.Prelude.{Some};
     ghost use Rattle.normalform.specs.Printed.{printed};

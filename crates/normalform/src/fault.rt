@@ -29,13 +29,14 @@ pub enum LimitKind {
 /// the first fault in the order of the raw grammar's lists is reported (if it was read from a text,
 /// this is the order of the text); for N4 and N5 the first declared symbol; for N6 the first by
 /// production, place and attribute; for N10 the first limit. Offsets are in bytes from the
-/// beginning of the text. Place 0 is the left side of a production; its children (symbols and
-/// classes of the right side) have the places from 1 on.
+/// beginning of the text. Place 0 of a production is its left side. The symbols and classes of the
+/// right side have the places from 1 on. The target of a rule is the attribute that it defines, and
+/// its arguments are the attributes that its expression uses.
 #[derive(Debug, Drop)]
 pub enum NormalFault {
-    /// N1: the symbol at this offset in a production is not declared, or the target or argument of
-    /// a rule at this offset names a place or an attribute that does not exist. If a symbol is
-    /// declared twice, its attributes are those of the first declaration.
+    /// N1: at this offset a production has a symbol that is not declared, or a rule has a target or
+    /// an argument whose place or attribute does not exist. If a symbol is declared twice, its
+    /// attributes are those of the first declaration.
     UnknownName(usize),
     /// N2: at this offset a symbol is declared again, or an attribute is declared again in its
     /// symbol.

@@ -5,8 +5,8 @@ ghost use Rattle.normalform.specs.Laws.{AcceptedWithoutFault, NoFaultWhereAccept
 ghost use Rattle.normalform.specs.Laws.{OneFirstFault, NoFirstFaultWithoutFault};
 ghost use Rattle.normalform.specs.Laws.{WorkedNumbers};
 
-/// States that if a raw grammar has no fault, the numbered grammar is accepted: for raw grammars
-/// that are readable, and whose numbered rules list their occurrences and have no unbound name
+/// States that the numbered grammar of a raw grammar is accepted if the raw one has no fault and is
+/// readable, and if each expression of a rule lists its occurrences and has no unbound name
 /// (`AreListedIn`).
 #[tactic(auto, using(crate::proofs::numbered::Accepting::accepted_without_fault))]
 pub fn accepted_without_fault()

@@ -3,7 +3,8 @@
 use Rattle.std.specs.Prelude.{◌≡◌, ℕ, zero, suc, ◌==◌, Bool, true, false, not, ◌&&◌, ◌||◌, if◌then◌else◌, List, [], ◌∷◌, ◌++◌}
 use Rattle.std.specs.Prelude.{length, take, drop, slice_index, bytes_eq, refl}
 
--- A call with its result: the kind of call (0 to 5), an offset or a length in bytes, whether it succeeded, and bytes.
+-- An entry of a record: its kind, an offset or a length in bytes, whether the call succeeded, and bytes. Kind 0 is an initial
+-- content, and the kinds 1 to 5 are calls.
 abbrev pub Event : Type 0
 Event = ℕ × ℕ × Bool × List ℕ
 
@@ -31,7 +32,7 @@ read_event at ok bytes = (4, at, ok, bytes)
 abbrev pub truncate_event : Bool → Event
 truncate_event ok = (5, 0, ok, [])
 
--- an event from the numbers that are passed to `note`
+-- the entry from the numbers and the bytes that are passed to `note`
 abbrev pub event_of : List ℕ → List ℕ → Event
 event_of numbers bytes = (slice_index numbers 0, slice_index numbers 1, slice_index numbers 2 == 1, bytes)
 
@@ -44,9 +45,9 @@ pub record Replay : Type 0 where
 abbrev pub has_bytes_at : List ℕ → ℕ → List ℕ → Bool
 has_bytes_at stored at bytes = bytes_eq (take (length bytes) (drop at stored)) bytes
 
--- The effect of a call, given by the four parts of its event, on a replay. A failed call has no effect. A successful append or
+-- The effect of a call, given by the four parts of its entry, on a replay. A failed call has no effect. A successful append or
 -- truncation changes the content. A returned length, or returned bytes, agree with the content, or the file is not honest from
--- then on. The initial event sets the content. The last case is that of kind 5; no greater kind is recorded.
+-- then on. The entry of kind 0 sets the content. The last case is that of kind 5; no greater kind is recorded.
 abbrev pub after_call : ℕ → ℕ → Bool → List ℕ → Replay → Replay
 after_call zero number ok bytes file = record file { stored = bytes }
 after_call (suc zero) number ok bytes file = file
@@ -57,12 +58,12 @@ after_call (suc (suc (suc (suc zero)))) at ok bytes file =
     record file { is_honest = file.is_honest && (not ok || has_bytes_at file.stored at bytes) }
 after_call (suc (suc (suc (suc (suc more))))) number ok bytes file = record file { stored = if ok then [] else file.stored }
 
--- the replay of these calls; the list has the newest call first; an empty list is the replay of an empty file
+-- the replay of these calls, of which the list has the newest first; without any call the file is empty and honest
 abbrev pub replay : List Event → Replay
 replay [] = record { stored = []; is_honest = true }
 replay (e ∷ earlier) = after_call e.0 e.1 e.2 e.3 (replay earlier)
 
--- the record of a file that is not open yet
+-- the record of a file that is not open yet: one entry, an initial content of the file
 abbrev pub IsFresh : List Event → Type 0
 IsFresh events = (bytes : List ℕ) × (events ≡ initial_event bytes ∷ [])
 

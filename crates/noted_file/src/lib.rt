@@ -1,4 +1,5 @@
-//! A file that records each call made on it, with its result, in ghost state: the record occupies no memory.
+//! A file that records each call made on it, with its result, in ghost state: the record occupies
+//! no memory.
 #![tactic(auto)]
 
 mod noted;

@@ -27,8 +27,8 @@ const READ: u64 = 4;
 
 const TRUNCATE: u64 = 5;
 
-/// An open file with the record of its calls. Contracts see both. An entry of the record has a kind, an
-/// offset or a length in bytes, a flag that says whether the call succeeded, and bytes.
+/// An open file with the record of its calls. Contracts see both. An entry of the record has a
+/// kind, an offset or a length in bytes, a flag that says whether the call succeeded, and bytes.
 #[derive(Drop)]
 pub struct NotedFile<F> {
     file: F,
@@ -43,17 +43,17 @@ impl<F> Model for NotedFile<F> {
     ghost view = { λ n. record { file = n.file; events = n.calls.events } };
 }
 
-/// Fills `out` with the bytes of a file from offset `at` on. Fails with the system's error, and with
-/// `UnexpectedEof` if there are fewer bytes; `out` has arbitrary bytes then.
+/// Fills `out` with the bytes of a file from offset `at` on. Fails with the system's error, and
+/// with `UnexpectedEof` if there are fewer bytes; `out` has arbitrary bytes then.
 fn fill_from<F: Read + Seek>(file: &mut F, at: u64, out: &mut [u8]) -> io::Result<()> {
     file.seek(SeekFrom::Start(at))?;
     file.read_exact(out)
 }
 
 impl<F: Read + Write + Seek + OpenFile> NotedFile<F> {
-    /// Opens the file at `path` with the options `how`, and continues the record `before`. `rt` is the
-    /// runtime, which provides files. Fails with the system's error if the file can't be opened; nothing
-    /// is recorded then.
+    /// Opens the file at `path` with the options `how`, and continues the record `before`. `rt` is
+    /// the runtime, which provides files. Fails with the system's error if the file can't be
+    /// opened; nothing is recorded then.
     pub fn open<Rt: Files<File = F>>(
         rt: &Rt,
         how: &OpenOptions,
@@ -68,7 +68,8 @@ impl<F: Read + Write + Seek + OpenFile> NotedFile<F> {
         Ok(NotedFile { file, calls })
     }
 
-    /// Returns the length of the file in bytes. Fails with the system's error; a failure is recorded too.
+    /// Returns the length of the file in bytes. Fails with the system's error; a failure is
+    /// recorded too.
     pub fn len(&mut self) -> io::Result<u64>
         ensures noted { MatchResult result
             (λ n. self.new.events ≡ length_event true n ∷ self.old.events)
@@ -105,9 +106,9 @@ impl<F: Read + Write + Seek + OpenFile> NotedFile<F> {
         answer
     }
 
-    /// Fills `out` with the bytes of the file from offset `at` on. Fails with the system's error, and with
-    /// `UnexpectedEof` if there are fewer bytes; a failure is recorded too, with the arbitrary bytes that
-    /// `out` has then.
+    /// Fills `out` with the bytes of the file from offset `at` on. Fails with the system's error,
+    /// and with `UnexpectedEof` if there are fewer bytes; a failure is recorded too, with the
+    /// arbitrary bytes that `out` has then.
     pub fn read_at(&mut self, at: u64, out: &mut [u8]) -> io::Result<()>
         ensures noted { self.new.events
             ≡ read_event at (is_ok result) out.new ∷ self.old.events }

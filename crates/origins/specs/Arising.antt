@@ -1,4 +1,6 @@
--- When an error arises in the rule of a node, rather than being passed on by it from an argument. All of this is this project's.
+-- When an error arises in the rule of a node, rather than being passed on by it from an argument. In these definitions r is a
+-- rule, o an argument (its place and its number there), q a production, and v a value. In `arises`, e is an expression. In the
+-- other definitions, e is a table. All of this is this project's.
 use Rattle.std.specs.Prelude.{ℕ, Bool, false, nat_eq, pos, Option, Some, None, slice_get, if◌then◌else◌}
 use Rattle.std.specs.List.{count_by}
 use Rattle.ag_value.specs.Spelling.{number_of}

@@ -1,4 +1,5 @@
--- The cause of an error: the rule in which it arises, at the end of a chain of rules that passed it on. All of this is this
+-- The cause of an error: the rule in which it arises, at the end of a chain of rules that passed it on. In these definitions g is
+-- a grammar, t a tree, v its values, r a rule, e a table, o an argument, and a the number of an attribute. All of this is this
 -- project's.
 use Rattle.std.specs.Prelude.{ℕ, zero, suc, ◌≡◌, ◌⊎◌, true, false, nat_lt, List, [], ◌∷◌, ◌++◌, Option, Some, None, slice_get}
 use Rattle.std.specs.Prelude.{if◌then◌else◌, Bool}

@@ -1,5 +1,6 @@
 -- What is known of the value of an expression without an evaluation: from its form, from which of its occurrences are errors, and
--- from the numbers and the texts among the others. All of this is this project's.
+-- from the numbers and the texts among the others. In these definitions u, v and w are values, `env` and `base` give the value of
+-- each occurrence, e is an expression, and o an operator. All of this is this project's.
 use Rattle.std.specs.Prelude.{ℕ, ◌≡◌, true, List, map, Option, Some, None}
 use Rattle.ag_value.specs.declared.value.ErrorCode.{ErrorCode}
 use Rattle.ag_value.specs.declared.value.Value.{Value}

@@ -1,4 +1,5 @@
--- The origins of errors in a tree: the nodes that have a rule in which an error arises. All of this is this project's.
+-- The origins of errors in a tree: the nodes that have a rule in which an error arises. In these definitions g is a grammar, t a
+-- tree, and v its values. All of this is this project's.
 use Rattle.std.specs.Prelude.{ℕ, zero, suc, ◌≡◌, ◌+◌, ◌^◌, ◌<◌, Bool, true, false, ◌&&◌, ◌||◌, nat_lt, nat_eq, List, [], ◌∷◌}
 use Rattle.std.specs.Prelude.{Option, Some, None, slice_get}
 use Rattle.ag_grammar.specs.grammars.AttributeGrammar.{Grammar}
@@ -10,12 +11,13 @@ use Rattle.treefile.specs.records.Records.{IsFileOfTree}
 use Rattle.treefile.specs.records.TreeFile.{version_two}
 use Rattle.origins.specs.Arising.{arising_count}
 
--- the child of a number, if there is one
+-- child number i, from 0, of a node with these children, if there is one
 abbrev pub child : Forest → ℕ → Option Tree
 child none i = None
 child (more t ts) zero = Some t
 child (more t ts) (suc i) = child ts i
 
+-- the same for a tree, which has no children if it is a leaf
 abbrev pub child_of : Option Tree → ℕ → Option Tree
 child_of None i = None
 child_of (Some (leaf c x)) i = None
@@ -42,8 +44,8 @@ abbrev mutual
   origin_counts g none vs = 0
   origin_counts g (more t ts) vs = origin_count g t (vs 0) + origin_counts g ts (rest vs)
 
--- In the order of the sentence a node comes before what is below it, and what is below one child before what is below the
--- children right of it.
+-- A test: in the order of the sentence the node at the end of the first path comes before the node at the end of the second one.
+-- A node comes before those below it, and those below one child come before those below the children right of it.
 abbrev pub is_before : List ℕ → List ℕ → Bool
 is_before [] [] = false
 is_before [] (j ∷ q) = true

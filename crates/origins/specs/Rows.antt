@@ -1,5 +1,6 @@
--- The indices of the values that a rule uses in a node's record in the file of the last pass, which has all values. All
--- of this is this project's.
+-- The indices of the values that a rule uses in a node's record in the file of the last pass, which has all values. In these
+-- definitions g is a grammar, s the number of a symbol, q a production, o an argument, and vs are the values of a record. All of
+-- this is this project's.
 use Rattle.std.specs.Prelude.{ℕ, zero, suc, ◌+◌, pos, get_or, List, [], ◌∷◌, Option, Some, None, slice_get, length}
 use Rattle.ag_value.specs.declared.value.Value.{Value, Num}
 use Rattle.ag_grammar.specs.declared.grammar.Item.{Item}
@@ -12,7 +13,7 @@ use Rattle.ag_grammar.specs.grammars.AttributeGrammar.{Grammar, attribute_names,
 use Rattle.treefile.specs.records.Records.{synthesized_count}
 use Rattle.origins.specs.Arising.{Table}
 
--- the number of attributes of a symbol; 0 if there is none
+-- the number of attributes of a symbol; 0 if there is no symbol
 abbrev pub count_of_symbol : Option Symbol → ℕ
 count_of_symbol None = 0
 count_of_symbol (Some s) = length (attribute_names s)

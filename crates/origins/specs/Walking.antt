@@ -1,6 +1,6 @@
 -- A walk over the file of the last pass from its end: what was read, and what is still to be read. In these definitions g is a
--- grammar, m an assignment of passes, k the number of a pass, d the direction of the walk, t a tree and v its values. All of this
--- is this project's.
+-- grammar, m an assignment of passes, k the number of a pass, d the direction of the walk, t a tree and v its values, o an open
+-- node and os open nodes, f the family of an open node (`Family`) and fs families. All of this is this project's.
 use Rattle.std.specs.Prelude.{ℕ, zero, suc, ◌≡◌, ◌+◌, ◌-◌, ◌^◌, ◌<◌, ◌≤◌, ◌⊎◌, Bool, false, List, [], ◌∷◌, ◌++◌, Option, Some}
 use Rattle.std.specs.Prelude.{None, Ok, drop, reverse, length, if◌then◌else◌}
 use Rattle.std.specs.List.{flat_map}
@@ -39,7 +39,7 @@ abbrev pub kids : ℕ → Forest → (ℕ → Valuation) → List Kid
 kids n none vs = []
 kids n (more t ts) vs = record { number = n; tree = t; values = vs 0 } ∷ kids (suc n) ts (rest vs)
 
--- a list that is given from left to right, in the order of a direction
+-- the list xs in the order of a direction; xs itself is in the order from left to right
 abbrev pub in_order : {X : Type 0} → Direction → List X → List X
 in_order LeftToRight xs = xs
 in_order RightToLeft xs = reverse xs
@@ -53,7 +53,7 @@ pub record Family : Type 0 where
 abbrev pub upcoming : Direction → Open → Family → List Kid
 upcoming d o f = drop o.visited (in_order d (kids 0 f.trees f.values))
 
--- the number of the child that was visited last
+-- the number of the child that was visited last; if none was visited, of the child that is visited first
 abbrev pub last_of : Direction → Open → ℕ
 last_of d o = nth d o.children (o.visited - 1)
 
@@ -97,8 +97,8 @@ ArePending g d (o ∷ os) [] path = ⊥
 ArePending g d (o ∷ os) (f ∷ fs) path =
     ((deeper : List ℕ) × (path ≡ way d os ++ deeper) × OccursIn g (upcoming d o f) deeper) ⊎ ArePending g d os fs path
 
--- Each open node is of its production, and its children are trees of the items. Their leaves have their texts, and the
--- values of their attributes up to pass k are well.
+-- Each open node o has a production of the grammar. Its children (those of its family f) are trees of the production's items.
+-- Their leaves have their texts, and the values of their attributes up to pass k are well.
 abbrev pub AreOpen : Grammar → Passes → ℕ → List Open → List Family → Type 0
 AreOpen g m k [] [] = Unit {0}
 AreOpen g m k [] (f ∷ fs) = ⊥
@@ -161,8 +161,8 @@ abbrev pub IsNextRecord : Grammar → Direction → List ℕ → ℕ → Item �
 IsNextRecord g d content at x open_nodes first count =
     OfEach (λ m k t v. IsPending g m k d t v content at x open_nodes first count) g content
 
--- A reader reads a file of version 2, and has no permanent fault. If the device is honest, this content is what it
--- reads.
+-- The reader is one of a file of version 2, and no call of it failed except with NoMemory. If the device is honest, the reader
+-- reads this content.
 pub record IsReady (honest : Bool) (content : List ℕ) (state : BackState) : Type 0 where
   pub over : WhenHonest honest (IsOver content state)
   pub version : state.progress.version ≡ version_two

@@ -236,8 +236,8 @@ impl<'a> Row<'a> {
         }
     }
 
-    /// Returns the argument that passes its error on to a rule, as `source_of` does, but always by evaluations.
-    /// Fails as `source_of` does.
+    /// Returns the argument that passes its error on to a rule, as `source_of` does, but always by
+    /// evaluations. Fails as `source_of` does.
     #[tactic(auto, using(crate::proofs::Caused::still_none, crate::proofs::Caused::arises_here))]
     fn evaluated_source(&self, alloc: Global, rule: &Rule) -> Result<Option<Target>, NoMemory>
         requires arguments { length rule.now.args ≡ length rule.now.expr.1 }

@@ -1,5 +1,5 @@
-//! What is known of the value of a rule without an evaluation. If the value is known to be the error of an argument, this
-//! argument passes its error on.
+//! What is known of the value of a rule without an evaluation. If the value is known to be the
+//! error of an argument, this argument passes its error on.
 
 ghost use Rattle.std.specs.Prelude.{IfSome, ◌≡◌, ◌+ℤ◌, ◌-ℤ◌, ◌*ℤ◌, ℕ};
 ghost use Rattle.ag_value.specs.declared.value.Value.{Value as AttributeValue};
@@ -29,8 +29,8 @@ pub(crate) enum Known {
 }
 
 impl<'a> Row<'a> {
-    /// Returns what is known of the value of a part of a rule: of its expression, or of a subexpression.
-    /// Of a name that `let` binds, and of a list, nothing is known.
+    /// Returns what is known of the value of a part of a rule: of its expression, or of a
+    /// subexpression. Of a name that `let` binds, and of a list, nothing is known.
     #[cycle(knowing)]
     #[tactic(auto, using(crate::proofs::Knowing::parts))]
     pub(crate) fn known_of(&self, rule: &Rule, part: &Node) -> Known
@@ -207,8 +207,9 @@ fn literal_stated(literal: &Literal) -> Known
     }
 }
 
-/// Returns what is known of the result of an operator from what is known of its operands. If the left
-/// operand is an error, the result is this error; otherwise, if the right one is an error, it is that.
+/// Returns what is known of the result of an operator from what is known of its operands. If the
+/// left operand is an error, the result is this error. If only the right one is an error, the
+/// result is the error of the right one.
 #[tactic(auto, using(crate::proofs::Knowing::steps))]
 fn step_known(operator: Operator, left: Known, right: Known) -> Known
     ensures { StepsTo operator left right result }
@@ -265,8 +266,8 @@ fn product_known(left: i64, right: i64) -> Known
     }
 }
 
-/// Returns what is known of a call with one argument. Its result is the argument's error, if that is
-/// one; only `iserr` accepts errors.
+/// Returns what is known of a call with one argument. If the argument is an error, the result is
+/// this error, except for `iserr`.
 #[tactic(auto, using(crate::proofs::Knowing::unary_calls))]
 fn unary_known(call: UnaryCall, argument: Known) -> Known
     ensures { CallsTo call argument result }
@@ -282,8 +283,8 @@ fn unary_known(call: UnaryCall, argument: Known) -> Known
     }
 }
 
-/// Returns what is known of a call with two arguments. Except for `orelse`, its result is the first
-/// argument's error if that is one, and otherwise the second argument's, if that is one.
+/// Returns what is known of a call with two arguments. Except for `orelse`, if the first argument
+/// is an error, the result is this error. If only the second one is, the result is its error.
 #[tactic(auto, using(crate::proofs::Knowing::binary_calls))]
 fn binary_known(call: BinaryCall, first: Known, second: Known) -> Known
     ensures { CallsBoth call first second result }
@@ -314,7 +315,7 @@ fn other_known(first: Known, second: Known) -> Known
 }
 
 /// Returns what is known of `if condition then one else other`. It is `other` if the condition is 0,
-/// `one` if the condition is another number, and the condition's error if that is one.
+/// and `one` if it is another number. If the condition is an error, the result is this error.
 #[tactic(auto, using(crate::proofs::Knowing::choices))]
 fn choice_known(condition: Known, one: Known, other: Known) -> Known
     ensures { ChoosesTo condition one other result }

@@ -1,4 +1,5 @@
-//! Environments over the values in a node's record. From an environment an evaluation gets the values of a rule's arguments.
+//! Environments over the values in a node's record. From an environment an evaluation gets the
+//! values of a rule's arguments.
 
 ghost use Rattle.std.specs.Prelude.{◌≡◌};
 ghost use Rattle.ag_value.specs.Spelling.{number_of};
@@ -17,7 +18,7 @@ use ag_value::{ErrorCode, Value};
 pub(crate) struct Arguments<'a> {
     /// The values of the record.
     pub(crate) row: &'a Row<'a>,
-    /// The rule's arguments, by the numbers with which they are lent.
+    /// The rule's arguments: `lend(k)` lends the value of argument k, from 0.
     pub(crate) arguments: &'a [Target],
     /// The value of an argument that the record lacks.
     pub(crate) spare: &'a Value,

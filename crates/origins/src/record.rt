@@ -49,11 +49,11 @@ fn values_in(alloc: Global, bytes: &[u8]) -> Result<Items<Value>, DecodeFault>
 ///
 /// For a symbol the body has to have the number of a production of the symbol, and then at most
 /// `MAX_VALUES` spellings of well values. For a class the body has to be that of a token of the
-/// class. Not checked: whether the number of values is the one that the production needs, and the
-/// text of a token.
+/// class. It is not checked that the number of values is the one that the production needs, or that
+/// the text of a token is valid.
 ///
-/// Fails with Damaged if the body is not so, or the item is a literal. Fails with NoMemory if
-/// memory is refused.
+/// Fails with Damaged if the body is not such a record, or the item is a literal. Fails with
+/// NoMemory if memory is refused.
 pub fn record_of(
     alloc: Global,
     grammar: &Grammar,

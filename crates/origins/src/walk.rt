@@ -28,8 +28,9 @@ const MAX_TURNS: u32 = 2 * MAX_NODES + 1;
 /// Where errors arise in a tree.
 #[derive(Drop)]
 pub struct Origins {
-    /// The path from the root, as numbers of children from 0, to the first node in the order of the sentence
-    /// that has a rule in which an error arises; `None` if the tree does not have such a node.
+    /// The path from the root, as numbers of children from 0, to the first node in the order of the
+    /// sentence that has a rule in which an error arises; `None` if the tree does not have such a
+    /// node.
     pub first: Option<Items<u16>>,
     /// The number of rules of the tree in which an error arises.
     pub count: u64,
@@ -213,7 +214,7 @@ impl Walk {
     }
 
     /// Enters a node whose record was read: counts its rules in which an error arises, and adds it
-    /// to the open nodes. Fails as `Origins::add_node`.
+    /// to the open nodes. Fails as `Origins::add_node` does.
     fn enter(
         &mut self,
         alloc: Global,
@@ -252,7 +253,7 @@ impl Walk {
     }
 
     /// Reads the next record, that of an item, and enters its node if it is not a token. Fails as
-    /// `fetch` and `enter`.
+    /// `fetch` and `enter` do.
     fn read<D: Device>(
         &mut self,
         alloc: Global,
@@ -287,7 +288,7 @@ impl Walk {
 
     /// Visits the next child of the innermost open node, or leaves the node if all its children were
     /// visited. The caller removed `node` from the list of open nodes. It is put back before a child is
-    /// read. Fails as `read`, and with R1 if the grammar does not have the node's production.
+    /// read. Fails as `read` does, and with R1 if the grammar does not have the node's production.
     fn turn<D: Device>(
         &mut self,
         alloc: Global,
@@ -354,11 +355,12 @@ impl Walk {
 /// such rules in the tree. A node comes before what is below it. That the file is of the last pass
 /// is not checked: for another file nothing is claimed.
 ///
-/// Reads the file once, from its end. Evaluates each rule of the tree that does more than copy an argument, and
-/// a second time if its value is an error. Takes memory for a buffer, for the values of one record, and for each level.
+/// Reads the file once, from its end. Evaluates each rule of the tree that does more than copy an
+/// argument, and a second time if its value is an error. Takes memory for a buffer, for the values
+/// of one record, for evaluations, for the open nodes, and for paths.
 ///
-/// Fails with R1, P2 or P3 as `WalkFault` says, with D1 if a call of the device failed, and with NoMemory if
-/// memory is refused.
+/// Fails with R1, P2 or P3 as `WalkFault` says, with D1 if a call of the device failed, and with
+/// NoMemory if memory is refused.
 pub fn find_origins<D: Device>(
     alloc: Global,
     grammar: &Grammar,

@@ -1,4 +1,4 @@
--- The remaining instructions of a node, the visited parts of a right side, and the values of a node and of
+-- The remaining instructions of a node, the visited items of a right side, and the values of a node and of
 -- its children. Letters: c is a setting, q a production, x an item (in `rest_of` an open node), xs are items, j is a place, a an
 -- attribute, s a symbol, d a class or a direction, e a table, and f the values of a node. In `stored` and `AgreesSoFar` s is a
 -- table too. All definitions are this project's.
@@ -24,12 +24,12 @@ use Rattle.pass_rows.specs.declared.open_node.OpenNode.{OpenNode}
 abbrev pub rest_of : Setting → OpenNode → List Instr
 rest_of c x = drop x.at (list_at c x.production)
 
--- The i parts that are visited first, from left to right.
+-- The i elements of a list that are visited first in a direction, in the order of the list.
 abbrev pub visited {ℓ} : {X : Type ℓ} → Direction → List X → ℕ → List X
 visited LeftToRight xs i = take i xs
 visited RightToLeft xs i = drop (length xs - i) xs
 
--- The index of the leftmost of these i parts among n.
+-- The index of the leftmost of the i elements that are visited first, in a list of n elements.
 abbrev pub leftmost : Direction → ℕ → ℕ → ℕ
 leftmost LeftToRight n i = 0
 leftmost RightToLeft n i = n - i

@@ -1,4 +1,4 @@
-//! An open node: one that a pass has entered, and whose instructions are not finished.
+//! Open nodes.
 
 ghost use Rattle.std.specs.Prelude.{◌≡◌, ◌+◌, ◌<◌, ◌^◌};
 ghost use Rattle.pass_rows.specs.Nodes.{first_at, left_at, after_step};
@@ -8,10 +8,10 @@ ghost use Rattle.pass_rows.specs.Nodes.{first_at, left_at, after_step};
 pub struct OpenNode {
     /// The number of its production.
     pub production: u16,
-    /// The number in the child's record that was read last, which is that of the child's production
-    /// or class; 0 if none was read.
+    /// The number in the record of the child that was read last: that of the child's production or
+    /// class. It is 0 if none was read.
     pub child: u16,
-    /// The place of the child that the pass entered last; 0 if it has entered none.
+    /// The place of the child that the pass entered last. It is 0 if it has entered none.
     pub place: u16,
     /// The index of the next instruction in the node's list.
     pub at: usize,
@@ -40,8 +40,8 @@ impl OpenNode {
         }
     }
 
-    /// Returns the node after its next instruction, which does not enter a child. `child` becomes the
-    /// field of this name.
+    /// Returns the node after its next instruction, which does not enter a child. `child` becomes
+    /// the field of this name.
     pub fn after_step(self, child: u16) -> OpenNode
         requires { self.at + 1 < 2 ^ 64 }
         ensures { result ≡ after_step self child }

@@ -1,4 +1,4 @@
--- Chains of strikes: why an attribute can't have a pass, rule by rule, down to a rule that waits for no other.
+-- Chains of strikes: why a pass can't compute an attribute, down to a strike that waits for no other attribute.
 use Rattle.std.specs.Prelude.{ℕ, ◌≡◌, List, [], ◌∷◌, Option, Some, None, slice_get, slice_index_or, take}
 use Rattle.ag_grammar.specs.declared.grammar.Item.TheVariants as item
 use Rattle.ag_grammar.specs.declared.grammar.Production.{Production}
@@ -14,8 +14,8 @@ abbrev pub first_only : List Strike → List Strike
 first_only [] = []
 first_only (x ∷ xs) = x ∷ []
 
--- A chain: each strike is of a candidate, and is good if the next one alone is struck; so the last one waits for no other
--- (this project's).
+-- A chain: each strike is of a candidate, and is good if only the attribute of the next one is struck. So the last one waits
+-- for no attribute (this project's).
 abbrev pub IsChain : Grammar → Direction → Attributes → List Strike → Type 0
 IsChain g d candidate [] = Unit {0}
 IsChain g d candidate (x ∷ xs) = candidate x.symbol x.attr × IsGood g d candidate (first_only xs) x × IsChain g d candidate xs
@@ -63,7 +63,7 @@ IsAwaited d q u o None = (s : ℕ) → item_at q o.place ≡ Some (item.Symbol s
 IsAwaited d q u o (Some w) =
     (IsSameOrLater d u.target.place o.place → ⊥) × (item_at q o.place ≡ Some (item.Symbol w.0)) × (o.attr ≡ w.1)
 
--- the strike at an index, one with zeros alone if there is none
+-- the strike at an index, one whose fields are all 0 if there is none
 abbrev pub strike_at : List Strike → ℕ → Strike
 strike_at xs i = slice_index_or xs i (record { symbol = 0; attr = 0; production = 0; rule = 0; arg = 0 })
 

@@ -48,7 +48,7 @@ dependency_of head j i k from = record { strike = record head { arg = i }; place
 abbrev pub OfEach : {X Y : Type 0} → (ℕ → X → Y → Type 0) → List X → Y → Type 0
 OfEach {X} R xs y = (i : ℕ) × (x : X) × (slice_get xs i ≡ Some x) × R i x y
 
--- the same for the elements before index n
+-- for some index i below n of the list xs and the element x there, the relation R holds of i, x and y
 abbrev pub OfPrefix : {X Y : Type 0} → (ℕ → X → Y → Type 0) → List X → ℕ → Y → Type 0
 OfPrefix {X} R xs n y = (i : ℕ) × (x : X) × (i < n) × (slice_get xs i ≡ Some x) × R i x y
 

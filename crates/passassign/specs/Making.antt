@@ -11,7 +11,7 @@ use Rattle.passassign.specs.Least.{Partial, IsAttribute}
 abbrev pub IsOpen : Grammar → Partial → ℕ → ℕ → Type 0
 IsOpen g m s a = IsAttribute g s a × (m s a ≡ None)
 
--- no other candidate can be struck
+-- no candidate that the list does not strike can be struck
 abbrev pub AreFinished : Grammar → Direction → Attributes → List Strike → Type 0
 AreFinished g d candidate xs = (x : Strike) → candidate x.symbol x.attr → IsGood g d candidate xs x
     → IsStruckBy xs x.symbol x.attr

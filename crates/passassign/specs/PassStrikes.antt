@@ -23,8 +23,8 @@ HasPassAfter m k s a = (p : ℕ) × (partial_of m s a ≡ Some p) × (k < p)
 abbrev pub AreStrikesAt : Grammar → Passes → ℕ → List Strike → Type 0
 AreStrikesAt g m k xs = StrikesExactly g (direction_of k) (HasPassFrom m k) (HasPassAfter m k) xs
 
--- The strikes of an assignment: one list for each of its passes, the first for pass 1, so that no attribute
--- is struck in the last (this project's).
+-- The strikes of an assignment: one list for each of its passes, the first for pass 1. The last list is empty, since no attribute
+-- has a later pass (this project's).
 pub record AreStrikesOf (g : Grammar) (rows : List (List ℕ)) (lists : List (List Strike)) : Type 0 where
   pub count : IsGreatest (length lists) rows
   pub each : (i : ℕ) (xs : List Strike) → slice_get lists i ≡ Some xs → AreStrikesAt g (passes_of rows) (i + 1) xs

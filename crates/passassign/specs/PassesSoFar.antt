@@ -21,7 +21,7 @@ pub record IsAcceptedWith (symbols : List Symbol) (productions : List Production
   pub productions_are : g.productions ≡ productions
 
 -- The state between two passes belongs to a grammar: its table is the partial assignment that the passes before the next one
--- make, and the direction is that of the next pass.
+-- make, and the direction is that of the next pass. `all` has the dependencies of the grammar.
 pub record IsProgress (g : Grammar) (all : List Dependency) (p : PassesSoFar) : Type 0 where
   pub of : BelongTo g all p.states.items
   pub made : IsMade g p.next (table_passes p.states.items)

@@ -57,7 +57,7 @@ abbrev pub dependency_by : (all barred : List Dependency) → Reason → Option 
 dependency_by all barred (reason.Seed i) = slice_get barred i
 dependency_by all barred (reason.Clause p) = slice_get all p
 
--- the strike at index i is that of the dependency that is the reason of an addition
+-- the strike at index i of the list xs is that of the dependency that is the reason of an addition
 abbrev pub IsStrikeOf : (all barred : List Dependency) → List Strike → ℕ → Addition → Type 0
 IsStrikeOf all barred xs i x = (u : Dependency) × (dependency_by all barred x.reason ≡ Some u) × (slice_get xs i ≡ Some u.strike)
 

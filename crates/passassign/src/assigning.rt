@@ -264,8 +264,8 @@ pub fn assign(alloc: Global, grammar: &Grammar) -> Result<Assignment, AssignFaul
 /// Returns the assignment that `assign` returns and the strikes of each of its passes, which show
 /// that it is the least one. Fails as `assign` does.
 ///
-/// Allocates what `assign` allocates, and all strikes: for each attribute, 10 bytes for each pass
-/// before its own.
+/// Allocates what `assign` allocates, and all strikes: one for each attribute and each pass before
+/// its own. A strike has 10 bytes.
 pub fn assign_with_strikes(
     alloc: Global,
     grammar: &Grammar,

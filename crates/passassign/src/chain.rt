@@ -1,4 +1,5 @@
-//! Why a pass can't compute an attribute, rule by rule, down to a rule that waits for no other.
+//! Chains of strikes: why a pass can't compute an attribute, down to a strike that waits for no
+//! other attribute.
 
 ghost use Rattle.std.specs.Prelude.{ℕ, ◌≡◌, ◌≤◌, ◌<◌, ◌↔◌, List, IfOk, IfSome, IsTrue, None, Some};
 ghost use Rattle.std.specs.Prelude.{length, slice_get};

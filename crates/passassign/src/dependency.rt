@@ -1,4 +1,4 @@
-//! The dependencies of the targets of a production's rules.
+//! The dependencies in a production: of its rules' targets on their arguments.
 
 ghost use Rattle.std.specs.Prelude.{◌≡◌, ◌≤◌, length, IfOk, OnOk, slice_get};
 ghost use Rattle.ag_grammar.specs.expressions.Occurrences.{AreDifferent};
@@ -79,8 +79,9 @@ fn append_argument(
     }
 }
 
-/// Appends the dependencies of a rule's target on the rule's arguments. `head` is a strike of the
-/// target by this rule. Each dependency has this strike, with its own argument's number as `arg`.
+/// Appends the dependencies of a rule's target, at place `place`, on the rule's arguments. `head`
+/// is a strike of the target by this rule. Each dependency has this strike, with its own argument's
+/// number as `arg`.
 fn append_arguments(
     found: &mut Vec<Dependency>,
     places: &[Item],
@@ -114,7 +115,8 @@ fn arguments(rule: &Rule) -> &[Target]
     rule.args.as_slice()
 }
 
-/// Appends the dependencies of rule `number` of production `production`, both numbered from 0.
+/// Appends the dependencies of `rule` to `found`. It is the rule `number` of production
+/// `production`, both numbered from 0.
 fn append_rule(
     found: &mut Vec<Dependency>,
     places: &[Item],

@@ -1,4 +1,5 @@
-//! Worked examples of the definitions, each a law.
+//! Worked examples of the definitions, each a law. The grammars `sample` and `both_ways` are in
+//! `specs/grammars/Sample.antt` of `ag_grammar`, and `rightward` is in `specs/Sample.antt`.
 
 ghost use Rattle.ag_grammar.specs.grammars.Passes.{IsLegal};
 ghost use Rattle.ag_grammar.specs.grammars.Sample.{sample, sample_passes, later_passes, both_ways};

@@ -58,7 +58,8 @@ pub(crate) fn has_no_pass(state: State) -> bool
     }
 }
 
-/// Returns the initial state of an attribute whose symbol has `count` attributes.
+/// Returns the initial state of the slot of attribute `attr`, from 0, of a symbol with `count`
+/// attributes.
 fn initial_state(attr: usize, count: usize) -> State
     ensures { result ≡ first_state count attr }
 {

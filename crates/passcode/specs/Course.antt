@@ -1,5 +1,7 @@
 -- The states of a node while a pass runs its list of instructions, and the instructions that may come next in each state.
 -- What a rule may use of its own pass, and when, is after Jazayeri and Walter 1975; the rest is this project's.
+-- The letters: m has the passes of attributes, q is a production, k a pass, s a state, j a place of q, a an attribute's number,
+-- r a rule's number, and o an attribute at a place.
 use Rattle.std.specs.Prelude.{ℕ, zero, suc, ◌≡◌, ◌<◌, ◌≤◌, ◌⊎◌, List, [], ◌∷◌, Option, Some, None, length}
 use Rattle.ag_grammar.specs.Lists.{Has}
 use Rattle.ag_grammar.specs.declared.grammar.Item.{Item}
@@ -15,7 +17,8 @@ pub use Rattle.passcode.specs.declared.phase.Phase.{Phase}
 pub use Rattle.passcode.specs.declared.phase.Phase.TheVariants.{Between, Got, Gone, Ended}
 use Rattle.passcode.specs.Agreement.{IsRuleAt}
 
--- A state of a node: its phase, the number of its complete children, and the numbers of the rules that were run.
+-- A state of a node: its phase, the number of its complete children, and the numbers of the rules that were run. A child is
+-- complete after its `Put`.
 pub record State : Type 0 where
   pub phase : Phase
   pub turn : ℕ

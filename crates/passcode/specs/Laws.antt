@@ -11,13 +11,13 @@ use Rattle.passcode.specs.Agreement.{ListAgrees}
 use Rattle.passcode.specs.Counts.{is_computation}
 use Rattle.passcode.specs.Course.{Runs, start}
 
--- Under a legal assignment of an accepted grammar, a list agrees for a production and a pass exactly where it runs from the
--- start to the end.
+-- Under a legal assignment of an accepted grammar, a list agrees for a production and a pass exactly if it runs from the start to
+-- the end.
 abbrev pub ListsRun : Type 0
 ListsRun = (g : Grammar) (m : Passes) (p k : ℕ) (q : Production) (xs : List Instr) → IsAccepted g → IsLegal g m
     → IsProduction g p q → 1 ≤ k → ListAgrees m q k xs ↔ Runs m q k start xs
 
--- A list that agrees runs as many rules as the production has with a target of the pass, whether or not the assignment is legal.
+-- A list that agrees runs as many rules as the production has for targets with the pass, whether or not the assignment is legal.
 abbrev pub ListsEvaluateRules : Type 0
 ListsEvaluateRules = (m : Passes) (q : Production) (k : ℕ) (xs : List Instr) → ListAgrees m q k xs
     → count_by is_computation xs ≡ pass_rule_count m k (Some q)

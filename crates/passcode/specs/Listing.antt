@@ -52,7 +52,7 @@ visit m q k done j None = []
 abbrev pub visits : Passes → Production → ℕ → List ℕ → (t n : ℕ) → List Instr
 visits m q k done t n = flat_map (λ t. visit m q k done (place_of q k t) (item_at q (place_of q k t))) (range_with_len t n)
 
--- the instructions of the node's own attributes that were not run, and the `End` (`own_part` in `Sample` is one such list)
+-- the instructions of the node's own attributes that were not run, and the `End`
 abbrev pub own_part : Passes → Production → ℕ → List ℕ → List Instr
 own_part m q k done = remaining_at m q k done 0 ++ instr.End ∷ []
 

@@ -50,10 +50,10 @@ pub fn is_same(one: Target, other: Target) -> bool
     one.place == other.place && one.attr == other.attr
 }
 
-/// What a list of instructions is for: an assignment, a production and a pass.
+/// The assignment, the production and the pass that a list of instructions is for.
 ///
-/// In its methods a `Target` is an attribute at a place of the production, whether a rule computes it
-/// or uses it as an argument.
+/// In its methods a `Target` is an attribute at a place of the production, whether a rule computes
+/// it or uses it as an argument.
 #[derive(Clone, Copy)]
 pub struct ListContext<'a> {
     /// The pass of each attribute.
@@ -65,8 +65,8 @@ pub struct ListContext<'a> {
 }
 
 impl<'a> ListContext<'a> {
-    /// Returns the pass of an attribute at a place. `None` if there is no such attribute, or if the
-    /// assignment has no pass for it. Does not allocate.
+    /// Returns the pass of an attribute at a place. Returns `None` if there is no such attribute,
+    /// or if the assignment has no pass for it. Does not allocate.
     pub fn pass_of(&self, target: Target) -> Option<u16>
         ensures { result ≡ pass_at (passes_of self.now.assignment.now) self.now.production.now target }
     {
@@ -81,7 +81,8 @@ impl<'a> ListContext<'a> {
         self.pass_of(target) == Some(self.pass)
     }
 
-    /// Returns the number, from 0, of the rule that computes an attribute at a place, if there is one.
+    /// Returns the number, from 0, of the rule that computes an attribute at a place, if there is
+    /// one.
     fn rule_for(&self, target: Target) -> Option<u16>
         requires { length self.now.production.now.rules ≤ max_rules }
         ensures { result ≡ rule_for self.now.production.now target }
@@ -94,8 +95,8 @@ impl<'a> ListContext<'a> {
         None
     }
 
-    /// Appends the instruction that computes an attribute at a place, if the attribute has this pass and
-    /// a rule computes it. Fails with NoMemory if memory is refused.
+    /// Appends the instruction that computes an attribute at a place, if the attribute has this
+    /// pass and a rule computes it. Fails with NoMemory if memory is refused.
     fn append_instruction(&self, list: &mut Vec<Instr>, target: Target) -> Result<(), NoMemory>
         requires { length self.now.production.now.rules ≤ max_rules }
         ensures { OnOk result (list.new.items ≡ list.old.items ++ remaining_for
@@ -109,8 +110,8 @@ impl<'a> ListContext<'a> {
         Ok(())
     }
 
-    /// Appends the instructions that compute the attributes at a place that have this pass, in the order
-    /// of their numbers. Fails with NoMemory if memory is refused.
+    /// Appends the instructions that compute the attributes at a place that have this pass, in the
+    /// order of their numbers. Fails with NoMemory if memory is refused.
     fn append_instructions(&self, list: &mut Vec<Instr>, place: u16) -> Result<(), NoMemory>
         requires { IsPlanned (passes_of self.now.assignment.now) self.now.production.now }
         ensures { OnOk result (list.new.items ≡ list.old.items ++ remaining_at
@@ -128,8 +129,8 @@ impl<'a> ListContext<'a> {
         Ok(())
     }
 
-    /// Appends the instructions for a place of the right side: `Get`, the `Set`s, `Go` and `Put` for a
-    /// symbol, `Get` and `Put` for a token. Fails with NoMemory if memory is refused.
+    /// Appends the instructions for a place of the right side: `Get`, the `Set`s, `Go` and `Put`
+    /// for a symbol, `Get` and `Put` for a token. Fails with NoMemory if memory is refused.
     fn append_visit(&self, list: &mut Vec<Instr>, place: u16) -> Result<(), NoMemory>
         requires { IsPlanned (passes_of self.now.assignment.now) self.now.production.now }
         ensures { OnOk result (list.new.items ≡ list.old.items ++ visit

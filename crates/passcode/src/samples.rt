@@ -1,5 +1,6 @@
-//! Worked examples of the definitions, each a law. All but the last are about pass 1 and the production
-//! `R = A A { $0.out = $1.s; $1.i = $2.s; $2.i = 0; }` (`sample_production`).
+//! Worked examples of the definitions, each a law, for pass 1. All but the last are about the
+//! production `R = A A { $0.out = $1.s; $1.i = $2.s; $2.i = 0; }` (`sample_production`). The lists
+//! are in `specs/Sample.antt`.
 
 ghost use Rattle.std.specs.Prelude.{◌≡◌, Some, count_by};
 ghost use Rattle.ag_grammar.specs.grammars.Counts.{pass_rule_count};
@@ -14,8 +15,8 @@ ghost use Rattle.passcode.specs.Sample.{undefined_list};
 
 use ag_grammar::samples::sample_legal;
 
-/// Worked example: pass 1 goes from right to left, so it visits the second of the two places first. After
-/// one turn this place was visited, and the first one was not.
+/// Worked example: pass 1 goes from right to left, so it visits the second of the two places first.
+/// After the visit of one child the second place was visited, and the first one was not.
 #[tactic(auto, using(crate::proofs::Sampled::sample_visited, crate::proofs::Sampled::sample_unvisited))]
 pub fn sample_turns()
     ensures turn { place_of sample_production 1 0 ≡ 2 }
@@ -47,15 +48,15 @@ pub fn sample_made()
     ensures { generated_list sample_passes sample_production 1 ≡ sample_list }
 {}
 
-/// Worked example: the list `sample_list` runs three rules. The production has three, and the targets of
-/// all of them have pass 1.
+/// Worked example: the list `sample_list` runs three rules. The production has three, and the
+/// targets of all of them have pass 1.
 pub fn sample_counted()
     ensures runs { count_by is_computation sample_list ≡ 3 }
     ensures rules { pass_rule_count sample_passes 1 (Some sample_production) ≡ 3 }
 {}
 
-/// Worked example: a list with the places from left to right does not agree, since pass 1 goes from right
-/// to left.
+/// Worked example: a list with the places from left to right does not agree, since pass 1 goes from
+/// right to left.
 #[tactic(auto, using(crate::proofs::Sampled::forward_refused))]
 pub fn forward_refused()
     ensures { ListAgrees sample_passes sample_production 1 forward_list → ⊥ }
@@ -76,8 +77,8 @@ pub fn undefined_refused()
     sample_legal();
 }
 
-/// Worked example: if the assignment is not legal, a list may agree and not run. The one rule of this list
-/// for pass 1 uses an attribute of the left side that has pass 2.
+/// Worked example: if the assignment is not legal, a list may agree and not run. The one rule of
+/// this list for pass 1 uses an attribute of the left side that has pass 2.
 #[tactic(auto, using(crate::proofs::Sampled::hasty_agrees, crate::proofs::Sampled::hasty_stops))]
 pub fn legality_is_needed()
     ensures agrees { ListAgrees hasty_passes hasty_production 1 hasty_list }

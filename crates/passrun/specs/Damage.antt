@@ -1,5 +1,6 @@
--- The offset at which a content shows that it is the file of no tree, or of none within the limits: the first
--- one, read backward, at which damage is met or a limit is exceeded. All definitions are this project's.
+-- Why a content is the file of no tree, or of no tree within the limits, and the offset at which that shows. A file is read from
+-- its end, and this offset is the first one at which damage is met or a limit is exceeded. In these definitions s is a source,
+-- and `at` an offset in bytes from 0. All definitions are this project's.
 use Rattle.std.specs.Prelude.{ℕ, suc, ◌≡◌, ◌≢◌, ◌<◌, ◌≤◌, ◌⊎◌, List, [], ◌∷◌, length, true, false}
 use Rattle.ag_grammar.specs.declared.direction.Direction.{Direction}
 use Rattle.ag_grammar.specs.grammars.AttributeGrammar.{Grammar}
@@ -35,8 +36,9 @@ pub record IsReadable (s : Source) (content : List ℕ) : Type 0 where
   pub begins : is_tree_file s.version content ≡ true
   pub number : pass_of content ≡ s.pass
 
--- Reading some bodies turns the list `todo` of children to be read into the list `left`: each body is a record of
--- the first child, whose level is within the limit, and the children of its node, in a direction, replace that child.
+-- Reading some bodies turns the list of children to be read (the third argument, `todo`) into the list `left`. In such a list
+-- each child x.1 has its level x.0. Each body is a record of the first child, whose level is within the limit, and the children
+-- of this node, in the direction d, replace it in the list.
 abbrev pub Leaves : Source → Direction → Pending → List (List ℕ) → Pending → Type 0
 Leaves s d todo [] left = todo ≡ left
 Leaves s d [] (body ∷ bodies) left = ⊥
@@ -44,29 +46,28 @@ Leaves s d (x ∷ xs) (body ∷ bodies) left =
     (ys : List Child) × (x.0 ≤ s.depth) × IsRecordOf s.version s.grammar s.passes s.pass x.1 body ys
     × Leaves s d (before_others d (suc x.0) ys xs) bodies left
 
--- The bodies that are read, from the end of a file, are records of the grammar at their places: the root's
--- first, and each node's before those of its children. The remaining children are still to be read. Reading a
--- file backward visits children in the direction that is opposite to that of the file's pass.
+-- The bodies that are read, from the end of a file, are records of the expected nodes: the root's first, and each node's before
+-- those of its children. The children `todo` are still to be read. Reading a file from its end visits children in the direction
+-- that is opposite to that of the file's pass.
 abbrev pub AreRecords : Source → List (List ℕ) → Pending → Type 0
 AreRecords s bodies todo = Leaves s (other (direction_of s.pass)) (pending_root s.grammar) bodies todo
 
 -- From the end of a content back to an offset there are only frames, no more than the limit of nodes, and
--- their bodies are such records. The children `todo` are still to be read.
+-- their bodies are such records (`AreRecords`). The children `todo` are still to be read.
 pub record ArrivesAt (s : Source) (content : List ℕ) (at : ℕ) (todo : Pending) : Type 0 where
   pub bodies : List (List ℕ)
   pub read : ReadsTo s.version content (length content) bodies at
   pub records : AreRecords s bodies todo
   pub few : length bodies ≤ s.nodes
 
--- The first child to be read after a number of bodies exceeds no limit: neither that of levels nor that of
--- nodes.
+-- After `count` bodies, the first child to be read exceeds neither the limit of levels nor that of nodes.
 abbrev pub IsWithin : Source → Pending → (count : ℕ) → Type 0
 IsWithin s [] count = Unit {0}
 IsWithin s (x ∷ xs) count = (x.0 ≤ s.depth) × (count < s.nodes)
 
--- Reading meets damage at an offset that it reaches, and no limit is exceeded there. Either no frame ends
--- there; or one whose body is not a record of the first child to be read; or no child is to be read, and a
--- frame is left; or the header ends there, and a child is still to be read.
+-- Reading meets damage at an offset that it reaches, and no limit is exceeded there. One of four facts holds: no frame ends
+-- there, or a frame whose body is not a record of the first child to be read, or a frame though no child is to be read, or the
+-- header though a child is still to be read.
 abbrev pub BreaksAt : Source → List ℕ → ℕ → Type 0
 BreaksAt s content at =
     (todo : Pending) × (arrival : ArrivesAt s content at todo) × IsWithin s todo (length arrival.bodies)

@@ -1,4 +1,5 @@
--- The statements of the laws. All definitions are this project's.
+-- The statements of the laws. All definitions are this project's. The letters: g is a grammar, m the passes of its attributes, k
+-- the number of a pass, t a tree, u are values of its attributes. `which`, a, b and `sum` are as in `HasRunAll`.
 use Rattle.std.specs.Prelude.{ℕ, suc, ◌≤◌, ◌≡◌, ◌-◌, List}
 use Rattle.ag_grammar.specs.grammars.Accepted.{IsAccepted}
 use Rattle.ag_grammar.specs.grammars.AttributeGrammar.{Grammar}
@@ -31,7 +32,7 @@ PlansCanRun = (context : PassContext) (passes : ℕ) → IsAccepted context.sett
     → IsGreatest passes context.setting.plan.now.0 → 1 ≤ context.setting.pass → context.setting.pass ≤ passes
     → IsLayout (setting context) context.rows.now → CanRun context
 
--- For an accepted grammar, at most one of R1 with an offset, P2 and P3 shows in a content.
+-- For an accepted grammar, at most one of R1 with an offset, P2 and P3 shows (`Shows`) in a content.
 abbrev pub ShowsOnce : Type 0
 ShowsOnce = (s : Source) (content : List ℕ) (one another : RunFault) → IsAccepted s.grammar → Shows s content one
     → Shows s content another → one ≡ another

@@ -20,10 +20,9 @@ use Rattle.pass_rows.specs.declared.open_node.OpenNode.{OpenNode}
 use Rattle.passrun.specs.Damage.{AreRecords, IsReadable, source}
 use Rattle.passrun.specs.passing.RunInvariant.{RunInvariant, Transcript}
 
--- A pass ran from one content to another: there are a tree and values such that the one is the file of the
--- previous pass and the other that of the pass, and the values satisfy each equation whose target is of the
--- pass (Knuth 1968). The tree is within the limits, and the counts are its number of nodes and of rules of
--- the pass.
+-- The pass of the setting c ran. There are a tree and values such that `content` is their file of the previous pass, and `to`
+-- their file of the pass. The values satisfy each equation whose target is of the pass (Knuth 1968). The tree is within the
+-- limits. `count` is the number of its nodes, and `evals` that of its rules of the pass.
 pub record IsPassed (c : Setting) (content to : List ℕ) (count evals : ℕ) : Type 0 where
   pub tree : Tree
   pub values : Valuation
@@ -36,9 +35,10 @@ pub record IsPassed (c : Setting) (content to : List ℕ) (count evals : ℕ) : 
   pub rules : evals ≡ rules_of_pass c.passes c.write c.grammar tree
 
 -- A pass runs between two devices: its transcript (the bodies read and written, `Transcript`) agrees with the reader (`state`)
--- and the writer (`out`). `honest` and `content` are those of the first device, `to_honest` and `to` those of the second. The
--- bodies that were read are records of the grammar at their places, and the open nodes (`stack`, the innermost first) still have
--- the children `todo` to read. `root` is the number in the root's record, and `evals` the number of rules that were evaluated.
+-- and the writer (`out`). `honest` and `content` are those of the first device, `to_honest` and `to` those of the second. Each
+-- body that was read is a record of the node that was expected next. The open nodes (`stack`, the innermost first) still have the
+-- children `todo` to read. `values` are the values in memory, `root` is the number in the root's record, and `evals` the number
+-- of rules that were evaluated.
 pub record IsRunning (c : Setting) (root : ℕ) (honest : Bool) (content : List ℕ) (to_honest : Bool) (to : List ℕ)
     (state : BackState) (out : writing.Progress) (values : List Value) (stack : List OpenNode) (evals : ℕ) : Type 0 where
   pub transcript : Transcript

@@ -1,5 +1,6 @@
 -- Passes in sequence, alternating between two devices (after Jazayeri and Walter 1975). The form of the
--- definitions and the counts are this project's.
+-- definitions and the counts are this project's. The letters: g is a grammar, m the passes of its attributes, k the number of a
+-- pass, t a tree, u and v are values of its attributes, and a and b contents of the first and the second device.
 use Rattle.std.specs.Prelude.{ℕ, suc, ◌≡◌, ◌+◌, ◌*◌, ◌-◌, ◌<◌, ◌≤◌, List}
 use Rattle.ag_grammar.specs.grammars.AttributeGrammar.{Grammar}
 use Rattle.ag_grammar.specs.grammars.Counts.{rules_of_pass, sum_of_passes}
@@ -51,7 +52,7 @@ pub record HasCounted (g : Grammar) (m : Passes) (t : Tree) (k count evals : ℕ
   pub read : sum.read ≡ count * node_count t
   pub written : sum.written ≡ count * node_count t
 
--- The counts hold for every tree that has the start as its file of pass k.
+-- The counts hold (`HasCounted`) for every tree that has the content `start` as its file of pass k.
 abbrev pub CountsPasses : Grammar → Passes → (k count : ℕ) → (start : List ℕ) → (evals : ℕ) → Passed → Type 0
 CountsPasses g m k count start evals sum = (t : Tree) (u : Valuation) → IsTreeOf g t → IsFileOfTree version_two g m k t u start
     → HasCounted g m t k count evals sum
@@ -64,10 +65,9 @@ pub record HoldsTree (g : Grammar) (m : Passes) (k : ℕ) (content : List ℕ) :
   pub within : IsWithinLimits max_depth max_nodes tree
   pub file : IsFileOfTree version_two g m k tree values content
 
--- All passes after pass k ran, up to the last one. They left two contents: that of the device that has the
--- last file, and that of the other. The counts are those of these passes. If at least one ran, the start is
--- the file of a tree within the limits. If none ran, the start is the last file, still on the first device,
--- and all counts are 0.
+-- All passes after pass k ran, up to pass `last`, from the content `start` of the first device. Now the contents are a and b, and
+-- the device `which` has the last file. `evals` and `sum` are the counts of these passes. If at least one ran, `start` is the
+-- file of a tree within the limits. If none ran, `start` is the last file, still on the first device, and all counts are 0.
 pub record HasRunAll (g : Grammar) (m : Passes) (k last : ℕ) (start : List ℕ) (which : Last) (a b : List ℕ) (evals : ℕ)
     (sum : Passed) : Type 0 where
   pub runs : RunsPasses version_two g m k last start (last_content which a b) (other_content which a b)

@@ -1,5 +1,5 @@
-//! Runs the passes of a plan over a tree file. One pass reads the file of the previous pass
-//! backward, computes the attributes of the pass, and writes the file of the pass (after Jazayeri
+//! Runs the passes of a plan over a tree file. One pass reads the file of the previous pass from
+//! its end, computes the attributes of the pass, and writes the file of the pass (after Jazayeri
 //! and Walter 1975). All passes run in sequence, alternating between two devices. Of the tree, a
 //! pass keeps only the values of the nodes on the path from the root to the current node, and of
 //! their children; the tree files are on the devices.

@@ -26,7 +26,7 @@ use planchecker::Plan;
 use std::alloc::Global;
 use treefile::Device;
 
-/// Returns the other device.
+/// Returns the other one of the two devices.
 fn other(last: Last) -> Last
     ensures { result ≡ other_last last }
 {

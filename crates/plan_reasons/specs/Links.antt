@@ -70,7 +70,7 @@ IsObstacleOf g d x l = IsLinkOf g x l × IsSameOrLater d l.target.place l.argume
 abbrev pub IsObstacle : Grammar → Direction → List Strike → Link → Type 0
 IsObstacle g d strikes l = (x : Strike) × Has strikes x × IsObstacleOf g d x l
 
--- the last argument says where an argument at place i is, in a pass of direction d, if the target of its rule is at place j.
+-- The result of `Link::geometry` for a pass of direction d, if the target of the rule is at place j, and the argument at place i.
 -- Place 0 is the left side, and `IsSameOrLater` is false if i or j is 0.
 abbrev pub IsGeometry : Direction → (j i : ℕ) → Geometry → Type 0
 IsGeometry d j i geometry.Within = IsSameOrLater d j i × (i ≡ j)

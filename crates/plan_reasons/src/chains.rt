@@ -1,5 +1,5 @@
-//! Chains of strikes, of an assignment and of a certificate: the first attribute that a pass leaves
-//! to a later pass, and the links that show why a pass can't compute an attribute.
+//! Chains of the strikes of an assignment or of a certificate: the first attribute that a pass
+//! leaves to a later pass, and the links that show why a pass can't compute an attribute.
 
 ghost use Rattle.std.specs.Prelude.{ℕ, ◌≡◌, ◌≤◌, ◌↔◌, IfOk, IfSome, IsTrue, None, Some, slice_get};
 ghost use Rattle.ag_grammar.specs.grammars.Passes.{direction_of};
@@ -23,8 +23,8 @@ pub struct LeastPlan<'a> {
     pub strikes: &'a Strikes,
 }
 
-/// Returns the pass of an attribute, if it has one. `rows` has a row for each symbol, with the pass of each of its
-/// attributes.
+/// Returns the pass of an attribute, if it has one. `rows` has a row for each symbol, with the pass
+/// of each of its attributes.
 fn pass_in(rows: &[Vec<u16>], symbol: u16, attr: u16) -> Option<u16>
     ensures { result ≡ slice_get (passes_of (numbers_of rows.now) symbol) attr }
 {
@@ -64,7 +64,7 @@ fn first_with_pass(strikes: &[Strike], assignment: &Assignment, pass: u16) -> Op
 }
 
 impl LeastPlan<'_> {
-    /// Returns the pass of an attribute, if it has one. Does not allocate.
+    /// Returns the pass of an attribute, if it has one.
     pub fn pass_of(&self, attribute: Attribute) -> Option<u16>
         ensures { result ≡ slice_get (passes_of self.now.assignment.now attribute.0) attribute.1 }
     {
@@ -72,7 +72,7 @@ impl LeastPlan<'_> {
     }
 
     /// Finds, among the strikes of pass `pass`, the first one whose attribute has pass `later`, and
-    /// returns this attribute. Returns `None` if there is no such strike. Does not allocate.
+    /// returns this attribute. Returns `None` if there is no such strike.
     pub fn first_struck(&self, pass: u16, later: u16) -> Option<Attribute>
         ensures found { IfSome result (λ x.
             IsStruckBy (strikes_of self.now.strikes.now.lists pass) x.0 x.1

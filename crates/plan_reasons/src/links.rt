@@ -45,14 +45,14 @@ pub struct Link {
 
 impl Link {
     /// Returns the attribute of the strike. In a chain it is the rule's target, as an attribute of
-    /// a symbol. Does not allocate.
+    /// a symbol.
     pub fn computed(&self) -> Attribute
         ensures { result ≡ (self.now.strike.symbol, self.now.strike.attr) }
     {
         (self.strike.symbol, self.strike.attr)
     }
 
-    /// Returns where the argument is, for a pass of a direction. Does not allocate.
+    /// Returns where the argument is, for a pass of a direction.
     pub fn geometry(&self, direction: Direction) -> Geometry
         ensures { IsGeometry direction self.now.target.place self.now.argument.place result }
     {
@@ -60,7 +60,7 @@ impl Link {
     }
 }
 
-/// Returns where an argument at place `second` is in a pass of the direction, if the target of its
+/// Returns where an argument at place `second` is, for a pass of a direction. The target of its
 /// rule is at place `first`.
 fn geometry_of(direction: Direction, first: u16, second: u16) -> Geometry
     ensures { IsGeometry direction first second result }
@@ -74,8 +74,8 @@ fn geometry_of(direction: Direction, first: u16, second: u16) -> Geometry
     Geometry::Later
 }
 
-/// Returns the link of a strike that names this production, rule and argument. Returns `None` if the
-/// argument is not an attribute of a symbol.
+/// Returns the link of a strike that names this production, rule and argument. Returns `None` if
+/// the argument is not an attribute of a symbol.
 fn link_at(production: &Production, rule: &Rule, argument: Target, strike: Strike) -> Option<Link>
     ensures { IsLinkAt production.now rule.now argument strike result }
 {

@@ -53,8 +53,7 @@ fn is_unused_in(production: &Production, attribute: Attribute) -> bool
     true
 }
 
-/// Returns whether no rule of a grammar uses an attribute. Reads each rule at most once. Does not
-/// allocate.
+/// Returns whether no rule of a grammar uses an attribute. Reads each rule at most once.
 pub fn is_unused(grammar: &Grammar, attribute: Attribute) -> bool
     ensures { IsTrue result ↔ IsUnused grammar.now attribute.0 attribute.1 }
 {
@@ -97,7 +96,7 @@ fn is_copied_in(production: &Production, attribute: Attribute) -> bool
 }
 
 /// Returns whether each rule of a grammar for an attribute is a copy. Returns true if the grammar
-/// has no rule for the attribute. Reads each rule at most once. Does not allocate.
+/// has no rule for the attribute. Reads each rule at most once.
 pub fn is_copied(grammar: &Grammar, attribute: Attribute) -> bool
     ensures { IsTrue result ↔ IsCopied grammar.now attribute.0 attribute.1 }
 {

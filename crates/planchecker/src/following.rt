@@ -1,5 +1,5 @@
 //! Runs a list of instructions through the states of a node (`Course.antt` of `passcode`), and
-//! finds the first instruction that may not come next in its state.
+//! finds the first instruction that may not come next.
 
 ghost use Rattle.std.specs.Prelude.{ℕ, ◌≡◌, ◌<◌, ◌≤◌, ◌↔◌, IsTrue, Some, length, slice_get};
 ghost use Rattle.ag_grammar.specs.Lists.{Has};
@@ -33,7 +33,8 @@ pub(crate) struct NodeState<'a> {
     pub index: usize,
     /// The phase of the node before this instruction.
     pub phase: Phase,
-    /// The number of complete children before this instruction. A child is complete after its `Put`.
+    /// The number of complete children before this instruction. A child is complete after its
+    /// `Put`.
     pub turn: usize,
 }
 
@@ -283,9 +284,9 @@ impl NodeState<'_> {
     }
 }
 
-/// Returns the index of the first instruction such that no list that agrees begins with the
-/// instructions up to and including it. Returns the length of the list if the list ends too early,
-/// and `None` if the list agrees.
+/// Returns the first wrong index of a list: some list that agrees begins with the instructions
+/// before the index, but none begins with these and the instruction at the index. Returns the
+/// length of the list if the list ends too early, and `None` if the list agrees.
 fn first_wrong_index(context: &ListContext, list: &[Instr]) -> Option<usize>
     requires planned { IsPlanned (passes_of context.now.assignment.now) context.now.production.now }
     requires pass { 1 ≤ context.now.pass }

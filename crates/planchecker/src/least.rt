@@ -87,7 +87,7 @@ fn are_later_struck(rows: &[Vec<u16>], pass: u16, struck: &Marks) -> bool
     true
 }
 
-/// Returns whether a list has the strikes of a pass of an assignment.
+/// Returns whether `strikes` are the strikes of pass `pass` of an assignment.
 fn are_strikes_at(grammar: &Grammar, assignment: &Assignment, pass: u16, strikes: &[Strike]) -> bool
     ensures { IsTrue result
         ↔ AreStrikesAt grammar.now (passes_of assignment.now) pass strikes.now }

@@ -19,8 +19,9 @@ use crate::marks::Marks;
 use ag_grammar::{Direction, Grammar, Item, Production, Target};
 use passassign::{Strike, is_same_or_later};
 
-/// The candidates for a pass (attributes without an earlier pass), and those of them that the pass has to
-/// strike, since they have a later pass or none. The latter are named `later`.
+/// The candidates for a pass (attributes without an earlier pass), and those of them that the pass
+/// has to strike, since they have a later pass or none. The members `later` and `is_later` are about
+/// those to strike.
 pub(crate) trait Candidates {
     /// The direction of the pass.
     ghost direction: { Self → TheDirection };
@@ -135,7 +136,7 @@ fn is_next<C: Candidates>(grammar: &Grammar, candidates: &C, struck: &Marks, str
 }
 
 /// Returns marks of the attributes that a list strikes, or `None` if one of the strikes may not
-/// come after those before it. Does not allocate.
+/// come next after those before it (`is_next`). Does not allocate.
 pub(crate) fn marks_of<C: Candidates>(
     grammar: &Grammar,
     candidates: &C,
@@ -147,8 +148,9 @@ pub(crate) fn marks_of<C: Candidates>(
     ensures marks { IfSome result
         (λ m. (s a : ℕ) → IsMarked m s a ↔ IsStruckBy strikes.now s a) }
 {
-    // The result is unused: the call is here for its contract, which says that the grammar is accepted.
-    // So the symbol and the attribute of a good strike have numbers that are small enough for `mark`.
+    // The result is unused: the call is here for its contract, which says that the grammar is
+    // accepted. So the symbol and the attribute of a good strike have numbers that are small enough
+    // for `mark`.
     let _productions = grammar.productions();
     let mut struck = Marks::new();
     for strike in strikes {

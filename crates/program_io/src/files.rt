@@ -7,9 +7,10 @@ use messages::{FaultReport, Source};
 use std::alloc::Global;
 use std::rt::Files;
 
-/// Returns the bytes of a grammar or a sentence, at most the first 1,048,577: one more than either
-/// may have, so a text that is too long stays too long. Fails with F1 if a file can't be opened or
-/// read, with J2 if standard input can't be read, and with NoMemory if memory is refused.
+/// Returns the bytes of a grammar or a sentence, at most the first 1,048,577: one more than a
+/// grammar or a sentence may have, so a text that is too long stays too long. Fails with F1 if a
+/// file can't be opened or read, with J2 if standard input can't be read, and with NoMemory if
+/// memory is refused.
 pub fn read_input<R: Files + Input>(
     rt: &R,
     alloc: Global,
@@ -25,8 +26,8 @@ pub fn read_input<R: Files + Input>(
     }
 }
 
-/// Returns the report of a fault of reading an input. It names the file; for standard input, its
-/// fault is J2 instead of F1.
+/// Returns the report of a fault of reading an input. After F1 the report names the file. For
+/// standard input its fault is J2 instead of F1.
 pub fn report_of_input(alloc: Global, fault: Fault, input: InputPath<'_>) -> FaultReport {
     match (fault, input) {
         (Fault::File, InputPath::Standard) => FaultReport::new(alloc, Fault::Job(JobFault::Read)),
@@ -35,8 +36,8 @@ pub fn report_of_input(alloc: Global, fault: Fault, input: InputPath<'_>) -> Fau
     }
 }
 
-/// Reads a grammar, and returns its translator. Fails if the grammar can't be read or is refused, and if memory is
-/// refused.
+/// Reads a grammar, and returns its translator. Fails if the grammar can't be read or is refused,
+/// and if memory is refused.
 pub fn read_translator<R: Files + Input>(
     rt: &R,
     alloc: Global,
@@ -46,7 +47,8 @@ pub fn read_translator<R: Files + Input>(
     build_translator(alloc, Source::new(grammar.name(), bytes.as_slice()))
 }
 
-/// Returns the translator of the grammar in a text. Fails if the grammar is refused, and if memory is refused.
+/// Returns the translator of the grammar in a text. Fails if the grammar is refused, and if memory
+/// is refused.
 pub fn build_translator(alloc: Global, grammar: Source<'_>) -> Result<Translator, FaultReport> {
     match Translator::build(alloc, grammar.bytes) {
         Ok(translator) => Ok(translator),

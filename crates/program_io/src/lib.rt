@@ -1,5 +1,7 @@
-//! What the commands of the program have in common: reading their input, the checks that no written file is an input
-//! and no translation's file a tree file of `--work`, writing output files, and the reports of a refused input or sentence.
+//! What the commands of the program have in common: reading their input, checking and writing
+//! output files, and the reports of an input that can't be read and of a refused grammar or
+//! sentence. The checks compare written files with the inputs, and translations' files with the
+//! tree files of `--work`.
 #![tactic(auto)]
 
 mod files;

@@ -19,14 +19,15 @@ const MAX_NAMES: u32 = 1_000;
 
 /// Writes a translation to the file at `path`:
 /// - prints it if this is a regular file that is also standard output;
-/// - appends it to a file that is not a regular one, and to any existing file whose path begins with
-///   /dev/ (but not /dev/shm/) or /proc/;
+/// - appends it to a file that is not a regular one, and to any existing file whose path begins
+///   with /dev/ (but not /dev/shm/) or /proc/;
 /// - replaces any other file by a new one with its mode, and creates a missing file, in both cases
 ///   with the whole translation or not at all.
 ///
 /// Fails with F1 if the file can't be examined, opened or created, if its mode can't be set, or if
 /// its links can't be followed. Fails with O2 if a write fails or takes no byte, or if the new file
-/// can't be renamed. The report of F1 and O2 names the file. Fails with NoMemory if memory is refused.
+/// can't be renamed. The report of F1 and O2 names the file. Fails with NoMemory if memory is
+/// refused.
 pub fn write_file<R: Files + Print>(
     rt: &R,
     alloc: Global,
@@ -40,7 +41,8 @@ pub fn write_file<R: Files + Print>(
     }
 }
 
-/// Writes bytes to the file at `path`, as `write_file` does, and fails as it does.
+/// Writes bytes to the file at `path`, as `write_file` does, and fails with the fault of its
+/// report.
 fn put<R: Files + Print>(rt: &R, alloc: Global, path: &str, bytes: &[u8]) -> Result<(), Fault> {
     let standard = FileId::of_standard_output(rt)?;
     match fs::metadata(rt, path) {
@@ -61,14 +63,14 @@ fn put<R: Files + Print>(rt: &R, alloc: Global, path: &str, bytes: &[u8]) -> Res
     }
 }
 
-/// Returns whether a path begins as those that the system makes for devices and open files. Links
-/// are not followed. The files in /dev/shm/ are those of programs.
+/// Returns whether a path begins with /dev/ or /proc/, where the system has devices and open files.
+/// Links are not followed. Returns false for /dev/shm/, where programs make files.
 fn is_of_system(path: &str) -> bool {
     let is_device = path.starts_with("/dev/") && !path.starts_with("/dev/shm/");
     is_device || path.starts_with("/proc/")
 }
 
-/// Opens the existing file at `path` to write at its end. Fails with F1 if it can't be opened so, and
+/// Opens the existing file at `path` to write at its end. Fails with F1 if it can't be opened, and
 /// with NoMemory if memory is refused.
 fn open_to_append<R: Files>(rt: &R, path: &str) -> Result<R::File, Fault> {
     let mut how = OpenOptions::new();
@@ -154,8 +156,9 @@ fn link_at<R: Files>(rt: &R, alloc: Global, path: &str) -> Result<String, Fault>
     Ok(path_in(alloc, folder_of(path), link)?)
 }
 
-/// Creates a new file in the folder of `path`, and returns its path and the file. Fails with F1 if it can't be
-/// created, or if all `MAX_NAMES` names are in use, and with NoMemory if memory is refused.
+/// Creates a new file in the folder of `path`, and returns its path and the file. Fails with F1 if
+/// it can't be created, or if all `MAX_NAMES` names are in use, and with NoMemory if memory is
+/// refused.
 fn create_beside<R: Files>(rt: &R, alloc: Global, path: &str) -> Result<(String, R::File), Fault> {
     let mut how = OpenOptions::new();
     how.write(true).create_new(true);

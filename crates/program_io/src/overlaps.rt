@@ -1,6 +1,7 @@
-//! Checks for files that a command would both read and write, or write as a translation and as a tree file. The
-//! checks fail with `Fault::Usage`, a message and the file's name, as a misused command line does. They fail with
-//! NoMemory if memory is refused.
+//! Checks for files that a command would both read and write, or to which it would write both a
+//! translation and a tree file. The checks fail with `Fault::Usage`, as a misused command line
+//! does, with a message and the file's name. They fail with NoMemory if memory is refused. Paths
+//! are compared through links: a path that is a link counts as the file that it leads to.
 
 use crate::paths::{folder_of, path_in};
 use crate::same_file::FileId;
@@ -28,8 +29,8 @@ const OUTPUT_IS_READ: &str = "the output is one of the inputs, write it to anoth
 /// The message about an output that is a work file.
 const OUTPUT_IS_TREE: &str = "the output is a tree file of `--work`, write it to another file";
 
-/// Fails if `tree`, the tree file that `eval` translates, is one of the work files in `folder`,
-/// through links too. Fails if memory is refused.
+/// Fails if `tree`, the tree file that `eval` translates, is one of the work files in `folder`, and
+/// if memory is refused.
 pub fn check_tree<R: Files>(
     rt: &R,
     alloc: Global,
@@ -40,7 +41,7 @@ pub fn check_tree<R: Files>(
     fail_if(alloc, is_overlap, TREE_IS_WRITTEN, tree.name())
 }
 
-/// Fails if one of the inputs is one of the work files in `folder`, through links too, and if memory is refused.
+/// Fails if one of the inputs is one of the work files in `folder`, and if memory is refused.
 pub fn check_inputs<R: Files>(
     rt: &R,
     alloc: Global,
@@ -54,9 +55,9 @@ pub fn check_inputs<R: Files>(
     Ok(())
 }
 
-/// Fails if the output at `path` is one of the inputs, or a work file in the folder `work`, through
-/// links too. The output is a translation's file, or the tree file that `parse` or `upgrade`
-/// writes. Fails if memory is refused.
+/// Fails if the output at `path` is one of the inputs or, if there is a folder `work`, a work file
+/// in it. The output is a translation's file, or the tree file that `parse` or `upgrade` writes.
+/// Fails if memory is refused.
 pub fn check_output<R: Files>(
     rt: &R,
     alloc: Global,
@@ -74,8 +75,8 @@ pub fn check_output<R: Files>(
     }
 }
 
-/// Fails if one of the translations' files is one of the inputs, which are paths of files, through links too, and if
-/// memory is refused. Does not compare them with work files: `check_output` does.
+/// Fails if one of the translations' files, `outputs`, is one of the inputs, and if memory is
+/// refused. Both are paths. Does not compare the outputs with work files: `check_output` does.
 pub fn check_outputs<R: Files>(
     rt: &R,
     alloc: Global,
@@ -97,8 +98,8 @@ pub fn check_outputs<R: Files>(
     Ok(())
 }
 
-/// Fails with the message `text` about the file at `path` if `is_overlap` is true, and if memory to find that out was
-/// refused.
+/// Fails with the message `text` about the file at `path` if `is_overlap` is true, and if memory to
+/// find that out was refused.
 fn fail_if(
     alloc: Global,
     is_overlap: Result<bool, NoMemory>,
@@ -145,8 +146,8 @@ fn is_input<R: Files>(rt: &R, path: &str, inputs: &[InputPath<'_>]) -> Result<bo
     Ok(false)
 }
 
-/// Returns whether a path leads to a work file in a folder. The work file may not exist yet, so a path
-/// whose name and folder are those of a work file counts as well.
+/// Returns whether a path leads to a work file in a folder. The work file may not exist yet, so
+/// this is also true if the path's last part and folder are those of a work file.
 fn is_work_file<R: Files>(
     rt: &R,
     alloc: Global,
@@ -168,7 +169,8 @@ fn is_work_file<R: Files>(
     Ok(false)
 }
 
-/// Returns whether a path leads to one of the files with these identities, which are sorted.
+/// Returns whether a path leads to one of the regular files with the identities `ids`, which are
+/// sorted.
 fn is_among<R: Files>(rt: &R, path: &str, ids: &[FileId]) -> Result<bool, NoMemory> {
     match FileId::at(rt, path)? {
         Some(id) => Ok(ids.binary_search(&id).is_ok()),

@@ -32,8 +32,8 @@ impl FileId {
         }
     }
 
-    /// Returns the identity of the regular file at `path`, through links. Returns `None` if there
-    /// is none, or if the system's call fails. Fails if memory is refused.
+    /// Returns the identity of the regular file at `path`, through links. Returns `None` if no
+    /// regular file is there, or if the system's call fails. Fails if memory is refused.
     pub fn at<R: Files>(rt: &R, path: &str) -> Result<Option<FileId>, NoMemory> {
         match fs::metadata(rt, path) {
             Ok(metadata) if metadata.is_file() => Ok(Some(FileId::of(&metadata))),
@@ -42,8 +42,8 @@ impl FileId {
         }
     }
 
-    /// Returns the identity of the folder at `path`, through links. Returns `None` if there is
-    /// none, or if the system's call fails. Fails if memory is refused.
+    /// Returns the identity of the folder at `path`, through links. Returns `None` if no folder is
+    /// there, or if the system's call fails. Fails if memory is refused.
     pub fn of_folder<R: Files>(rt: &R, path: &str) -> Result<Option<FileId>, NoMemory> {
         match fs::metadata(rt, path) {
             Ok(metadata) if metadata.is_dir() => Ok(Some(FileId::of(&metadata))),
@@ -52,20 +52,21 @@ impl FileId {
         }
     }
 
-    /// Returns the identity of the regular file that is standard input, if it is one. Fails if memory is
-    /// refused.
+    /// Returns the identity of the regular file that is standard input, if it is one. Fails if
+    /// memory is refused.
     pub fn of_standard_input<R: Files>(rt: &R) -> Result<Option<FileId>, NoMemory> {
         FileId::at(rt, STANDARD_INPUT)
     }
 
-    /// Returns the identity of the regular file that is standard output, if it is one. Fails if memory is
-    /// refused.
+    /// Returns the identity of the regular file that is standard output, if it is one. Fails if
+    /// memory is refused.
     pub fn of_standard_output<R: Files>(rt: &R) -> Result<Option<FileId>, NoMemory> {
         FileId::at(rt, STANDARD_OUTPUT)
     }
 }
 
-/// Returns no identity for a failed call. Fails if memory for the call was refused.
+/// Returns `None` for a call of the file system that failed with `error`. Fails if it failed since
+/// memory was refused.
 fn none_or_refused(error: &io::Error) -> Result<Option<FileId>, NoMemory> {
     match fault_or(error, Fault::File) {
         Fault::NoMemory => Err(NoMemory::NoMemory),

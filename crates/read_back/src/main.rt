@@ -1,7 +1,8 @@
-//! `read_back [--old] PATH` reads a tree file from its end and prints the number of its records; with
-//! `--old` the file is one of version 1. `benches/run` measures the program, and `tests/refused-memory`
-//! runs it once for each of its requests for memory, and refuses this request. A call of the reader
-//! for which memory was refused is named on standard error and made a second time.
+//! `read_back [--old] PATH` reads a tree file from its end and prints the number of its records;
+//! with `--old` the file is one of version 1. `benches/run` measures the program, and
+//! `tests/refused-memory` runs it once for each of its requests for memory, and refuses the
+//! request. A call of the reader for which memory was refused is named on standard error and made a
+//! second time.
 #![tactic(auto)]
 
 ghost use Rattle.std.specs.Prelude.{IfOk};
@@ -18,8 +19,8 @@ use treefile::{Device, FileDevice, FileVersion, FrameFault};
 /// The word of the command line before the path of a tree file of version 1.
 const OLD: &str = "--old";
 
-/// Prints the number of records, or the fault on standard error. The exit status is 0, that of the fault
-/// (`status`), or 1 if the number can't be printed.
+/// Prints the number of records, or the fault on standard error. The exit status is 0, that of the
+/// fault (`status`), or 1 if the number can't be printed.
 fn main(rt: HostRuntime) -> ExitCode {
     match run(&rt, rt.alloc()) {
         Ok(records) => match println!(rt; "{records} nodes") {
@@ -44,9 +45,9 @@ fn status(fault: FrameFault) -> u8 {
 }
 
 /// Returns the number of records of the file that the command line names. Fails with D1 (`Device`)
-/// if the command line names no file or the file can't be opened. Fails with NoMemory if memory for the
-/// words of the command line is refused, or if one of them is not UTF-8. Otherwise fails as `records`
-/// does.
+/// if the command line names no file or the file can't be opened. Fails with NoMemory if memory for
+/// the words of the command line is refused, or if one of them is not UTF-8. Otherwise fails as
+/// `records` does.
 fn run<R: Env + Eprint + Files + AllocGlobal>(rt: &R, alloc: Global) -> Result<u64, FrameFault> {
     let words = match std::env::args(rt) {
         Ok(words) => words,
@@ -98,8 +99,8 @@ fn records<R: Eprint, D: Device>(
     }
 }
 
-/// Starts a reader, and tries a second time if memory was refused. Fails as `start` does. The clause
-/// `over` is the condition on which `Back::back` may be called with the device.
+/// Starts a reader, and tries a second time if memory was refused. Fails as `start` does. The
+/// clause `over` is the condition on which `Back::back` may be called with the device.
 fn start_twice<R: Eprint, D: Device>(
     rt: &R,
     alloc: Global,

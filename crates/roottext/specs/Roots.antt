@@ -1,6 +1,6 @@
 -- The translation in the file of the last pass: the value of the root's `out`. In these definitions g is a grammar, `assignment`
--- has a list for each symbol with the passes of its attributes, x is a value, t a tree, and v the values of its attributes. All
--- of this is this project's.
+-- has a list for each symbol with the passes of its attributes, `content` has the bytes of a file, x is a value, t a tree, and v
+-- the values of its attributes. All of this is this project's.
 use Rattle.std.specs.Prelude.{ℕ, ◌≡◌, ◌≢◌, List, Result, Ok, Err, length}
 use Rattle.ag_value.specs.Well.{IsWell}
 use Rattle.ag_value.specs.declared.value.Value.{Value, Text}
@@ -19,8 +19,8 @@ use Rattle.treefile.specs.declared.reading.FrameFault.TheVariants as frame_fault
 use Rattle.roottext.specs.declared.fault.OutFault.{OutFault}
 use Rattle.roottext.specs.declared.fault.OutFault.TheVariants as out_fault
 
--- A body is a root's record in a file of the last pass, which means the record of a node of the start symbol with well values. It
--- has the value x for `out`.
+-- A body is a root's record in a file of the last pass: the record of a node of the start symbol, with well values. It has the
+-- value x for `out`.
 pub record IsRootRecord (g : Grammar) (assignment : List (List ℕ)) (body : List ℕ) (x : Value) : Type 0 where
   pub last : ℕ
   pub greatest : IsGreatest last assignment
@@ -82,7 +82,7 @@ IsRootText g v (Err (out_fault.Damaged at)) = ⊥
 IsRootText g v (Err out_fault.Device) = Unit {0}
 IsRootText g v (Err out_fault.NoMemory) = Unit {0}
 
--- The result is right for each tree and values whose file of the last pass the content is.
+-- If the content is the file of the last pass of a tree with some values, the result is right for this tree and these values.
 abbrev pub MatchesRoot : Grammar → List (List ℕ) → List ℕ → Result (List ℕ) OutFault → Type 0
 MatchesRoot g assignment content result = (last : ℕ) → IsGreatest last assignment → (t : Tree) (v : Valuation) → IsTreeOf g t
     → IsFileOfTree version_two g (passes_of assignment) last t v content → IsRootText g v result

@@ -20,7 +20,7 @@ use planchecker::Plan;
 use std::alloc::Global;
 use treefile::{Device, FrameFault, last_body};
 
-/// Returns the index of the first name `out` among names, or `None` if there is none.
+/// Returns the index of the first `out` in a list of names, or `None` if there is none.
 fn out_among(names: &[Text]) -> Option<usize>
     ensures some { IfSome result (λ a. slice_get names.now a ≡ Some out_name) }
     ensures none { result ≡ None → Has names.now out_name → ⊥ }
@@ -47,10 +47,10 @@ fn out_number(grammar: &Grammar) -> usize
     }
 }
 
-/// Reads the value of the attribute number `out` in `body`, the root's record in the file of the
-/// last pass. The value has the type `Carried` of `ag_carried`, since `read_node` makes values of this
-/// type. With a setting of pass k, `read_node` reads records of the file of pass k - 1. So the setting
-/// here has the number of the last pass plus 1, though no such pass runs.
+/// Reads the value of the attribute with number `out` from `body`, the root's record in the file of
+/// the last pass. The value has the type `Carried` of `ag_carried`, since `read_node` makes values
+/// of this type. With a setting of pass k, `read_node` reads records of the file of pass k - 1. So
+/// the setting here has the number of the last pass plus 1, though no such pass runs.
 ///
 /// Fails with `Damaged` if the body is not such a record, and with `NoMemory` if memory is refused.
 fn read_out(
@@ -97,15 +97,15 @@ fn out_value(
     ensures well { IfOk result IsWell }
 {
     let carried = read_out(alloc, grammar, plan, out, body)?;
-    // The value was decoded from the body and has one owner, so this takes no memory.
+    // The value was decoded from the body and has one owner, so it is not copied.
     let Ok(value) = carried.into_value(alloc) else {
         return Err(RecordFault::NoMemory);
     };
     Ok(value)
 }
 
-/// Returns the value of the root's attribute number `out` in the file of the last pass. Fails as
-/// `root_text` does, except with O1.
+/// Returns the value of the root's attribute with number `out` in the file of the last pass. Fails
+/// as `root_text` does, but never with O1.
 fn last_value<D: Device>(
     alloc: Global,
     grammar: &Grammar,
@@ -134,9 +134,9 @@ fn last_value<D: Device>(
     }
 }
 
-/// Returns the translation: the value of the root's `out`, if it is a text, in the file of the last
-/// pass on a device. Reads only the last record of the file, which in the file of a tree is the
-/// root's.
+/// Returns the translation, if it is a text: the value of the root's `out` in the file of the last
+/// pass, which is on the device. Reads only the last record of the file, which in the file of a
+/// tree is the root's.
 ///
 /// Fails with O1 NoText and the value if it is a number, a list, a table or an error. Fails with B1
 /// NotATreeFile if there are fewer than 6 bytes or the first four are not `AGT2`. Otherwise fails
@@ -146,7 +146,7 @@ fn last_value<D: Device>(
 /// bytes. Fails with D1 Device if a call of the device failed, and with NoMemory if memory was
 /// refused.
 ///
-/// The number of the pass in the header is ignored. Takes memory for the record and for its values.
+/// Ignores the number of the pass in the header. Takes memory for the record and for its values.
 pub fn root_text<D: Device>(
     alloc: Global,
     grammar: &Grammar,

@@ -9,15 +9,15 @@ use std::alloc::{AllocError, Global};
 const MAX_PIECE: usize = 256;
 
 /// The greatest depth in a rope, counted from 0 at the root, of a piece to which `join` adds bytes.
-/// In a text that grows at both ends in turn, the last piece to be added has depth 1, and the piece
-/// at the other end has depth 2.
+/// In a text that grows at both ends in turn, the piece at the end that grew last has depth 1, and
+/// the piece at the other end has depth 2.
 const MAX_LEVELS: u32 = 2;
 
 impl Rope {
-    /// Joins two ropes, whose lengths together must be below 2^64, in constant time. A rope of one
-    /// piece is made one piece with the piece of the other rope that is next to it, if that piece
-    /// is at most two nodes below its root and both pieces together have at most 256 bytes. Fails
-    /// with AllocError.
+    /// Joins two ropes, whose lengths together must be below 2^64, in constant time. If one rope is
+    /// a single piece, this piece and the nearest one of the other rope are copied into one piece,
+    /// but only if the nearest one is at most two nodes below the root of its rope, and both have
+    /// at most 256 bytes together. Fails with AllocError.
     pub fn join(alloc: Global, left: Rope, right: Rope) -> Result<Rope, AllocError>
         requires { length left + length right < 2 ^ 64 }
         ensures { IfOk result (λ rope. rope ≡ left ++ right) }

@@ -1,5 +1,6 @@
 //! Tests of deep ropes, since no clause bounds the depth of recursion, and of a text that grows at
-//! both ends. They are in this crate because they call `Rope::pair`, which other crates can't.
+//! both ends. They are in this crate because the first one calls `Rope::pair`, which other crates
+//! can't.
 
 use crate::rope::Rope;
 use std::alloc::{AllocError, Global};

@@ -1,4 +1,5 @@
-//! Runs rows one after the other. Keeps the current texts, and the last answer until it is compared.
+//! Runs rows one after the other. Keeps the current texts, and the last answer until it is
+//! compared.
 
 use crate::current_texts::CurrentTexts;
 use crate::words::{Mistake, first_word};
@@ -28,8 +29,8 @@ pub trait Questions {
 
 /// Runs the rows on standard input. Prints each wrong line with its number, from 1, and then the
 /// number of right answer lines. Fails if standard input can't be read, if standard output can't be
-/// written, or if memory for lines and texts is refused. (If memory for an answer is refused, its line
-/// is printed as a wrong one, with `NoMemory`.)
+/// written, or if memory for lines and texts is refused. (If memory for an answer is refused, its
+/// line is printed as a wrong one, with `NoMemory`.)
 pub fn try_rows<R: Input + Print, Q: Questions>(
     rt: &R,
     alloc: Global,
@@ -40,10 +41,11 @@ pub fn try_rows<R: Input + Print, Q: Questions>(
     println!(rt; "{} answers are right", sheet.right)
 }
 
-/// Runs the lines on standard input. Prints what is wrong with a line after the line's number, from 1. If a line of an
-/// answer is not compared, this is reported with the number of the next line that is not an answer, empty or a comment,
-/// unless that line has a mistake of its own, which is then reported instead. At the end it is reported with the number of
-/// the last line. Fails as `try_rows` does.
+/// Runs the lines on standard input. Prints what is wrong with a line after the line's number, from
+/// 1. If lines of an answer are not compared, a message is printed with the number of the next line
+/// that is neither empty, a comment nor an answer. If that line has a mistake, only the mistake is
+/// printed. If no such line follows, the message has the number of the last line. Fails as
+/// `try_rows` does.
 fn take_lines<R: Input + Print, Q: Questions>(
     rt: &R,
     alloc: Global,
@@ -86,8 +88,8 @@ impl Sheet {
         }
     }
 
-    /// Runs the next line, and returns what is wrong with it, if anything. Ignores empty lines and those that
-    /// begin with `#`.
+    /// Runs the next line, and returns what is wrong with it, if anything. Ignores empty lines and
+    /// those that begin with `#`.
     fn take<Q: Questions>(
         &mut self,
         alloc: Global,
@@ -141,8 +143,8 @@ impl Sheet {
         Ok(None)
     }
 
-    /// Runs a line that isn't an answer. Returns what is wrong with it or, if nothing is, a message if lines of the
-    /// last answer were not compared.
+    /// Runs a line that isn't an answer. Returns what is wrong with it or, if nothing is, a message
+    /// if lines of the last answer were not compared.
     fn ask<Q: Questions>(
         &mut self,
         alloc: Global,

@@ -54,9 +54,9 @@ fn write_before(alloc: Global, text: &mut String, rest: &str) -> Result<(), Allo
     text.push_str(so_far.as_str())
 }
 
-/// Appends copies of a piece: the first word of `rest` spells their number, and the text after it is
-/// the piece. In each copy, `#` becomes the copy's number from 0, `@` its number from 1, and `~` a
-/// space.
+/// Appends copies of a piece: the first word of `rest` spells their number, and the text after it
+/// is the piece. In each copy, `#` becomes the copy's number from 0, `@` its number from 1, and `~`
+/// a space.
 fn write_times(alloc: Global, text: &mut String, rest: &str) -> Result<(), Mistake> {
     let (count, piece) = first_word(rest);
     let count = number(count)?;
@@ -81,7 +81,8 @@ fn write_alike(
     text.push_str(one.as_str().repeat(alloc, count)?.as_str())
 }
 
-/// Appends the copy of a text with the number `turn`, from 0.
+/// Appends copy number `turn` (from 0) of a piece, with `#`, `@` and `~` replaced as in
+/// `write_times`.
 fn write_turn(text: &mut String, piece: &str, turn: u32) -> Result<(), AllocError> {
     for letter in piece.chars() {
         match letter {

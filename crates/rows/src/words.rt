@@ -10,7 +10,8 @@ use std::fmt::Debug;
 pub enum Mistake {
     /// A word of the row is unknown, missing, or not the number or the bytes that it has to be.
     Misspelt,
-    /// A text is not what the row's verb needs, such as an accepted grammar, or a call did not end as the row assumes.
+    /// A text is not what the row's verb needs, such as an accepted grammar, or a call did not end
+    /// as the row assumes.
     Unfit,
     /// A request for memory was refused.
     NoMemory,
@@ -49,8 +50,8 @@ pub fn short_number(word: &str) -> Result<u16, Mistake> {
 }
 
 /// Returns the parts of a text between separators, or no part for the text `-`. An empty text has
-/// one empty part. The separator must not be empty: the loop takes for granted that each part but the last
-/// one takes at least one byte of the text. Fails if memory is refused.
+/// one empty part. The separator must not be empty: the loop takes for granted that each part but
+/// the last one has at least one byte, counting the separator after it. Fails if memory is refused.
 pub fn parts<'a>(
     alloc: Global,
     text: &'a str,
@@ -106,7 +107,8 @@ fn bytes_of_word(alloc: Global, word: &str) -> Result<Vec<u8>, Mistake> {
     }
 }
 
-/// The greatest number of bytes that are printed as digits. Of more bytes only their number is printed.
+/// The greatest number of bytes that are printed as digits. Of more bytes only their number is
+/// printed.
 const MAX_PRINTED: usize = 128;
 
 /// Returns two hexadecimal digits for each byte, or only the number of bytes if there are more than

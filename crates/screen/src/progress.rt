@@ -15,18 +15,18 @@ const DELAY: u64 = 2_000;
 /// How long a line is shown before the next one, in milliseconds.
 const INTERVAL: u64 = 200;
 
-/// While a sentence is parsed, the clock is read once in this number of calls that append.
+/// The number of calls that append for each reading of the clock, while a sentence is parsed.
 const APPENDS: u32 = 256;
 
 /// The progress of a translation. Once the translation has taken two seconds, a line on standard
-/// error shows the current pass, and how much of the tree file that it reads has been read. Failed
-/// writes of the line are ignored.
+/// error shows that the sentence is parsed or, in a pass, the number of the pass and the percentage
+/// of its input file that has been read. Failed writes of the line are ignored.
 #[derive(Drop)]
 pub struct Progress<'a, R> {
     rt: &'a R,
     /// The number of passes.
     passes: u16,
-    /// The time of the clock from which the next line may be shown.
+    /// The time of the monotonic clock from which on the next line is due.
     next: Cell<Duration>,
     /// Whether a line is shown.
     is_shown: Cell<bool>,
@@ -54,8 +54,7 @@ impl<'a, R: Clock + Eprint> Progress<'a, R> {
         }
     }
 
-    /// Counts a tree file that is begun, by the parser or by a pass. Each of them first clears its
-    /// device.
+    /// Counts a tree file that is begun. The parser and each pass begin one by clearing its device.
     fn begin_pass(&self) {
         self.written.set(self.written.get().saturating_add(1));
     }
@@ -68,7 +67,7 @@ impl<'a, R: Clock + Eprint> Progress<'a, R> {
     }
 
     /// Counts a call that appends. While the sentence is parsed, each `APPENDS`th call shows a line
-    /// if one is due. In a pass the calls that read show the lines.
+    /// if one is due. In a pass only the calls that read show lines (`note_read`).
     fn note_append(&self) {
         let appends = self.appends.get().saturating_add(1);
         if appends < APPENDS {
@@ -81,8 +80,8 @@ impl<'a, R: Clock + Eprint> Progress<'a, R> {
         }
     }
 
-    /// Shows a line if one is due. A tree file of `length` bytes is read from its end, and reading
-    /// has come down to the offset `at`.
+    /// Shows a line if one is due. A pass reads its input file, of `length` bytes, from the end,
+    /// and now reads at the offset `at`, in bytes.
     fn note_read(&self, at: u64, length: u64) {
         if self.is_due() {
             let line = ProgressLine::Reading {
@@ -128,7 +127,7 @@ fn percent_of(part: u64, whole: u64) -> u64 {
 pub struct ShownDevice<'a, D, R> {
     inner: D,
     /// The length in bytes that the last call of `len` returned; 0 if it failed, or before the
-    /// first call. A reader calls `len` when it begins with a file.
+    /// first call. A reader calls `len` before it reads a file.
     length: u64,
     progress: &'a Progress<'a, R>,
 }

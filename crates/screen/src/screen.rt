@@ -30,8 +30,8 @@ pub struct Screen {
 }
 
 impl Screen {
-    /// Returns the screen for messages if no command line was parsed: all messages are printed, and
-    /// none is marked. No progress is shown.
+    /// Returns the screen for messages before the command line is parsed, or if parsing it fails:
+    /// all messages are printed, and none is marked. No progress is shown.
     pub fn plain() -> Screen {
         Screen {
             is_quiet: false,
@@ -43,10 +43,10 @@ impl Screen {
     /// Returns the screen for a command line's `messages`. `is_terminal` says whether standard
     /// error is a terminal.
     ///
-    /// `Color::Always` and `Color::Never` decide whether messages are marked. With `Color::Auto`
-    /// they are marked on a terminal, unless the environment variable `NO_COLOR` is set and not
-    /// empty, or the terminal is dumb (`is_dumb`). Progress is shown on a terminal, unless messages
-    /// are quiet or the terminal is dumb.
+    /// With `Color::Always` messages are marked, and with `Color::Never` they are not. With
+    /// `Color::Auto` they are marked if standard error is a terminal that isn't dumb (`is_dumb`)
+    /// and the environment variable `NO_COLOR` allows it (`allows_colors`). Progress is shown if
+    /// standard error is a terminal that isn't dumb and messages aren't quiet.
     pub fn new<R: Env + AllocGlobal>(rt: &R, messages: Messages, is_terminal: bool) -> Screen {
         let is_marked = match messages.color {
             Color::Always => true,
@@ -66,8 +66,8 @@ impl Screen {
     }
 
     /// Returns the progress of a translation that begins now. The first tree file that is written
-    /// is that of pass `first`: 0 if a sentence is parsed, and 1 if the tree is read from a file. (In
-    /// that case pass 1 shows no progress: it reads a device that is not a `ShownDevice`.) Returns
+    /// is that of pass `first`: 0 if a sentence is parsed, and 1 if the tree is read from a file.
+    /// (With 1, pass 1 shows no progress: it reads a device that is not a `ShownDevice`.) Returns
     /// `None` if no progress is shown, or the clock can't be read.
     pub fn progress<'a, R: Clock + Eprint>(
         self,
@@ -85,7 +85,7 @@ impl Screen {
 
     /// Prints a message on standard error, in one line. If messages are quiet, prints only one
     /// about a misused command line. If memory for the marked line is refused, prints the message
-    /// unmarked. A failure to print is ignored: the exit status still shows the kind of failure.
+    /// unmarked. A failure to print is ignored: the exit status still depends on the fault.
     pub fn print<R: Eprint>(self, rt: &R, alloc: Global, report: &FaultReport) {
         if self.is_quiet && !matches!(report.fault, Fault::Usage) {
             return;
@@ -135,8 +135,8 @@ fn marked_line(alloc: Global, report: &FaultReport) -> Option<String> {
     format!(in alloc; "{NUMBER}{number}{END}{offset}{before}{PLACE}{place}{END}{after}").ok()
 }
 
-/// Returns the number of bytes of a fault's first word, without colons at its end: a misused command
-/// line prints as `usage: ..`, and the colon is not marked.
+/// Returns the number of bytes of what is marked of a fault: its text up to the first space. A
+/// colon before that space, as in `usage: ..`, is not marked.
 fn number_len(fault: &str) -> usize {
     match fault.split_once(' ') {
         Some((word, _)) => word.trim_end_matches(':').len(),
@@ -144,9 +144,9 @@ fn number_len(fault: &str) -> usize {
     }
 }
 
-/// Returns the offset in bytes of a report's place in `rest`, the line after the fault. A position
-/// comes after ` (`, which has 2 bytes. A file without a position is at the end. Returns 0 if there
-/// is neither.
+/// Returns the offset in bytes of a report's place in `rest`, the part of the line after the fault.
+/// A line and a column, with or without a file, come after ` (`, which has 2 bytes. A file without
+/// them is at the end of `rest`. Returns 0 if there is neither.
 fn place_start(report: &FaultReport, rest: &str) -> usize {
     match (report.location, &report.file) {
         (Location::At(_), _) => 2,

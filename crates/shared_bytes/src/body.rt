@@ -44,10 +44,10 @@ impl<'a> Model for Body<'a> {
         × (b.base + length b.own.now < 2 ^ 64) };
 }
 
-/// Returns the number of own bytes of the whole list before `offset`: the `from` ones before offset
-/// `start`, and all bytes from `start` up to `offset`. The caller checks that no splice is between
-/// these two offsets. Returns `None` if `offset` is before `start`, or if the number would exceed
-/// `end`.
+/// Returns the number of own bytes of the whole list before `offset`, if no splice is between the
+/// offsets `start` and `offset`, which the caller checks. It is `from`, the number of own bytes
+/// before `start`, plus the number of bytes from `start` to `offset`. Returns `None` if `offset` is
+/// before `start`, or if the number would exceed `end`.
 fn own_from(from: usize, start: u64, end: usize, offset: u64) -> Option<usize>
     ensures following { IfSome result (λ own. from ≤ own) }
     ensures at { IfSome result (λ own. offset ≡ start + (own - from)) }
@@ -123,8 +123,8 @@ fn next_own(
     Some(own)
 }
 
-/// Returns the result of `next_own`, but for any `count`: if it is 0, that of `first_own`, and if it
-/// exceeds the number of splices, `None`.
+/// Returns the result of `first_own` if `count` is 0, `None` if `count` exceeds the number of
+/// splices, and otherwise the result of `next_own`.
 fn own_at(splices: &[Splice], start: Start, end: usize, offset: u64, count: usize) -> Option<usize>
     ensures cut { IfSome result (λ own. CutAt start.base start.at splices.now count own offset) }
     ensures within { IfSome result (λ own. own ≤ end) }
@@ -173,17 +173,17 @@ impl<'a> Body<'a> {
     }
 
     /// Returns the number of shared values of this part that begin before an offset, in bytes from
-    /// the first byte of the part. No clause says so. With a wrong number `cut` returns `None`, or
-    /// still the right parts.
+    /// the first byte of the part, for calls of `cut`. No clause states the result. With a wrong
+    /// number `cut` returns `None`, or still the right parts.
     pub fn splices_before(&self, offset: u64) -> usize {
         let place = self.at.saturating_add(offset);
         self.splices.partition_point(|splice| splice.at < place)
     }
 
-    /// Splits the body at an offset, in bytes from its first byte, before which exactly `count` of
-    /// its shared values come. `splices_before` returns this number; callers that know it need no
-    /// search. Returns `None` if the offset is inside a shared value or greater than the length, or
-    /// if another number of shared values comes before it. No clause says when the result is
+    /// Splits the body at an offset, in bytes from its first byte. `count` is the number of its
+    /// shared values before the offset. `splices_before` finds this number for callers that do not
+    /// know it. Returns `None` if the offset is inside a shared value or greater than the length,
+    /// or if another number of shared values comes before it. No clause says when the result is
     /// `None`. Takes no memory.
     pub fn cut(self, offset: u64, count: usize) -> Option<(Body<'a>, Body<'a>)>
         ensures parts { IfSome result (λ p. self.entry ≡ p.0 ++ p.1) }
@@ -272,7 +272,7 @@ impl<'a> Body<'a> {
     {
         let count = self.splices_before(offset).checked_sub(1)?;
         let start = self.splices.get(count)?.at.checked_sub(self.at)?;
-        // never true, but no clause of `splices_before` says so
+        // `offset < start` is never true, but no clause of `splices_before` says so
         if offset < start {
             return None;
         }

@@ -6,9 +6,9 @@ ghost use Rattle.shared_bytes.specs.Reads.{HasRead};
 
 use ag_carried::Encoded;
 
-/// Returns which bytes of a piece of a body to copy to a slice next: the index of the first one in
-/// the piece, and their number. Returns `None` if the slice is full, or if the piece does not have
-/// the next byte.
+/// Finds the bytes of a piece of a body that are to be copied to a slice next. Returns the index in
+/// the piece of the first one, and their number. Returns `None` if the slice is full, or if the
+/// next byte is not in the piece.
 ///
 /// The piece is a run of own bytes or an encoding. `place` is its offset in the body, and `len` its
 /// number of bytes. The slice has `size` bytes. It is to hold the bytes of the body from offset `at`

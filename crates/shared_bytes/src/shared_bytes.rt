@@ -18,7 +18,7 @@ pub struct SharedBytes {
     alloc: Global,
     /// The own bytes.
     own: Vec<u8>,
-    /// The encodings between them, in their order.
+    /// The encodings of the shared values between the own bytes, in their order.
     splices: Vec<Splice>,
     /// The number of all bytes.
     len: u64,

@@ -9,11 +9,11 @@ use std::alloc::AllocError;
 /// The encoding of a shared value in a list of bytes.
 #[derive(Drop)]
 pub struct Splice {
-    /// The number of own bytes before it.
+    /// The number of own bytes of the list before the encoding.
     pub own: usize,
-    /// Its offset in the whole list, in bytes.
+    /// The offset in the whole list at which the encoding begins, in bytes.
     pub at: u64,
-    /// Its bytes.
+    /// The encoding.
     pub bytes: Encoded,
 }
 

@@ -12,9 +12,9 @@ use treefile::{Device, DeviceFault, FileVersion, FrameFault, MemDevice};
 /// The greatest number of bytes of a body whose frame fits into the initial buffer of a reader.
 const FITS: usize = 4092;
 
-/// A device in memory that counts the calls of `read_at`. It returns what was written to it, but for
-/// its contracts it is not honest and has no content. So it needs no proof, and nothing is proved of the
-/// bytes that are read from it.
+/// A device in memory that counts the calls of `read_at`. It returns what was written to it, but
+/// for its contracts it is not honest and has no content. So it needs no proof, and nothing is
+/// proved of the bytes that are read from it.
 #[derive(Drop)]
 struct CountingDevice {
     memory: MemDevice,
@@ -55,8 +55,8 @@ fn device_of(bytes: Vec<u8>) -> CountingDevice {
 }
 
 /// Returns a header and two frames: the record of a name with this number of letters, and a node
-/// without values. (It is no tree's file, since the node has no copy of the name. A reader of frames
-/// doesn't look at that.)
+/// without values. (It is no tree's file, since the node has no copy of the name. A reader of
+/// frames doesn't look at that.)
 fn file_of_name(alloc: Global, letters: u32) -> Result<Vec<u8>, AllocError> {
     let mut bytes = Vec::from_slice(alloc, b"AGT2\0\0\x01\0\0\x01")?;
     bytes.extend_from_slice(&letters.to_be_bytes())?;
@@ -113,10 +113,10 @@ fn lent(
     Ok(Some(if there == Some(body) { body.len() } else { 0 }))
 }
 
-/// Returns the result of `lent`. After NoMemory, which comes only if the system refuses memory to the
-/// tests, it calls `lent` a second time, as a caller of `back` may. If the second call lends a body of at
-/// most `FITS` bytes, it returns NoMemory all the same: a reader needs no memory for such a body, so the
-/// first call must not fail.
+/// Returns the result of `lent`. After NoMemory, which comes only if the system refuses memory to
+/// the tests, it calls `lent` a second time, as a caller of `back` may. If the second call lends a
+/// body of at most `FITS` bytes, it returns NoMemory all the same: a reader needs no memory for
+/// such a body, so the first call must not fail.
 fn lent_at_last(
     back: &mut Back,
     device: &mut CountingDevice,
@@ -131,8 +131,8 @@ fn lent_at_last(
     }
 }
 
-/// Writes a line with the lengths of the bodies that a reader of a file lends, and the first result that
-/// is not a body.
+/// Writes a line with the lengths of the bodies that a reader of a file lends, and the first result
+/// that is not a body.
 fn write_bodies_of_file(
     alloc: Global,
     version: FileVersion,
@@ -147,8 +147,8 @@ fn write_bodies_of_file(
     write_bodies(&mut started?, &mut device, lines)
 }
 
-/// Writes the lengths of the bodies that a reader lends, and the first result that is not a body, in a
-/// line. Writes at most 10 results.
+/// Writes the lengths of the bodies that a reader lends, and the first result that is not a body,
+/// in a line. Writes at most 10 results.
 fn write_bodies(
     back: &mut Back,
     device: &mut CountingDevice,
@@ -195,7 +195,8 @@ fn last_answer(back: &mut Back, device: &mut CountingDevice) -> Result<Option<us
     answer
 }
 
-/// Reads frames around the size of the buffer: the frame of a name of 4,084 letters has 4,096 bytes.
+/// Reads frames around the size of the buffer: the frame of a name of 4,084 letters has 4,096
+/// bytes.
 #[test]
 fn names_of_many_letters(rt: HostRuntime) -> Result<(), Fail> {
     let alloc = rt.alloc();
@@ -278,9 +279,9 @@ fn files_of_version_1(rt: HostRuntime) -> Result<(), Fail> {
     Ok(())
 }
 
-/// Counts the reads: one of the header, and one for each block of 4,096 bytes, in which there are 585
-/// frames of 7 bytes. The last file has one byte more between its header and its first frame, so no frame
-/// ends at offset 7.
+/// Counts the reads: one of the header, and one for each block of 4,096 bytes, in which there are
+/// 585 frames of 7 bytes. The last file has one byte more between its header and its first frame,
+/// so no frame ends at offset 7.
 #[test]
 fn one_read_for_a_block(rt: HostRuntime) -> Result<(), Fail> {
     let alloc = rt.alloc();

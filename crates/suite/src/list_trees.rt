@@ -1,4 +1,5 @@
-//! Tests of list trees for what no clause states: that each call succeeds, and that the trees are balanced.
+//! Tests of list trees for what no clause states: that each call succeeds, and that the trees are
+//! balanced.
 
 use ag_value::{NoMemory, Value, ValueFault, decode};
 use list_tree::ListTree;
@@ -36,8 +37,8 @@ fn numbers(alloc: Global, count: u16) -> Result<ListTree, ValueFault> {
     Ok(list)
 }
 
-/// Joins the list of one item, the number 1, with itself, and the result with itself, and so on, until the list has
-/// at least `least` items. Joins at most 16 times, which makes 65,536 items.
+/// Joins the list of one item, the number 1, with itself, and the result with itself, and so on,
+/// until the list has at least `least` items. Joins at most 16 times, which makes 65,536 items.
 fn doubled(alloc: Global, least: usize) -> Result<ListTree, ValueFault> {
     let mut list = single(alloc, 1)?;
     for _ in 0..16 {
@@ -51,8 +52,8 @@ fn doubled(alloc: Global, least: usize) -> Result<ListTree, ValueFault> {
 
 /// Copies a list to one without a tree, and returns a new tree of that copy.
 fn rebuilt(alloc: Global, list: &ListTree) -> Result<ListTree, NoMemory> {
-    // unused at run time: `from_list` requires a well list (within the limits of values), and the contract of
-    // `weight` says that this one is well
+    // unused at run time: `from_list` requires a well list (within the limits of values), and the
+    // contract of `weight` says that this one is well
     let _weight = list.weight();
     ListTree::from_list(alloc, list.to_list(alloc)?)
 }
@@ -78,8 +79,8 @@ fn an_encoding_is_that_of_the_flat_list(rt: HostRuntime) -> Result<(), ValueFaul
     let expected = b"\x02\0\0\0\x02\0\0\0\0\0\0\0\0\0\0\0\0\0\0\0\0\0\x01";
     assert!(rt; bytes.as_slice() == expected.as_slice());
     assert!(rt; list.has_encoding(bytes.as_slice()) && !list.has_encoding(&bytes[..22]));
-    // never true, and only for the prover: `copy_part` requires that the encoding has at least 6 bytes, and no
-    // contract says so of this list
+    // never true, and only for the prover: `copy_part` requires that the encoding has at least 6
+    // bytes, and no contract says so of this list
     if list.weight() < 6 {
         return Err(ValueFault::Malformed);
     }
@@ -89,7 +90,8 @@ fn an_encoding_is_that_of_the_flat_list(rt: HostRuntime) -> Result<(), ValueFaul
     Ok(())
 }
 
-/// Compares a list with a longer one that was made of it, and each with itself in another form.
+/// Compares a list with a longer one that was made of it, the longer one with a rebuilt and with a
+/// flat copy of itself, and the shorter one with another owner of it.
 fn compare_versions(
     rt: &impl Abort,
     alloc: Global,
@@ -132,7 +134,8 @@ fn trees_are_balanced(rt: HostRuntime) -> Result<(), ValueFault> {
         at_end = joined(alloc, &at_end, &one)?;
         at_beginning = joined(alloc, &one, &at_beginning)?;
     }
-    // a balanced tree of 4,096 items has a height of at most 1 + 1.45 · log2(4096), which is 18.4; these are lower
+    // a balanced tree of 4,096 items has a height of at most 1 + 1.45 · log2(4096), which is 18.4;
+    // these are lower
     assert!(rt; at_end.height() <= 17 && at_beginning.height() <= 17);
     // a new tree has the least height
     assert_eq!(rt; rebuilt(alloc, &at_end)?.height(), 13);

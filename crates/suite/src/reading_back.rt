@@ -95,8 +95,8 @@ fn refusal_of<D: Device>(
     Ok(None)
 }
 
-/// Reads a device with three bodies, of which a call may fail. Returns whether none failed. After a failure
-/// the device works, and a new reader lends all three bodies.
+/// Reads a device that contains three bodies and may fail at one call. Returns whether it did not
+/// fail. Checks that after a failure a new reader lends all three bodies.
 fn reads_all<D: Device>(rt: &impl Abort, alloc: Global, device: &mut D) -> Result<bool, Fail> {
     let Some((fault, again, records)) = refusal_of(alloc, device)? else {
         return Ok(true);

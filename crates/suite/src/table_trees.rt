@@ -1,4 +1,5 @@
-//! Tests of table trees for what no clause states: that each call succeeds, and that the trees are balanced.
+//! Tests of table trees for what no clause states: that each call succeeds, and that the trees are
+//! balanced.
 
 use ag_value::{Items, NoMemory, Text, Value};
 use std::alloc::{AllocError, Global};
@@ -27,8 +28,8 @@ fn table_of(alloc: Global, keys: &[u32]) -> Result<TableTree, PutFault> {
 
 /// Copies a table to one without a tree, and returns a new tree of that copy.
 fn rebuilt(alloc: Global, table: &TableTree) -> Result<TableTree, NoMemory> {
-    // unused at run time: `from_table` requires a well table (within the limits of values), and the contract of
-    // `weight` says that this one is well
+    // unused at run time: `from_table` requires a well table (within the limits of values), and the
+    // contract of `weight` says that this one is well
     let _weight = table.weight();
     TableTree::from_table(alloc, table.to_table(alloc)?)
 }
@@ -72,8 +73,8 @@ fn other_versions_stay(rt: HostRuntime) -> Result<(), PutFault> {
     Ok(())
 }
 
-/// Returns a table with 4,096 entries, whose keys are `first`, `first` + `step`, and so on, modulo 65,536, put in
-/// this order.
+/// Returns a table with 4,096 entries, whose keys are `first`, `first` + `step`, and so on, modulo
+/// 65,536, put in this order.
 fn stepped(alloc: Global, first: u32, step: u32) -> Result<TableTree, PutFault> {
     let mut table = TableTree::new();
     for turn in 0..4096u32 {
@@ -85,8 +86,9 @@ fn stepped(alloc: Global, first: u32, step: u32) -> Result<TableTree, PutFault> 
 
 #[test]
 fn trees_are_balanced(rt: HostRuntime) -> Result<(), PutFault> {
-    // a balanced tree of 4,096 entries has a height of at most 1.45 · log2(4098), which is 17.4. The steps are 1 and
-    // -1, for keys that rise and that fall, and one for keys in no order
+    // a balanced tree of 4,096 entries has a height of at most 1.45 · log2(4098), which is 17.4.
+    // With the step 1 the keys rise, with 65,535 (-1 modulo 65,536) they fall, and with 31,161 they
+    // are in no order.
     for (first, step) in [(0, 1), (4096, 65_535), (0, 31_161)] {
         let table = stepped(rt.alloc(), first, step)?;
         assert!(rt; table.height() <= 17);

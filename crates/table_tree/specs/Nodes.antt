@@ -9,7 +9,8 @@ use Rattle.table_tree.specs.declared.totals.Totals.{Totals}
 use Rattle.table_tree.specs.declared.tree.TableNode.{TableNode}
 use Rattle.table_tree.specs.declared.tree.TableNode.TheVariants.{Leaf, Fork}
 
--- the pairs in the order of their keys; `left` and `right` are trees, of which definitions see the lists of their pairs
+-- the pairs in the order of their keys; `left` and `right` are trees, which contracts and definitions see as the lists of their
+-- pairs
 abbrev pub pairs_of : TableNode → List (List ℕ × Value)
 pairs_of Leaf = []
 pairs_of (Fork rc) = rc.value.left ++ rc.value.entry.value ∷ rc.value.right

@@ -21,7 +21,7 @@ pub record AreJoined (before pair after whole : Totals) : Type 0 where
   pub depth_is : whole.depth ≡ max (max before.depth pair.depth) after.depth
 
 -- A table with these totals is within the limits of well values: its weight is five bytes more than that of its pairs, and its
--- depth one more than that of its deepest value. There are at most as many pairs as bytes.
+-- depth one more than that of its deepest value. There are at most as many pairs as bytes in their encodings.
 pub record AreSmall (totals : Totals) : Type 0 where
   pub few : totals.pairs ≤ totals.bytes
   pub light : 5 + totals.bytes ≤ max_weight

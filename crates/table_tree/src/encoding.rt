@@ -99,9 +99,9 @@ impl TableTree {
         root.right.append_pairs(out)
     }
 
-    /// Returns a part of the joined encodings of the pairs that begins at `offset` (in bytes, from
-    /// 0). It extends to the end of the block that contains this offset. If no block contains it,
-    /// it extends to the end of the pair's encoding there. The result is not empty.
+    /// Returns the bytes from `offset` on (counted from 0 in the joined encodings of the pairs) up
+    /// to the end of the largest block that contains this offset. If no block contains it, returns
+    /// those up to the end of the pair's encoding that contains it. The result is not empty.
     fn piece_at(&self, offset: usize) -> &[u8]
         requires { offset < length (joined (map spelling_of_pair self.now)) }
         ensures { IsPiece (drop offset (joined (map spelling_of_pair self.now))) result.now }

@@ -127,8 +127,8 @@ fn encoded_pair(alloc: Global, key: &str, value: &Value) -> Result<Vec<u8>, NoMe
     Ok(bytes)
 }
 
-/// Returns the number of bytes. `Entry::totals` and `TableTree::encoding_len` need its clause
-/// `bytes` (each of the bytes is below 256) for their own.
+/// Returns the number of bytes. The clause `bytes` says that each of them is below 256. It is for
+/// the proofs of the clauses `bytes` of `Entry::totals` and `TableTree::encoding_len`.
 #[inline(always)]
 pub(crate) fn byte_count(bytes: &[u8]) -> usize
     ensures len { result ≡ length bytes.now }

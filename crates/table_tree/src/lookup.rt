@@ -12,7 +12,7 @@ use std::cmp::Ordering;
 
 impl TableTree {
     /// Returns the value of a key, or `None` if the table has no such key. Takes time that grows
-    /// with the logarithm of the number of pairs.
+    /// with the logarithm of the number of pairs, and with the lengths of the compared keys.
     pub fn get(&self, key: &str) -> Option<&Value>
         ensures value { option_copied result ≡ option_map (λ p. p.1) (pair_with key.now self.now) }
         ensures well { IfSome result (λ value. IsWell value.now) }

@@ -41,10 +41,11 @@ impl<M: OutOfMemory> From<M> for PutFault {
 impl TableTree {
     /// Returns the table in which a key has a value, and all other pairs are those of this table.
     /// The nodes that are not on the way to the key are shared: time and memory grow with the
-    /// logarithm of the number of pairs, and with the size of the new pair. The key must have at
-    /// most 1,048,576 bytes, and the value must be well and not an error. Fails with TooDeep if the
-    /// depth of the new table would exceed 64. Otherwise fails with TooHeavy if its weight would
-    /// exceed 1,048,576. May also fail with NoMemory.
+    /// logarithm of the number of pairs, and with the size of the new pair. Time also grows with
+    /// the lengths of the keys on the way, which are compared with the new one. The key must have
+    /// at most 1,048,576 bytes, and the value must be well and not an error. Fails with TooDeep if
+    /// the depth of the new table would exceed 64. Otherwise fails with TooHeavy if its weight
+    /// would exceed 1,048,576. May also fail with NoMemory.
     pub fn put(&self, alloc: Global, key: &str, value: Value) -> Result<TableTree, PutFault>
         requires short { length key.now ≤ max_weight }
         requires well { IsWell value }

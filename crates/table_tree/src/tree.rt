@@ -19,7 +19,8 @@ use std::rc::Rc;
 /// The least number of bytes of a long block. A *block* is the list of the encodings of all pairs
 /// of a subtree, one after the other. The root of a subtree stores the block if the block has the
 /// length of a long or of a short one. The limits only influence time and memory: `append_encoding`
-/// copies long blocks in place of single pairs, but `put` makes those on its way anew.
+/// copies blocks in place of single pairs, but `put` makes the blocks of the nodes on the way to
+/// its key anew.
 const MIN_BLOCK: usize = 768;
 
 /// The greatest number of bytes of a long block.
@@ -58,8 +59,8 @@ struct TableBranch {
     right: TableTree,
     /// The totals of all these pairs.
     totals: Totals,
-    /// The number of nodes on the longest way down from this one, itself included. A greater number
-    /// than 255 is stored as 255.
+    /// The number of nodes on the longest way down from this one, itself included, or 255 if there
+    /// are more.
     height: u8,
     /// The block of all these pairs, if it has the length of a long or a short one.
     block: Option<Items<u8>>,
@@ -167,8 +168,8 @@ impl TableTree {
         }
     }
 
-    /// Returns the number of levels. For n pairs it is meant to be at most 1.45 · log2(n + 2). No
-    /// contract says so. The balancing of trees and tests call it.
+    /// Returns the number of levels. That it is at most 1.45 · log2(n + 2) for n pairs is tested,
+    /// and not proved. The functions that balance trees call it, and so do tests.
     pub fn height(&self) -> u8 {
         match &self.node {
             TableNode::Leaf => 0,
@@ -176,7 +177,7 @@ impl TableTree {
         }
     }
 
-    /// Returns the encodings of all pairs, one after the other, if they are stored together.
+    /// Returns the block (the encodings of all pairs, one after the other), if the root stores it.
     #[inline(always)]
     pub(crate) fn block(&self) -> Option<&[u8]>
         ensures bytes { IfSome result (λ bytes. bytes.now ≡ joined (map spelling_of_pair self.now)) }

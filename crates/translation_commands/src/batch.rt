@@ -13,9 +13,9 @@ use std::fs;
 use std::process::ExitCode;
 use std::rt::{Clock, Files};
 
-/// Translates each sentence, and writes its translation to a file of its own. The grammar is read once,
-/// before the sentences. If a sentence fails, prints a message and continues with the next one. Returns
-/// the status of the first sentence that failed; 0 if none did.
+/// Translates each sentence, and writes its translation to a file of its own. The grammar is read
+/// once, before the sentences. If a sentence fails, prints a message and continues with the next
+/// one. Returns the status of the first sentence that failed; 0 if none did.
 ///
 /// Fails only before a sentence is read:
 /// - if a translation's file is one of the inputs;
@@ -35,8 +35,8 @@ pub fn run_sentences<'a, R: Files + Input + Print + Eprint + Clock>(
     }
 }
 
-/// Translates each sentence to the file of `outputs` with the same index. Does the rest of what
-/// `run_sentences` does, and fails as it does.
+/// Does what `run_sentences` does. `outputs` are the paths of the translations, in the order of the
+/// sentences.
 fn translate_to<'a, R: Files + Input + Print + Eprint + Clock>(
     rt: &'a R,
     alloc: Global,
@@ -60,8 +60,8 @@ fn translate_to<'a, R: Files + Input + Print + Eprint + Clock>(
     Ok(translate_each(&translating, paths.sentences.as_slice(), outputs))
 }
 
-/// Translates each sentence to the file of `outputs` with the same index. Prints a message for each one
-/// that fails. Returns the status of the first one that failed; 0 if none did.
+/// Translates each sentence to the file of `outputs` with the same index. Prints a message for each
+/// sentence that fails. Returns the status of the first sentence that failed; 0 if none did.
 fn translate_each<R: Files + Input + Print + Eprint + Clock>(
     translating: &TranslationRun<'_, R>,
     sentences: &[&str],
@@ -83,8 +83,8 @@ fn translate_each<R: Files + Input + Print + Eprint + Clock>(
     first
 }
 
-/// Returns the path of each translation: DIR/NAME.out for the sentence at PATH/NAME, where DIR is the folder
-/// for the translations. Fails if memory is refused.
+/// Returns the path of each translation: DIR/NAME.out for the sentence at PATH/NAME, where DIR is
+/// the folder for the translations. Fails if memory is refused.
 fn output_paths(alloc: Global, paths: &BatchPaths<'_>) -> Result<Vec<String>, AllocError> {
     let mut outputs = Vec::new(alloc);
     for sentence in paths.sentences.iter() {
@@ -142,7 +142,7 @@ fn check_folder<R: Files>(rt: &R, alloc: Global, path: &str) -> Result<(), Fault
 }
 
 /// Reads the sentence at `path`, translates it, and writes the translation to the file at `output`.
-/// Each report but that of refused memory names the sentence, unless memory for the name is
+/// Each report names the sentence, except one of NoMemory, and unless memory for the name is
 /// refused.
 fn translate<R: Files + Input + Print + Eprint + Clock>(
     translating: &TranslationRun<'_, R>,
@@ -158,9 +158,9 @@ fn translate<R: Files + Input + Print + Eprint + Clock>(
     }
 }
 
-/// Returns a report with the path of the sentence. The path becomes the report's file if the report
-/// has none. If the report is about another file, which failed (F1, D1 or O2), the path is added to
-/// the text of the message. Any other report, and that of refused memory, stays as it is.
+/// Returns a report with the path of the sentence. Returns a report of NoMemory unchanged. If the
+/// report has no file, the path becomes its file. If its file is another one, which failed (F1, D1
+/// or O2), appends the path to the part `found`. Returns any other report unchanged.
 fn with_sentence(alloc: Global, mut report: FaultReport, path: &str) -> FaultReport {
     if matches!(report.fault, Fault::NoMemory) {
         return report;

@@ -19,10 +19,10 @@ pub(crate) struct CauseFinder<'a> {
 }
 
 impl CauseFinder<'_> {
-    /// Returns what the message of O1 says of the cause, if the root's `out` is an error. `b` has
-    /// to contain the last tree file if the number of passes is odd, and `a` if it is even. Returns
-    /// `None` for other faults, and if the cause is not found, the file can't be read, or memory is
-    /// refused.
+    /// Returns what the message of O1 says of the cause, if the root's `out` is an error. The
+    /// translation's last tree file has to be on `b` if the number of passes is odd, and on `a` if
+    /// it is even. Returns `None` for other faults, and if the cause is not found, the file can't
+    /// be read, or memory is refused.
     pub(crate) fn cause_of<D: Device>(
         self,
         alloc: Global,
@@ -49,8 +49,8 @@ impl CauseFinder<'_> {
     }
 }
 
-/// Returns a report with the text about the cause, if there is one, at the end of what its message says
-/// was found. Returns the report without any of its parts if memory for the text is refused.
+/// Returns a report with the text about the cause, if there is one, appended to its part `found`.
+/// Returns the report without any of its parts if memory for the text is refused.
 pub(crate) fn with_cause(mut report: FaultReport, cause: Option<String>) -> FaultReport {
     let Some(cause) = cause else {
         return report;

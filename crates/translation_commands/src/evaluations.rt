@@ -56,8 +56,8 @@ pub fn evaluate<R: Files + Input + Print + Eprint + Clock>(
     }
 }
 
-/// What an evaluation needs: the runtime, the allocator, a translator with its grammar's text, and the
-/// paths of the tree file to translate, of the output, and of the folder for the tree files of the passes.
+/// What an evaluation needs. `grammar` is the text of the translator's grammar. `paths` has the
+/// tree file to translate, the output, and the folder for the tree files of the passes.
 #[derive(Drop)]
 struct EvaluationRun<'a, R> {
     rt: &'a R,
@@ -70,8 +70,8 @@ struct EvaluationRun<'a, R> {
 }
 
 impl<R: Files + Input + Print + Eprint + Clock> EvaluationRun<'_, R> {
-    /// Translates the tree into memory, and writes the translation to the file at `path`. Fails as `run`
-    /// and `write_file` do, but with NoMemory if `run` fails with O2.
+    /// Translates the tree into memory, and writes the translation to the file at `path`. Fails as
+    /// `run` and `write_file` do, but with NoMemory if `run` fails with O2.
     fn write(&self, path: &str) -> Result<(), FaultReport> {
         let mut text = Vec::new(self.alloc);
         self.run(&mut text).map_err(without_write_fault)?;
@@ -99,7 +99,7 @@ impl<R: Files + Input + Print + Eprint + Clock> EvaluationRun<'_, R> {
     }
 
     /// Translates the tree in an opened tree file, and writes the translation. Calls
-    /// `evaluate_file` if no progress is shown and the passes write to memory.
+    /// `evaluate_file` if no progress can be shown and the passes write to memory.
     fn run_file<W: Write>(
         &self,
         tree: &mut FileDevice<R::File>,
@@ -114,8 +114,8 @@ impl<R: Files + Input + Print + Eprint + Clock> EvaluationRun<'_, R> {
         }
     }
 
-    /// Translates the tree on a device, and writes the translation. The progress begins with pass
-    /// 1: the tree file of pass 0 is there already.
+    /// Translates the tree on a device, and writes the translation. The first tree file that is
+    /// written is that of pass 1, since the device contains the file of pass 0.
     fn run_device<T: Device, W: Write>(
         &self,
         tree: &mut T,
@@ -143,8 +143,9 @@ impl<R: Files + Input + Print + Eprint + Clock> EvaluationRun<'_, R> {
         }
     }
 
-    /// Translates the tree on a device with the tree files of the passes in a folder, without showing
-    /// the progress, and writes the translation. Fails with F1 if a tree file can't be opened.
+    /// Translates the tree on a device with the tree files of the passes in a folder, without
+    /// showing the progress, and writes the translation. Fails with F1 if a tree file can't be
+    /// opened.
     fn run_in<T: Device, W: Write>(
         &self,
         folder: &str,
@@ -160,8 +161,8 @@ impl<R: Files + Input + Print + Eprint + Clock> EvaluationRun<'_, R> {
         }
     }
 
-    /// Translates the tree on a device, with two devices for the tree files of the passes, and writes the
-    /// translation.
+    /// Translates the tree on a device, with two devices for the tree files of the passes, and
+    /// writes the translation.
     fn evaluate_on<T: Device, D: Device, W: Write>(
         &self,
         tree: &mut T,
@@ -176,8 +177,8 @@ impl<R: Files + Input + Print + Eprint + Clock> EvaluationRun<'_, R> {
     }
 
     /// Translates the tree on a device into memory, and shows the progress. Then erases the line of
-    /// progress, and writes the translation. Nothing is shown in pass 1: it reads `tree`, which is not
-    /// a `ShownDevice`.
+    /// progress, and writes the translation. Nothing is shown in pass 1: it reads `tree`, which is
+    /// not a `ShownDevice`.
     fn run_shown<T: Device, W: Write>(
         &self,
         tree: &mut T,
@@ -197,9 +198,9 @@ impl<R: Files + Input + Print + Eprint + Clock> EvaluationRun<'_, R> {
         write_translation(evaluated, text.as_slice(), out)
     }
 
-    /// Translates the tree on a device to `text` with the tree files of the passes in a folder, and shows
-    /// the progress. Fails with F1 if a tree file can't be opened, and with D1 if one can't be written
-    /// out; then the result of the translation is lost.
+    /// Translates the tree on a device to `text` with the tree files of the passes in a folder, and
+    /// shows the progress. Fails with F1 if a tree file can't be opened, and as `finish` does,
+    /// whether the translation succeeded or not.
     fn run_shown_in<T: Device>(
         &self,
         folder: &str,
@@ -231,11 +232,10 @@ impl<R: Files + Input + Print + Eprint + Clock> EvaluationRun<'_, R> {
         )
     }
 
-    /// Returns the report of a fault. With `--work` the report names the folder if a tree file
-    /// there seems to have failed: if the fault is F1 (the translated tree's file was opened
-    /// before), or if it is D1 and the device of the translated tree can still return its length.
-    /// Otherwise it is the report of `FaultReport::of_tree`, which names the translated tree file if the
-    /// fault is D1, or one of the tree in it (R1, P2 or P3).
+    /// Returns the report of a fault. With `--work` the report names the folder in two cases. One
+    /// is F1: the file of `tree` was opened before, so a tree file in the folder failed. The other
+    /// is D1, if `tree` can still return its length. In all other cases it is the report of
+    /// `FaultReport::of_tree`, which names the file of `tree` after D1, R1, P2 and P3.
     fn report_of<T: Device>(&self, fault: Fault, tree: &mut T) -> FaultReport {
         let is_of_folder = match fault {
             Fault::File => true,

@@ -1,6 +1,6 @@
 //! The commands that translate and those that write tree files: `run` of one sentence or of many,
-//! `eval`, jobs, `parse` and `upgrade`. Also what the message of O1 says of the cause if the root's
-//! `out` is an error.
+//! `eval`, jobs, `parse` and `upgrade`. Also the cause of an error in the message of O1, if the
+//! root's `out` is an error.
 #![tactic(auto)]
 
 mod batch;

@@ -79,8 +79,9 @@ pub fn run_input<R: Files + Input + Print + Eprint + Clock>(
     }
 }
 
-/// Translates a job, with its tree files in memory, and prints the translation. Fails if the grammar, the
-/// sentence or the translation is refused, if the output fails, and if memory is refused.
+/// Translates a job, with its tree files in memory, and prints the translation. Fails if the
+/// grammar, the sentence or the translation is refused, if the output fails, and if memory is
+/// refused.
 fn translate_job<R: Files + Print + Eprint + Clock>(
     rt: &R,
     alloc: Global,
@@ -159,7 +160,8 @@ impl Outcome {
 
 impl<R: Files + Print + Eprint + Clock> TranslationRun<'_, R> {
     /// Translates a sentence into memory, and writes the translation to the file at `path`. Fails
-    /// as `run` and `write_file` do, but with NoMemory if `run` fails with O2.
+    /// as `run` and `write_file` do, but with NoMemory if `run` fails with O2
+    /// (`without_write_fault`).
     pub fn write(&self, sentence: Source<'_>, path: &str) -> Result<(), FaultReport> {
         let mut text = Vec::new(self.alloc);
         self.run(sentence, &mut text).map_err(without_write_fault)?;
@@ -167,7 +169,7 @@ impl<R: Files + Print + Eprint + Clock> TranslationRun<'_, R> {
     }
 
     /// Translates a sentence, and writes the translation to `out`. On failure returns a report
-    /// (`report_of`). The progress begins with pass 0, the parser's tree file.
+    /// (`report_of`). The first tree file, which the parser writes, is that of pass 0.
     fn run<W: Write>(&self, sentence: Source<'_>, out: &mut W) -> Result<(), FaultReport> {
         let Outcome { result, cause } = match self.screen.progress(self.rt, self.translator, 0) {
             Some(progress) => self.run_shown(sentence, &progress, out),
@@ -190,8 +192,9 @@ impl<R: Files + Print + Eprint + Clock> TranslationRun<'_, R> {
         }
     }
 
-    /// Returns the outcome of a translation whose last two tree files are on two devices. If it
-    /// failed with O1, looks for the cause. (After O1 the devices contain these files.)
+    /// Returns the outcome of a translation with the result `translated` and the devices `a` and
+    /// `b`. If it failed with O1, and the root's `out` is an error, looks for the cause in the last
+    /// tree file. (After O1 the devices contain the last two tree files.)
     fn outcome_of<D: Device>(
         &self,
         translated: Result<aggen::Report, Fault>,
@@ -241,7 +244,7 @@ impl<R: Files + Print + Eprint + Clock> TranslationRun<'_, R> {
     }
 
     /// Translates a sentence with the tree files in a folder, without showing the progress, and
-    /// writes the translation to `out`. Fails with F1 if a tree file can't be opened.
+    /// writes the translation to `out`. The fault is F1 if a tree file can't be opened.
     fn run_in<W: Write>(&self, folder: &str, sentence: Source<'_>, out: &mut W) -> Outcome {
         match self.open_work(folder) {
             Ok(mut files) => {
@@ -277,7 +280,7 @@ impl<R: Files + Print + Eprint + Clock> TranslationRun<'_, R> {
     }
 
     /// Translates a sentence to `text` with the tree files in a folder, and shows the progress.
-    /// Fails with F1 if a tree file can't be opened, and with D1 if one can't be written out.
+    /// The fault is F1 if a tree file can't be opened. It is the one of `finish` if that fails.
     fn run_shown_in(
         &self,
         folder: &str,
@@ -323,10 +326,10 @@ pub fn finish<F: io::Read + Write + io::Seek + OpenFile + Drop>(
     Ok(())
 }
 
-/// Writes `text` to `out`: the text of a translation that was made in memory, with the result `translated`.
-/// Fails with O2 if a write to `out` fails, or accepts none of the bytes. If `translated` is a failure,
-/// writes nothing, and fails with the same fault; but in place of O2 with NoMemory, since a write to a
-/// buffer in memory fails only if memory is refused.
+/// Writes a translation that was made in memory. `translated` is the result of making it, and
+/// `text` is the translation. Fails with O2 if a write to `out` fails, or accepts none of the
+/// bytes. If `translated` is a failure, writes nothing and fails with its fault, or with NoMemory
+/// if that is O2: a write to a buffer in memory fails only if memory is refused.
 pub fn write_translation<W: Write>(
     translated: Result<(), Fault>,
     text: &[u8],

@@ -15,8 +15,8 @@ use treefile::FileDevice;
 /// sentence, and then creates the tree file.
 ///
 /// Fails before the grammar is read if the tree file is the grammar or the sentence. Fails if an
-/// input can't be read, if the grammar or the sentence is refused, if the tree file or the output
-/// fails, and if memory is refused.
+/// input can't be read, if the grammar or the sentence is refused, if the tree file can't be
+/// created or written, if the output fails, and if memory is refused.
 pub fn parse_file<R: Files + Input + Print>(
     rt: &R,
     alloc: Global,
@@ -28,8 +28,9 @@ pub fn parse_file<R: Files + Input + Print>(
     parse_file_with(rt, alloc, &translator, paths)
 }
 
-/// Reads the sentence, writes its tree file with a translator, and prints the number of nodes. Fails as
-/// `parse_file` does after it has read the grammar. After F1 and D1 of the tree file the report names it.
+/// Reads the sentence, writes its tree file with a translator, and prints the number of nodes.
+/// Fails as `parse_file` does after it has read the grammar. After F1 and D1 of the tree file the
+/// report names it.
 fn parse_file_with<R: Files + Input + Print>(
     rt: &R,
     alloc: Global,
@@ -48,7 +49,8 @@ fn parse_file_with<R: Files + Input + Print>(
 }
 
 /// Opens the file at `path`, or creates it, writes the tree file of a sentence there, and prints
-/// the number of nodes. Fails with F1 if the file can't be opened or created, and as `parse_to_file` does.
+/// the number of nodes. Fails with F1 if the file can't be opened or created, and as
+/// `parse_to_file` does.
 fn write_tree<R: Files + Print>(
     rt: &R,
     alloc: Global,
@@ -95,8 +97,8 @@ fn convert_file_with<R: Files + Print>(
     }
 }
 
-/// Converts the tree file on the device `old`, and prints the number of nodes. On failure returns the report of
-/// `FaultReport::of_old_tree`.
+/// Converts the tree file on the device `old`, and prints the number of nodes. On failure returns
+/// the report of `FaultReport::of_old_tree`.
 fn convert_tree<R: Files + Print>(
     rt: &R,
     alloc: Global,
@@ -117,8 +119,8 @@ fn convert_tree<R: Files + Print>(
 }
 
 /// Opens the file at `path`, or creates it, converts the tree file on the device `old` to it, and
-/// prints the number of nodes. Fails with F1 if the file at `path` can't be opened or created, and as
-/// `upgrade_file` does.
+/// prints the number of nodes. Fails with F1 if the file at `path` can't be opened or created, and
+/// as `upgrade_file` does.
 fn write_converted<R: Files + Print>(
     rt: &R,
     alloc: Global,

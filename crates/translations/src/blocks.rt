@@ -1,5 +1,5 @@
-//! Tests of what no contract states: a pass reads by blocks, and writes while it reads. By blocks
-//! means that one read of the device returns many records.
+//! Tests of what no contract states: a pass reads by blocks, and writes while it reads. To read by
+//! blocks means that one read of the device returns many records.
 
 ghost use Rattle.std.specs.Prelude.{◌≡◌, IfOk};
 ghost use Rattle.planchecker.specs.Plans.{IsPlan};
@@ -27,35 +27,37 @@ V = \"x\" V { $0.c = 0; }
 V = { $0.c = 0; }
 ";
 
-/// The number of stored nodes of the sentence's tree.
+/// The number of nodes of the sentence's tree that have a record. (Literals have none.)
 const NODES: u64 = 65_536;
 
-/// The length in bytes of a frame whose record is a node without values: 3 bytes of kind and number, and 4 bytes of
-/// length.
+/// The length in bytes of a frame whose record is a node without values: 3 bytes of kind and
+/// number, and 4 bytes of length.
 const FRAME: u64 = 7;
 
-/// Returns a sentence of 85 groups of 24 lists: 23 lists of 31 letters (33 nodes each) and one of 8 (10 nodes).
-/// A group has 771 nodes: its lists, one for the group and one for the end of its lists. The end of the groups
-/// is one more node, so the tree has 65,536.
+/// Returns a sentence of 85 groups of 24 lists. 23 lists of a group have 31 letters (33 nodes
+/// each), and one has 8 (10 nodes). A group has 771 nodes: those of its lists, one for the group,
+/// and one for the end of its lists. The end of the groups is one more node, so the tree has
+/// 65,536.
 fn sentence(alloc: Global) -> Result<String, AllocError> {
     let mut group = "xxxxxxxxxxxxxxxxxxxxxxxxxxxxxxx,".repeat(alloc, 23)?;
     group.push_str("xxxxxxxx,;")?;
     group.repeat(alloc, 85)
 }
 
-/// Returns the number of frames that were read, and the number of appends after the first `before`.
-/// `bytes` is the number of bytes that were read, all of frames of `FRAME` bytes, and `puts` is the
-/// number of all appends.
+/// Returns the number of frames that were read, and the number of appends without the first
+/// `before` ones. `bytes` is the number of bytes that were read, all of frames of `FRAME` bytes,
+/// and `puts` is the number of all appends.
 fn frames_answer(alloc: Global, bytes: u64, puts: u64, before: u64) -> Result<String, AllocError> {
     let (read, put) = (bytes / FRAME, puts.saturating_sub(before));
     format!(in alloc; "{read} read, {put} put")
 }
 
 /// Returns whether each file of a device was read at least 112 times after its header, and at least
-/// 400 frames were appended between each of these reads and the next. Only the gap before the last
-/// read is not checked. The frames of the tree's nodes fill 112 blocks of 4,096 bytes, so with fewer
-/// reads one would be longer than a block. A block has about 585 frames. Before the next read a pass has
-/// appended all of them but those of open nodes, and at most 140 nodes are open at a time, since the
+/// 400 frames were appended between two successive ones of these reads, except before the last one.
+///
+/// The frames of the tree's nodes fill 112 blocks of 4,096 bytes, so with fewer reads one of them
+/// would be longer than a block. A block has about 585 frames. Before the next read a pass has
+/// appended all of them but those of open nodes. At most 140 nodes are open at a time, since the
 /// tree has 140 levels.
 fn is_by_blocks(device: &CountingDevice<'_>) -> bool {
     device.fewest_reads() >= 112 && device.least_gap() >= 400
@@ -95,8 +97,8 @@ pub fn blocks_of_translate_answer(alloc: Global) -> Result<String, Mistake> {
     translated(alloc, &translator)
 }
 
-/// Returns the instructions of a production for one pass: `Get`, `Go` and `Put` of each child in the given
-/// order, then `Def` of attribute 0 if `has_rule`, then `End`.
+/// Returns the instructions of a production for one pass: `Get`, `Go` and `Put` of each child in
+/// the given order, then `Def` of attribute 0 if `has_rule`, then `End`.
 fn list(alloc: Global, children: &[u16], has_rule: bool) -> Result<Vec<Instr>, AllocError> {
     let mut list = Vec::new(alloc);
     for child in children {
@@ -111,8 +113,8 @@ fn list(alloc: Global, children: &[u16], has_rule: bool) -> Result<Vec<Instr>, A
     Ok(list)
 }
 
-/// Returns the lists of a production for three passes: children in the orders `leftward`, `rightward`, `leftward`. The
-/// last pass has the rule.
+/// Returns the lists of instructions of a production for three passes, which visit its children in
+/// the orders `leftward`, `rightward` and `leftward`. Only the list of the last pass has a rule.
 fn lists(
     alloc: Global,
     leftward: &[u16],
@@ -125,8 +127,8 @@ fn lists(
     Ok(lists)
 }
 
-/// Returns the code of three passes. The children of each production are visited from right to left, from left to
-/// right, and from right to left.
+/// Returns the code of three passes. The children of each production are visited from right to
+/// left, from left to right, and from right to left.
 fn code(alloc: Global) -> Result<Code, AllocError> {
     let mut rows = Vec::new(alloc);
     for (leftward, rightward) in [
@@ -142,7 +144,7 @@ fn code(alloc: Global) -> Result<Code, AllocError> {
     Ok(Code::of_rows(rows))
 }
 
-/// Returns the assignment of pass 3 to the only attribute of each of three symbols.
+/// Returns the assignment of pass 3 to the only attribute of each of the three symbols of `GROUPS`.
 fn assignment(alloc: Global) -> Result<Assignment, AllocError> {
     let mut rows = Vec::new(alloc);
     for pass in [3, 3, 3] {
@@ -151,7 +153,8 @@ fn assignment(alloc: Global) -> Result<Assignment, AllocError> {
     Ok(Assignment::of_rows(rows))
 }
 
-/// Returns the plan. Its first two passes have no rules: they are there so that three passes run over one tree.
+/// Returns a plan of three passes for the grammar `GROUPS`. Its first two passes have no rules:
+/// they are there so that three passes run over one tree.
 fn plan(alloc: Global, grammar: &Grammar) -> Result<Plan, Mistake>
     ensures { IfOk result (λ plan. IsPlan grammar.now plan.0 plan.1) }
 {
@@ -187,7 +190,8 @@ fn run<'p>(
     requires { IsPlan grammar.now plan.now.0 plan.now.1 }
 {
     let mut meter = Meter::new();
-    // unused at run time: the contract of `passes` says that there is a greatest pass, as `run_all` requires
+    // unused at run time: the contract of `passes` says that there is a greatest pass, as `run_all`
+    // requires
     let _passes = plan.assignment().passes();
     match run_all(alloc, grammar, plan, 1, a, b, &mut meter) {
         Ok((last, passed)) => Ok(format!(in alloc;

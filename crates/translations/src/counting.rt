@@ -6,7 +6,7 @@ use std::alloc::Global;
 use std::cell::Cell;
 use treefile::{Device, DeviceFault, MemDevice};
 
-/// Counts for the file that is being read. They begin again when its header is read.
+/// Counts for the file that is being read. They are reset when a header is read.
 #[derive(Clone, Copy)]
 struct Reading {
     /// The number of reads after the header.
@@ -15,8 +15,8 @@ struct Reading {
     puts: u64,
     /// The number of appends between the last two reads, or `u64::MAX` before the second read.
     last_gap: u64,
-    /// The least number of appends between two successive reads before the last one, or `u64::MAX` before
-    /// the third read.
+    /// The least number of appends between two successive reads before the last one, or `u64::MAX`
+    /// before the third read.
     least_gap: u64,
 }
 
@@ -56,10 +56,12 @@ pub struct CountingDevice<'a> {
     pub bytes: u64,
     /// The counts of the current file.
     reading: Reading,
-    /// The least number of reads of a file, of the files read before; `u64::MAX` if there is none.
+    /// The least number of reads of a file, of the files before the current one; `u64::MAX` if
+    /// there is none.
     fewest_reads: u64,
-    /// The least number of appends between two reads, of the files read before; `u64::MAX` if none
-    /// of them had three reads after its header.
+    /// The least number of appends between two successive reads, of the files before the current
+    /// one, without the last read of each; `u64::MAX` if none of them had three reads after its
+    /// header.
     least_gap: u64,
 }
 
@@ -92,8 +94,9 @@ impl<'a> CountingDevice<'a> {
     }
 }
 
-// No contract here needs to know the content, so for contracts the device is never honest, and its
-// content is empty. Then no clause about the content claims anything.
+// No contract here needs to know the content. So for contracts the device is never honest (an
+// honest device returns what was written to it), and its content is empty. Then no clause about the
+// content claims anything.
 impl Device for CountingDevice<'_> {
     ghost content = { λ _. [] };
 

@@ -9,8 +9,9 @@ use passrun::RunFault;
 use rows::words::{Mistake, first_word, number};
 use std::alloc::Global;
 
-/// Returns the fault that the first word of a text names. `tests/README.md` lists these names. A number after the name
-/// is an offset in bytes, or the value of the root's `out` for `no-text`.
+/// Returns the fault that the first word of a text names. `tests/README.md` lists these names. Some
+/// names need a number after them: for `no-text` it is the value of the root's `out`, and for the
+/// others it is an offset in bytes.
 fn fault(text: &str) -> Result<Fault, Mistake> {
     let (name, rest) = first_word(text);
     match name {

@@ -1,5 +1,5 @@
-//! Runs the rows about the translator: translations, jobs, trees, faults, files, and reads and writes by blocks.
-//! `tests/README.md` lists the verbs.
+//! Runs the rows about the translator: translations, jobs, trees, faults, files, and reads and
+//! writes by blocks. `tests/README.md` lists the verbs.
 #![tactic(auto)]
 
 mod blocks;

@@ -27,7 +27,7 @@ fn report_answer(alloc: Global, report: &Report, out: &[u8]) -> Result<String, M
     )?)
 }
 
-/// Returns an answer that the root's value is not a text, with the value.
+/// Returns the answer for a value of the root's `out` that is not a text.
 fn value_answer(alloc: Global, value: &Value) -> Result<String, Mistake> {
     let shown = show(alloc, value)?;
     Ok(format!(in alloc; "no text: {shown}")?)
@@ -46,7 +46,7 @@ fn ending_answer(
     }
 }
 
-/// Translates a sentence by the grammar of a text. Fails with `Unfit` as `translator` does.
+/// Translates a sentence by the grammar in a text. Fails with `Unfit` as `translator` does.
 pub fn translate_answer(alloc: Global, text: &str, sentence: &str) -> Result<String, Mistake> {
     let translator = translator(alloc, text)?;
     let mut a = MemDevice::new(alloc);
@@ -65,8 +65,8 @@ pub fn job_answer(alloc: Global, text: &str) -> Result<String, Mistake> {
     ending_answer(alloc, &ended, out.as_slice())
 }
 
-/// Translates the tree in a tree file, by the grammar of a text. `content` spells the bytes of the
-/// file. Fails with `Misspelt` if it doesn't, and with `Unfit` as `translator` does.
+/// Translates the tree in a tree file, by the grammar in a text. `content` spells the bytes of the
+/// file (`bytes_of` of `rows`). Fails as `bytes_of` and `translator` do.
 pub fn evaluate_answer(alloc: Global, text: &str, content: &str) -> Result<String, Mistake> {
     let mut tree = MemDevice::from_bytes(bytes_of(alloc, content)?);
     let translator = translator(alloc, text)?;

@@ -23,7 +23,8 @@ pub fn translator(alloc: Global, text: &str) -> Result<Translator, Mistake> {
     }
 }
 
-/// Returns the number of stored nodes and the tree's file of a sentence, or the fault as it prints.
+/// Returns the number of nodes that have a record and the tree's file of a sentence, or the fault
+/// of the grammar or of the sentence as it prints.
 pub fn parse_tree_answer(alloc: Global, text: &str, sentence: &str) -> Result<String, Mistake> {
     match Translator::build(alloc, text.as_bytes()) {
         Ok(translator) => tree_answer(alloc, &translator, sentence),
@@ -31,7 +32,7 @@ pub fn parse_tree_answer(alloc: Global, text: &str, sentence: &str) -> Result<St
     }
 }
 
-/// Returns the number of stored nodes and the tree's file of a sentence, or the fault as it prints.
+/// Does what `parse_tree_answer` does, with the translator of the grammar.
 fn tree_answer(alloc: Global, translator: &Translator, sentence: &str) -> Result<String, Mistake> {
     let mut device = MemDevice::new(alloc);
     match translator.parse_tree(sentence.as_bytes(), &mut device) {

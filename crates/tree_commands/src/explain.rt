@@ -23,20 +23,22 @@ use value_reasons::{ExplainedTree, NodeRequest, write_errors};
 /// The greatest number of characters that are printed of a value that is not a number.
 const WIDTH: usize = 60;
 
-/// Prints the values of a node of a tree file with the rules that computed them or, with `--errors`, the rules of
-/// the tree in which errors arise. The grammar is read first, then the sentence, if there is one, then the whole tree file; only
-/// then is anything printed.
+/// Prints the values of a node of a tree file with the rules that computed them. With `--errors`
+/// prints the rules of the tree in which errors arise instead. Reads the grammar, then the
+/// sentence, if there is one, and then the whole tree file. Prints nothing before that.
 ///
 /// Fails:
-/// - if an input can't be read or is refused, if the tree file is damaged, and if its tree exceeds a limit;
+/// - if an input can't be read or is refused, if the tree file is damaged, and if its tree exceeds
+///   a limit;
 /// - if the text that names the node is not a path, and if the tree does not have the node;
 /// - if the sentence does not have the line and column, and if its tokens are not the tree's;
 /// - if the node lacks an attribute that the command line names;
 /// - with `--errors`, if the tree file is not of the last pass;
 /// - if a call on the tree file fails (D1), if the output fails (O2), and if memory is refused.
 ///
-/// With `--errors` the records are read again while lines are printed. So a part of the output may have been
-/// printed before O2, NoMemory or D1, and before R1 if something changes the file meanwhile.
+/// With `--errors` the records are read again while lines are printed. So a part of the output may
+/// have been printed before O2, NoMemory or D1, and before R1 if something changes the file
+/// meanwhile.
 pub fn explain_tree<R: Files + Input + Print>(
     rt: &R,
     alloc: Global,
@@ -65,8 +67,8 @@ pub fn explain_tree<R: Files + Input + Print>(
     }
 }
 
-/// Returns the bytes of the sentence in which a node is named by line and column. Returns no bytes
-/// if the node is named otherwise. Fails if the sentence can't be read.
+/// Returns the bytes of the sentence, if the command line names the node by line and column, and
+/// otherwise no bytes. Fails if the sentence can't be read.
 fn read_sentence<R: Files + Input>(
     rt: &R,
     alloc: Global,
@@ -78,8 +80,9 @@ fn read_sentence<R: Files + Input>(
     }
 }
 
-/// Returns the path that names the node, as child numbers from 1. Returns an empty list if the node
-/// is named otherwise, or not at all. Fails if the text is not a path, and if memory is refused.
+/// Returns the child numbers, from 1, of the path by which the command line names the node. Returns
+/// an empty list if it names the node by line and column, or not at all. Fails if the text is not a
+/// path, and if memory is refused.
 fn places_of_path(alloc: Global, node: NodeWords<'_>) -> Result<Vec<u16>, FaultReport> {
     match node {
         NodeWords::Path(path) => places_of(alloc, Some(path)),
@@ -87,7 +90,8 @@ fn places_of_path(alloc: Global, node: NodeWords<'_>) -> Result<Vec<u16>, FaultR
     }
 }
 
-/// A tree file that is explained: its translator with the text of the grammar, its sentence, and its path.
+/// A tree file that is explained: its translator with the text of the grammar, its sentence, and
+/// its path.
 #[derive(Clone, Copy)]
 struct ExplanationRun<'a> {
     translator: &'a Translator,
@@ -102,8 +106,8 @@ struct ExplanationRun<'a> {
 }
 
 impl<'a> ExplanationRun<'a> {
-    /// Prints the explanation of a node of the tree file on a device or, with `--errors`, the rules in which
-    /// errors arise. Fails as `explain_tree` does after it has opened the tree file.
+    /// Prints the explanation of a node of the tree file on a device or, with `--errors`, the rules
+    /// in which errors arise. Fails as `explain_tree` does after it has opened the tree file.
     fn run<R: Print, D: Device>(
         self,
         rt: &R,
@@ -143,8 +147,8 @@ impl<'a> ExplanationRun<'a> {
         }
     }
 
-    /// Returns the path, as child numbers from 1, from the root to the node at a line and column of the sentence.
-    /// Fails as `TreeSentence::node_at` does.
+    /// Returns the path, as child numbers from 1, from the root to the node at a line and column of
+    /// the sentence. Fails as `TreeSentence::node_at` does.
     fn places_at<D: Device>(
         self,
         alloc: Global,
@@ -165,8 +169,8 @@ impl<'a> ExplanationRun<'a> {
         tree.node_at(alloc, position, device)
     }
 
-    /// Fails if `--errors` is given and the file is not of the last pass. Otherwise fails if the node
-    /// lacks an attribute that the command line names, and if memory is refused.
+    /// Fails if `--errors` is given and the file is not of the last pass. Otherwise fails if the
+    /// node lacks an attribute that the command line names, and if memory is refused.
     fn check(
         self,
         alloc: Global,
@@ -192,7 +196,7 @@ impl<'a> ExplanationRun<'a> {
         Ok(())
     }
 
-    /// Returns how the records of the tree file are read.
+    /// Returns the grammar, the plan and the pass by which the records of the tree file are read.
     fn format(self, index: &TreeIndex) -> FileFormat<'a> {
         FileFormat {
             grammar: self.translator.grammar(),
@@ -201,8 +205,8 @@ impl<'a> ExplanationRun<'a> {
         }
     }
 
-    /// Writes a line with the path of the tree file and its pass, if the file was chosen in a folder.
-    /// Fails if memory is refused.
+    /// Writes a line with the path of the tree file and its pass, if the file was chosen in a
+    /// folder. Fails if memory is refused.
     fn write_path(self, out: &mut String, pass: u16) -> Result<(), AllocError> {
         if !self.is_chosen {
             return Ok(());
@@ -221,8 +225,9 @@ struct IndexedRun<'a> {
 }
 
 impl<'a> IndexedRun<'a> {
-    /// Returns the tree file with its grammar, and the first line of the output. That line is empty
-    /// unless the file was chosen in a folder (`write_path`). Fails if memory is refused.
+    /// Returns the tree file with its grammar, and the beginning of the output: the line of
+    /// `write_path` if the file was chosen in a folder, and otherwise an empty text. Fails if
+    /// memory is refused.
     fn begin(self, alloc: Global) -> Result<(ExplainedTree<'a>, String), ShowFault> {
         let format = self.run.format(self.index);
         let tree = ExplainedTree::new(alloc, self.run.source, format, self.index)?;
@@ -231,7 +236,8 @@ impl<'a> IndexedRun<'a> {
         Ok((tree, text))
     }
 
-    /// Prints the rules in which errors arise, after the first line. Fails as `write_errors` does.
+    /// Prints the rules in which errors arise, after the text of `begin`. Fails as `write_errors`
+    /// does, with O2 if the output fails, and if memory is refused.
     fn print_errors<R: Print, D: Device>(
         self,
         rt: &R,
@@ -244,8 +250,9 @@ impl<'a> IndexedRun<'a> {
         write_errors(&tree, device, &mut out)
     }
 
-    /// Prints the values of a node, after the first line. Nothing is printed before all of the text was
-    /// made. Fails as `write_node` does, and with O2 if the output fails.
+    /// Prints the values of a node, after the text of `begin`. Makes the whole text before it
+    /// prints anything. Fails as `write_node` does, with O2 if the output fails, and if memory is
+    /// refused.
     fn print_node<R: Print, D: Device>(
         self,
         rt: &R,

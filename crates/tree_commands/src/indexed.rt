@@ -16,8 +16,9 @@ use treefile::Device;
 /// What to do about a tree file that is damaged.
 const AGAIN: &str = "make the file again by `aggen parse` or `aggen run --work` with this grammar";
 
-/// Reads the tree file at `path` as a pass reads it, and makes its index. Fails with R1, P2 or P3 if the file is
-/// damaged or exceeds a limit, with D1 if a call of the device fails, and if memory is refused.
+/// Reads the tree file at `path`, which the device contains, from its end, and makes its index.
+/// Fails with R1, P2 or P3 if the file is damaged or exceeds a limit, with D1 if a call of the
+/// device fails, and if memory is refused.
 pub fn read_index<D: Device>(
     alloc: Global,
     translator: &Translator,
@@ -30,8 +31,8 @@ pub fn read_index<D: Device>(
     }
 }
 
-/// Returns the report of a fault of reading the tree file at `path`, or of printing. It names the file
-/// after R1, P2, P3 and D1.
+/// Returns the report of a fault of reading the tree file at `path`, or of printing. It names the
+/// file after R1, P2, P3 and D1.
 pub fn report_of_tree(alloc: Global, fault: ShowFault, path: &str) -> FaultReport {
     let fault = match fault {
         ShowFault::Tree(fault) => fault_of(fault),
@@ -60,8 +61,9 @@ pub fn no_memory(alloc: Global) -> FaultReport {
     FaultReport::new(alloc, Fault::NoMemory)
 }
 
-/// Returns the child numbers, from 1, of a path from the root. Returns no numbers, the path of the root, if
-/// `path` is `None`. Fails if the text is not a path, and if memory is refused.
+/// Returns the child numbers, from 1, of the path that a text such as `/2/1` writes, from the root
+/// on. Returns no numbers, which is the path of the root, if `path` is `None`. Fails if the text is
+/// not a path, and if memory is refused.
 pub fn places_of(alloc: Global, path: Option<&str>) -> Result<Vec<u16>, FaultReport> {
     let Some(text) = path else {
         return Ok(Vec::new(alloc));
@@ -84,15 +86,15 @@ fn not_a_path(alloc: Global, text: &str) -> FaultReport {
     report.or_bare(written)
 }
 
-/// Returns the report of a path that leads to no node: up to which node it goes, and how many children that
-/// node has.
+/// Returns the report of a path that leads to no node. It names the last node on the path that the
+/// tree has, and the number of its children.
 pub fn no_node(alloc: Global, grammar: &Grammar, index: &TreeIndex, places: &[u16]) -> FaultReport {
     let mut report = FaultReport::new(alloc, Fault::Usage);
     let written = describe_missing(alloc, &mut report.parts.found, grammar, index, places);
     report.or_bare(written)
 }
 
-/// Writes up to which node a path goes in a tree, and the number of children of that node. Writes
+/// Writes the last node on a path that the tree has, and the number of its children. Writes
 /// nothing if memory for the path is refused. Fails if memory for the text is refused.
 fn describe_missing(
     alloc: Global,
@@ -123,7 +125,8 @@ fn describe_missing(
     }
 }
 
-/// Returns the report of a file of pass `pass`, for `--errors`, which needs the file of the last pass, `last`.
+/// Returns the report that the tree file is of pass `pass`, and `--errors` needs one of the last
+/// pass, `last`.
 pub fn not_last_pass(alloc: Global, pass: u16, last: u16) -> FaultReport {
     let mut report = FaultReport::new(alloc, Fault::Usage);
     let written = write!(
@@ -133,8 +136,8 @@ pub fn not_last_pass(alloc: Global, pass: u16, last: u16) -> FaultReport {
     report.or_bare(written)
 }
 
-/// Returns the report of the name of an attribute that an item does not have, with the names that
-/// it has. The item of a node is its symbol or its class of tokens.
+/// Returns the report that an item, a symbol or a class of tokens, has no attribute of this name.
+/// The report lists the names of its attributes.
 pub fn no_attribute(alloc: Global, format: &FileFormat<'_>, item: Item, name: &str) -> FaultReport {
     let mut report = FaultReport::new(alloc, Fault::Usage);
     let written = describe_attributes(&mut report.parts.found, format, item, name);

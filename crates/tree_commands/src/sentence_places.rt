@@ -37,18 +37,20 @@ pub struct TreeSentence<'a> {
 struct TokenText {
     /// Its literal or its class.
     kind: Terminal,
-    /// Its text, that of a TEXT without the quotes.
+    /// Its text. A token of the class TEXT has it without the quotes.
     text: String,
 }
 
 impl TreeSentence<'_> {
-    /// Returns the path, as child numbers from 1, from the root to the node of a symbol at a position:
+    /// Returns the path, as child numbers from 1, from the root to the node of a symbol at a
+    /// position:
     /// - in a token, to the innermost node whose tokens include this one;
     /// - between two tokens, to the innermost node whose tokens include both;
     /// - before the first token and after the last one, to the root.
     ///
-    /// Fails if the sentence can't be cut into tokens, if it does not have the position, if its tokens are not the
-    /// tree's, if a record is damaged or can't be read, and if memory is refused.
+    /// Fails if the sentence can't be cut into tokens, if it does not have the position, if its
+    /// tokens are not the tree's, if a record is damaged or can't be read, and if memory is
+    /// refused.
     pub fn node_at<D: Device>(
         self,
         alloc: Global,
@@ -65,7 +67,8 @@ impl TreeSentence<'_> {
         }
     }
 
-    /// Returns what `node_at` does, for a sentence that was cut into tokens. Fails as `node_at` does.
+    /// Returns what `node_at` does, for a sentence that was cut into tokens. Fails as `node_at`
+    /// does.
     fn node_in<D: Device>(
         self,
         alloc: Global,
@@ -84,8 +87,9 @@ impl TreeSentence<'_> {
         }
     }
 
-    /// Returns the path, as child numbers from 1, from the root to the innermost node of a symbol that has all tokens
-    /// of a range. Returns no numbers, the path of the root, if `range` is `None`. Fails if memory is refused.
+    /// Returns the path, as child numbers from 1, from the root to the innermost node of a symbol
+    /// that has all tokens of a range. Returns no numbers, the path of the root, if `range` is
+    /// `None`. Fails if memory is refused.
     fn find_node(self, alloc: Global, range: Option<TokenRange>) -> Result<Vec<u16>, NoMemory> {
         let Some(range) = range else {
             return Ok(Vec::new(alloc));
@@ -95,9 +99,9 @@ impl TreeSentence<'_> {
         self.index.find_covering(alloc, grammar, &counts, range)
     }
 
-    /// Fails if the tokens of the sentence are not those of the tree, if a record is damaged or can't be
-    /// read, and if memory is refused. The loop returns in its last turn at the latest: a sentence has at most
-    /// `MAX_TEXT_BYTES` tokens, each of at least one byte.
+    /// Fails if the tokens of the sentence are not those of the tree, if a record is damaged or
+    /// can't be read, and if memory is refused. The loop returns in its last iteration at the
+    /// latest: a sentence has at most `MAX_TEXT_BYTES` tokens, each of at least one byte.
     fn check_tokens<D: Device>(
         self,
         alloc: Global,
@@ -127,7 +131,8 @@ impl TreeSentence<'_> {
         Ok(())
     }
 
-    /// Returns the next token of the tree with its text; `None` after the last one. Fails as `word` does.
+    /// Returns the next token of the tree with its text; `None` after the last one. Fails as
+    /// `TokenWalk::next` and `word` do.
     fn next_of_tree<D: Device>(
         self,
         alloc: Global,
@@ -141,8 +146,8 @@ impl TreeSentence<'_> {
         }
     }
 
-    /// Returns the literal with this number as a token. (If the grammar lacked it, the text would be empty;
-    /// but the grammar has each literal of its productions.) Fails if memory is refused.
+    /// Returns the literal with this number as a token. (If the grammar lacked it, the text would
+    /// be empty; but the grammar has each literal of its productions.) Fails if memory is refused.
     fn literal(self, alloc: Global, number: u16) -> Result<TokenText, NoMemory> {
         let literals = self.translator.grammar().literals();
         let text = match literals.get(usize::from(number)) {
@@ -155,9 +160,9 @@ impl TreeSentence<'_> {
         })
     }
 
-    /// Reads the record of a token of a class, and returns the token. Fails with R1 if the record is
-    /// damaged, with D1 if a call of the device fails, and if memory is refused. (The offset of R1 is never
-    /// 0: the index has the node.)
+    /// Reads the record of a token of a class, and returns the token. Fails with R1 if the record
+    /// is damaged, with D1 if a call of the device fails, and if memory is refused. (The case with
+    /// R1 at offset 0 is not reached: the index has the node.)
     fn word<D: Device>(
         self,
         alloc: Global,
@@ -194,7 +199,8 @@ impl TreeSentence<'_> {
         report.or_bare(written)
     }
 
-    /// Returns the report of a token of the sentence, or of its end, where the tree has something else.
+    /// Returns the report that a token of the sentence, or its end, is not the next token of the
+    /// tree.
     fn other_token(
         self,
         alloc: Global,
@@ -223,7 +229,8 @@ fn with_help(mut report: FaultReport) -> FaultReport {
     report.or_bare(written)
 }
 
-/// Writes which token the sentence has, and which one the tree has. Names their kinds if both have the same text.
+/// Writes which token the sentence has, and which one the tree has. Names their kinds if both have
+/// the same text.
 fn write_other_token(
     out: &mut String,
     of_sentence: Option<Token<'_>>,
@@ -247,7 +254,8 @@ fn write_other_token(
     }
 }
 
-/// Writes a token as it is written in a sentence, a TEXT with its quotes, and after its kind if `is_named`.
+/// Writes a token as it is written in a sentence, a TEXT with its quotes, and after its kind if
+/// `is_named`.
 fn write_token(
     out: &mut String,
     kind: Terminal,
@@ -272,8 +280,9 @@ fn write_kind(out: &mut String, kind: Terminal) -> Result<(), AllocError> {
     }
 }
 
-/// Writes that a text does not have a position. Writes too where the position's line ends or, if the
-/// text has fewer lines, where the text ends. Lines and columns count from 1, columns in characters.
+/// Writes that a text does not have a position. Writes too where the position's line ends or, if
+/// the text has fewer lines, where the text ends. Lines and columns count from 1, columns in
+/// characters.
 fn write_no_place(out: &mut String, text: &str, position: Position) -> Result<(), AllocError> {
     let Position { line, column } = position;
     write!(out, "the sentence has no place {line}:{column}, ")?;
@@ -307,9 +316,9 @@ fn column_of_end(text: &str, line: usize) -> usize {
     column
 }
 
-/// Returns the offset in bytes of a position in a text: a line and a column in characters, both from 1.
-/// The ends of lines and of the text are positions too. Returns `None` if the text does not have the
-/// position.
+/// Returns the offset in bytes of a position in a text: a line and a column in characters, both
+/// from 1. The ends of lines and of the text are positions too. Returns `None` if the text does not
+/// have the position.
 fn offset_of(text: &str, position: Position) -> Option<usize> {
     let mut line = 1usize;
     let mut column = 1usize;
@@ -331,9 +340,9 @@ fn offset_of(text: &str, position: Position) -> Option<usize> {
     }
 }
 
-/// Returns a range of token numbers, from 0: that of the token at an offset of a sentence, in bytes. For
-/// an offset between two tokens the range has both. Returns `None` before the first token and after the
-/// last one.
+/// Returns the range of the token at an offset in bytes of a sentence. Tokens are numbered from 0.
+/// If the offset is between two tokens, the range has both. Returns `None` before the first token
+/// and after the last one.
 fn range_at(mut tokens: Tokens<'_>, at: usize) -> Option<TokenRange> {
     for number in 0..=MAX_TEXT_BYTES as u32 {
         let token = tokens.ahead()?;

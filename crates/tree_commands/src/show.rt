@@ -14,17 +14,18 @@ use tree_index::{FileFormat, SentenceWalk};
 use tree_text::{SelectedAttribute, TreeText, selected_attribute, write_tree};
 use treefile::{Device, FileDevice};
 
-/// Prints the nodes of a tree file. The grammar is read first, then the whole tree file; only then is
-/// anything printed.
+/// Prints the nodes of a tree file. Reads the grammar, and then the whole tree file. Prints nothing
+/// before that.
 ///
 /// Fails:
-/// - if an input can't be read or is refused, if the tree file is damaged, and if its tree exceeds a limit;
+/// - if an input can't be read or is refused, if the tree file is damaged, and if its tree exceeds
+///   a limit;
 /// - if the text that names the node is not a path, and if the tree does not have the node;
 /// - if the grammar lacks an attribute that the command line names;
 /// - if a call on the tree file fails (D1), if the output fails (O2), and if memory is refused.
 ///
-/// The records are read again while they are printed. So a part of the output may have been printed before
-/// O2, NoMemory or D1, and before R1 if something changes the file meanwhile.
+/// The records are read again while they are printed. So a part of the output may have been printed
+/// before O2, NoMemory or D1, and before R1 if something changes the file meanwhile.
 pub fn show_tree<R: Files + Input + Print>(
     rt: &R,
     alloc: Global,

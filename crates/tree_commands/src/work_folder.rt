@@ -18,9 +18,10 @@ pub enum TreePath<'a> {
 }
 
 impl<'a> TreePath<'a> {
-    /// Returns `path` or, if that is a folder, the path of one of its files a.agt and b.agt: the tree file of the
-    /// greater pass, or a.agt if neither pass is greater. A file that is no tree file of version 2 comes last. Fails
-    /// if memory is refused.
+    /// Returns `path` or, if that is a folder, the path of one of its files a.agt and b.agt.
+    /// Chooses the tree file of the greater pass, and a.agt if both are of the same pass or neither
+    /// is a tree file of version 2. If only one is such a tree file, chooses that one. Fails if
+    /// memory is refused.
     pub fn find<R: Files>(rt: &R, alloc: Global, path: &'a str) -> Result<TreePath<'a>, NoMemory> {
         if FileId::of_folder(rt, path)?.is_none() {
             return Ok(TreePath::Given(path));
@@ -34,7 +35,7 @@ impl<'a> TreePath<'a> {
         }
     }
 
-    /// Returns the path.
+    /// Returns the path as a text.
     pub fn as_str(&self) -> &str {
         match self {
             TreePath::Given(path) => path,

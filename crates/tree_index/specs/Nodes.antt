@@ -29,12 +29,12 @@ abbrev pub kids : Forest → (ℕ → Valuation) → List Subtree
 kids none vs = []
 kids (more t ts) vs = record { tree = t; values = vs 0 } ∷ kids ts (rest vs)
 
--- a list that is given from left to right, in the order of a direction
+-- the list xs in the order of a direction; xs itself is in the order from left to right
 abbrev pub in_order : {X : Type 0} → Direction → List X → List X
 in_order LeftToRight xs = xs
 in_order RightToLeft xs = reverse xs
 
--- the lists of a child and of the children right of it, joined in a direction
+-- the nodes of a child's subtree, and those of the subtrees of the children right of it, joined in a direction
 abbrev pub both : {X : Type 0} → Direction → List X → List X → List X
 both LeftToRight child others = child ++ others
 both RightToLeft child others = others ++ child
@@ -103,8 +103,8 @@ pub record IsIndexOf (g : Grammar) (m : Passes) (k : ℕ) (t : Tree) (v : Valuat
     pub nodes : HasNodes k t v index
     pub ends : AreEnds content index.ends.items (map (record_at g m k) (nodes_of (back_from k) t v))
 
--- P holds for each legal assignment m, pass k, tree t of the grammar and values v such that the content is the file of pass k
--- of t and v by m.
+-- P holds for each legal assignment m, pass k, tree t of the grammar and values v such that the content is the file of pass k of
+-- t and v by m. k is below 2^16, since a header has two bytes for it.
 abbrev pub OfEach : (Passes → ℕ → Tree → Valuation → Type 0) → Grammar → List ℕ → Type 0
 OfEach P g content = (m : Passes) (k : ℕ) (t : Tree) (v : Valuation) → k < 2 ^ 16 → IsLegal g m → IsTreeOf g t
     → IsFileOfTree version_two g m k t v content → P m k t v
@@ -160,14 +160,16 @@ abbrev pub IsKidOf : Direction → List Subtree → Tree → Valuation → ℕ �
 IsKidOf d nodes (leaf c x) v place number = ⊥
 IsKidOf d nodes (node p ts) v place number = IsKid d nodes ts v place number
 
--- In each tree of the grammar that the index has, `child` is the number of the child at a place (from 1) of node `number`.
+-- In each tree of the grammar that the index has, `child` is the number of the child of node `number` at `place`, which counts
+-- from 1. (x is the item of this node, `tree` its subtree, and w its values.)
 abbrev pub HasChild : Grammar → TreeIndex → ℕ → ℕ → ℕ → Type 0
 HasChild g index number place child = (k : ℕ) (t : Tree) (v : Valuation) (x : Item) (tree : Tree) (w : Valuation)
     → HasNodes k t v index → Fits g x tree → IsSubtreeAt (back_from k) (nodes_of (back_from k) t v) number tree w
     → IsKidOf (back_from k) (nodes_of (back_from k) t v) tree w place child
 
--- In each tree that the index has, the subtrees of the children of node `number` but the first `before` ones, in the direction in
--- which the file is read, have the numbers from `child` on. Nothing is claimed of a node with fewer than `before` children.
+-- Take the children of node `number` in the direction in which the file is read, without the first `before` ones. In each tree
+-- that the index has, the nodes of their subtrees, one subtree after the other, have the numbers `child`, `child` + 1 and so on.
+-- Nothing is claimed of a node with fewer than `before` children.
 abbrev pub HasLater : TreeIndex → ℕ → ℕ → ℕ → Type 0
 HasLater index number before child = (k : ℕ) (t : Tree) (v : Valuation) (p : ℕ) (ts : Forest) (w : Valuation)
     → HasNodes k t v index → before ≤ length (kids ts (children w))
@@ -185,7 +187,7 @@ child_in t v zero = None
 child_in (leaf c x) v (suc index) = None
 child_in (node p ts) v (suc index) = slice_get (kids ts (children v)) index
 
--- The node `found` of a tree is at the end of some places from the root.
+-- The node `found` is at the end of the path that goes from the root of a tree to the child at each of these places, from 1.
 abbrev pub IsAtEndOf : List ℕ → Tree → Valuation → Subtree → Type 0
 IsAtEndOf [] t v found = found ≡ record { tree = t; values = v }
 IsAtEndOf (place ∷ places) t v found = (child : Subtree) × (child_in t v place ≡ Some child)
@@ -208,7 +210,7 @@ HasNoLater index number before = (k : ℕ) (t : Tree) (v : Valuation) (p : ℕ) 
     → node_count t < 2 ^ 32 → before < length (kids ts (children w))
     → IsSubtreeAt (back_from k) (nodes_of (back_from k) t v) number (node p ts) w → ⊥
 
--- In each tree of the grammar that the index has, with fewer than 2 ^ 32 nodes, node `number` has no child at a place.
+-- In each tree of the grammar that the index has, with fewer than 2 ^ 32 nodes, node `number` has no child at `place`.
 abbrev pub HasNoChild : Grammar → TreeIndex → ℕ → ℕ → Type 0
 HasNoChild g index number place = (k : ℕ) (t : Tree) (v : Valuation) (x : Item) (tree : Tree) (w : Valuation)
     → HasNodes k t v index → node_count t < 2 ^ 32 → Fits g x tree

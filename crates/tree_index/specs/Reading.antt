@@ -1,5 +1,6 @@
 -- The reading of a tree file from its end, and the index of the nodes that were read. The letters g, m, k, t, v and d have the
--- meaning that they have in `Nodes.antt`. All of this is this project's.
+-- meaning that they have in `Nodes.antt`. x is an item and q a production, o is an open node and os are open nodes. f is the
+-- family of an open node (`Family`), and fs are families. All of this is this project's.
 use Rattle.std.specs.Prelude.{ℕ, ◌≡◌, ◌+◌, ◌-◌, ◌<◌, ◌≤◌, ◌⊎◌, Bool, List, [], ◌∷◌, ◌++◌, map, drop, length, get_or, min, set}
 use Rattle.std.specs.Prelude.{Some, Ok}
 use Rattle.ag_grammar.specs.declared.direction.Direction.{Direction}
@@ -57,7 +58,8 @@ pub record HasAdded (end : ℕ) (what : NodeKind) (old new : TreeIndex) : Type 0
 abbrev pub in_four_bytes : ℕ → ℕ
 in_four_bytes count = min count 4294967295
 
--- A node of an index was closed: the size of its subtree is the number of nodes from this node on.
+-- Node `number` of an index was closed: the size of its subtree is now the number of nodes from this node to the end of the
+-- index. If the index has no such node, `set` changes nothing.
 pub record HasClosed (number : ℕ) (old new : TreeIndex) : Type 0 where
   pub pass : new.pass ≡ old.pass
   pub ends : new.ends.items ≡ old.ends.items
@@ -104,9 +106,9 @@ AreOpen g (o ∷ os) [] = ⊥
 AreOpen g (o ∷ os) (f ∷ fs) = (q : Production) × IsProduction g o.production q × FitsAll g (stored_items q.items) f.trees
     × (o.children ≡ length (stored_items q.items)) × AreOpen g os fs
 
--- n nodes were read, and `sizes` has the size of the subtree of each node of the tree. The list of open nodes begins with the
--- innermost one. Add to n, for each open node in turn, the number of nodes of its unvisited children's subtrees. The sum so far
--- is then the number that follows those of the node's subtree in the index. The node's own number is below the sum before it.
+-- `sizes` has the size of the subtree of each node of the tree, n nodes were read, and the list of open nodes begins with the
+-- innermost one. The number of this node plus the size of its subtree is n plus the number of nodes of its unvisited children's
+-- subtrees, and its number is less than n. The same holds of the next open node, with that sum in place of n, and so on.
 abbrev pub AreEnding : Direction → List ℕ → ℕ → List OpenRecord → List Family → Type 0
 AreEnding d sizes n [] fs = Unit {0}
 AreEnding d sizes n (o ∷ os) [] = ⊥

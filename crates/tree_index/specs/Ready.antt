@@ -4,7 +4,8 @@ use Rattle.backreader.specs.BackState.{BackState, IsOver}
 use Rattle.treefile.specs.devices.Device.{WhenHonest}
 use Rattle.treefile.specs.records.TreeFile.{version_two}
 
--- A reader reads a file of version 2, and has no permanent fault. If the device is honest, this content is what it reads.
+-- The reader is one of a file of version 2, and no call of it failed except with NoMemory. If the device is honest, the reader
+-- reads this content.
 pub record IsReady (honest : Bool) (content : List ℕ) (state : BackState) : Type 0 where
   pub over : WhenHonest honest (IsOver content state)
   pub version : state.progress.version ≡ version_two

@@ -8,8 +8,8 @@ use treefile::{Device, FileVersion, FrameFault, LENGTH_BYTES, fits_before};
 
 /// Returns the body of the frame that ends at offset `end`, in bytes, of a file of version 2. The
 /// caller has to name the end of a frame, as an index does: the four bytes before it are read as
-/// the body's length. Takes memory for the body. No clause says which body is returned. The crate
-/// `causes` has a private `body_before` with such a clause.
+/// the body's length. Takes memory for the body. No clause says which body is returned. (The crate
+/// `causes` proves what it reads, so it has a private `body_before` with such a clause.)
 ///
 /// Fails with B2 and the offset if a body of this length does not fit between the header and the
 /// offset, with D1 if a call of the device fails, and if memory is refused.

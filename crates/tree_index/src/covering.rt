@@ -37,8 +37,8 @@ impl TokenRange {
         self.last < count
     }
 
-    /// Returns the same range, with tokens numbered from 0 after the first `count` ones; `None` if
-    /// the range begins with one of these `count` tokens.
+    /// Returns the same tokens as a range of those after the first `count` ones, which are numbered
+    /// from 0 again. Returns `None` if the range begins with one of the first `count` tokens.
     fn after(self, count: u32) -> Option<TokenRange> {
         Some(TokenRange {
             first: self.first.checked_sub(count)?,

@@ -48,8 +48,8 @@ impl TreeIndex {
         }
     }
 
-    /// Adds the node whose record ends at offset `end`, in bytes, and returns its number. The size of
-    /// its subtree is 1 until `close` sets it. Fails if memory is refused.
+    /// Adds the node whose record ends at offset `end`, in bytes, and returns its number. The size
+    /// of its subtree is 1 until `close` sets it. Fails if memory is refused.
     pub(crate) fn add(&mut self, end: u64, kind: NodeKind) -> Result<u32, NoMemory>
         ensures added { OnOk result (HasAdded end kind self.old self.new) }
         ensures number { IfOk result (λ number. number ≡ in_four_bytes (length self.old.ends.items)) }
@@ -61,8 +61,9 @@ impl TreeIndex {
         Ok(number)
     }
 
-    /// Closes a node, after exactly its subtree was added after it: sets the size of the subtree to the
-    /// number of nodes from this node on. Does nothing if the index does not have the node.
+    /// Sets the size of a node's subtree to the number of nodes from this node to the end of the
+    /// index. The caller calls it when the nodes of the subtree, and no others, were added after
+    /// the node. Does nothing if the index does not have the node.
     pub(crate) fn close(&mut self, node: u32)
         ensures { HasClosed node self.old self.new }
     {
@@ -72,7 +73,7 @@ impl TreeIndex {
         }
     }
 
-    /// Returns the number of the pass that wrote the file.
+    /// Returns the number of the pass that wrote the file; 0 for the parser.
     pub fn pass(&self) -> u16 {
         self.pass
     }
@@ -149,8 +150,8 @@ impl TreeIndex {
 
     /// Returns the number of that child of a node which comes after exactly `before` other children
     /// of this node in the order of the index. If the node has no such child, a returned number has
-    /// no meaning. Returns `None` if the index lacks a node before the child, or if a number would exceed
-    /// 4,294,967,295.
+    /// no meaning. Returns `None` if the index lacks a node before the child, or if a number would
+    /// exceed 4,294,967,295.
     fn child_after(&self, node: u32, before: u16) -> Option<u32>
         ensures later { IfSome result (HasLater self.now node before) }
         ensures complete { IfNone result (HasNoLater self.now node before) }

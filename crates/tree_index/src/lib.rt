@@ -1,10 +1,11 @@
-//! An index of a tree file: what each node is, the offset at which the frame of its record ends, and
-//! the number of nodes of its subtree. The index takes 16 bytes a node. It finds the node at the end
-//! of a path, or the nodes in the order of the sentence, without reading the file from its end again.
+//! An index of a tree file: what each node is, the offset at which the frame of its record ends,
+//! and the number of nodes of its subtree. The index takes 16 bytes a node. It finds the node at
+//! the end of a path, or the nodes in the order of the sentence, without reading the file from its
+//! end again.
 //!
 //! `TreeIndex::read` reads a file from its end, record by record, as a pass reads it, and fails
-//! with R1, P2, P3, D1 or NoMemory. It accepts the file of any pass of the plan, and that of the parser (pass
-//! 0).
+//! with R1, P2, P3, D1 or NoMemory. It accepts the file of any pass of the plan, and that of the
+//! parser (pass 0).
 #![tactic(auto)]
 
 mod bodies;

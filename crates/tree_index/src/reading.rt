@@ -25,13 +25,14 @@ use treefile::Device;
 /// The offset in bytes of the number of the pass in a header.
 const PASS_OFFSET: u64 = 4;
 
-/// The greatest size in bytes of a file from which `read_shape` copies bodies to the reader's buffer.
-/// From a larger file it borrows bodies one by one, if the device lends them. Borrowing is slower than
-/// copying if bodies are small. Only the size of the file decides, not that of its bodies.
+/// The greatest size in bytes of a file from which `read_shape` copies bodies to the reader's
+/// buffer. From a larger file it borrows bodies one by one, if the device lends them. Borrowing is
+/// slower than copying if bodies are small. Only the size of the file decides, not that of its
+/// bodies.
 const MAX_COPIED: u64 = 4_194_304;
 
-/// A bound of the number of turns of the loop in `read_file`, for a tree of `MAX_NODES` nodes: one to
-/// read each node below the root, one to close each node, and one at which no node is open.
+/// A bound of the number of turns of the loop in `read_file`, for a tree of `MAX_NODES` nodes: one
+/// to read each node below the root, one to close each node, and one at which no node is open.
 const MAX_TURNS: u32 = 2 * MAX_NODES + 1;
 
 /// An open node: a node of a production that was read and is not closed yet. (A node is closed
@@ -101,8 +102,8 @@ struct Expected {
 impl Mode<'_> {
     /// Reads a body as the record of an item, and appends the record's row to `values` if values
     /// are read. Returns the number of the production, or of the token's class. Fails with
-    /// `Damaged` if the body is not a record of the item, and with `NoMemory` if memory is refused. If
-    /// values are not read, only the beginning of the body is checked.
+    /// `Damaged` if the body is not a record of the item, and with `NoMemory` if memory is refused.
+    /// If values are not read, only the beginning of the body is checked.
     fn read_body(
         &self,
         item: Item,
@@ -265,9 +266,9 @@ impl Reading {
         self.open(mode.format.grammar, fetched)
     }
 
-    /// Returns whether the row at position `start` of `values` begins with the same values as the copies
-    /// in the parent's row. A row begins with the node's synthesized values, or with the text of a
-    /// token: these are copied. Returns true for `NO_COPIES`.
+    /// Returns whether the row at position `start` of `values` begins with the same values as the
+    /// copies in the parent's row. A row begins with the node's synthesized values, or with the
+    /// text of a token: these are copied. Returns true for `NO_COPIES`.
     fn has_copies(&self, copies: Copies, start: usize) -> bool {
         if copies.width == 0 {
             return true;

@@ -36,10 +36,10 @@ impl TokenCounts {
         Ok(TokenCounts { before })
     }
 
-    /// Returns the sum of the numbers of own tokens of the nodes from `first` to `after` - 1. (A node's
-    /// own tokens are the token that it is, or the literals of its production, without those of the
-    /// nodes below it.) Returns `None` if `first` or `after` is greater than the number of nodes, or if the nodes before
-    /// `after` have fewer tokens than those before `first`.
+    /// Returns the number of own tokens of the nodes from `first` to `after` - 1, all together. A
+    /// node's own tokens are the token that it is, or the literals of its production. Those of the
+    /// nodes below it are not counted. Returns `None` if `first` or `after` is greater than the
+    /// number of nodes, or if the nodes before `after` have fewer tokens than those before `first`.
     pub fn between(&self, first: u32, after: u32) -> Option<u32> {
         let before_first = *self.before.get(first as usize)?;
         self.before.get(after as usize)?.checked_sub(before_first)

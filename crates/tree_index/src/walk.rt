@@ -63,8 +63,9 @@ impl<'a> SentenceWalk<'a> {
         &self.path
     }
 
-    /// Sets the greatest level that is visited; the node at which the walk begins has level 0. Without
-    /// this call all levels are visited. It has to be called before the first call of `next`.
+    /// Sets the greatest level that is visited; the node at which the walk begins has level 0.
+    /// Without this call all levels are visited. It has to be called before the first call of
+    /// `next`.
     pub fn set_depth(&mut self, depth: u32) {
         self.depth = depth;
     }

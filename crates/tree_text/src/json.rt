@@ -9,8 +9,8 @@ use ag_value::{ErrorCode, NoMemory, Text, Value};
 use std::alloc::Global;
 use tree_index::NodePath;
 
-/// 2^53 - 1. Readers of JSON that store numbers as 64-bit floats keep the integers from
-/// `-MAX_EXACT` to `MAX_EXACT`.
+/// 2^53 - 1. Readers of JSON that store numbers as 64-bit floats read the integers from
+/// `-MAX_EXACT` to `MAX_EXACT` exactly.
 const MAX_EXACT: i64 = 9_007_199_254_740_991;
 
 /// A member of an object: the name of an attribute, and its value.
@@ -112,7 +112,7 @@ fn write_carried(alloc: Global, out: &mut String, value: &Carried) -> Result<(),
     match (value.as_number(), value.as_value()) {
         (Some(number), _) => write_number(out, number),
         (None, Some(value)) => write_json(out, value),
-        // an error, or a text, table or list that is stored in another form, such as a rope or a tree
+        // an error, or a text, table or list that is stored in another form (a rope or a tree)
         (None, None) => write_json(out, &value.to_value(alloc)?),
     }
 }
@@ -139,7 +139,7 @@ fn write_array(out: &mut String, items: &[Value]) -> Result<(), NoMemory> {
     Ok(out.push_str("]")?)
 }
 
-/// Writes the items of a list, with a comma between.
+/// Writes the items of a list, with a comma and a space between.
 #[cycle(json)]
 fn write_items(out: &mut String, items: &[Value]) -> Result<(), NoMemory> {
     let [first, rest @ ..] = items else {
@@ -161,7 +161,8 @@ fn write_entries(out: &mut String, pairs: &[(Text, Value)]) -> Result<(), NoMemo
     Ok(out.push_str("]}")?)
 }
 
-/// Writes the entries of a table, each an array of a key and its value, with a comma between.
+/// Writes the entries of a table, each an array of a key and its value, with a comma and a space
+/// between.
 #[cycle(json)]
 fn write_pairs(out: &mut String, pairs: &[(Text, Value)]) -> Result<(), NoMemory> {
     let [first, rest @ ..] = pairs else {
@@ -178,7 +179,7 @@ fn write_pairs(out: &mut String, pairs: &[(Text, Value)]) -> Result<(), NoMemory
     Ok(out.push_str("]")?)
 }
 
-/// Writes the key of an entry, and the comma after it.
+/// Writes the key of an entry, and the comma and the space after it.
 fn write_key(out: &mut String, key: &str) -> Result<(), NoMemory> {
     write_string(out, key)?;
     Ok(out.push_str(", ")?)

@@ -19,7 +19,7 @@ use treefile::Device;
 pub(crate) struct ShownNode {
     /// The number of the node in the index.
     pub(crate) node: u32,
-    /// The level of the node; that of the walk's first node is 0.
+    /// The level of the node in the `SentenceWalk`; that of the walk's first node is 0.
     pub(crate) level: u32,
     /// The symbol or the class of the node.
     pub(crate) item: Item,
@@ -32,7 +32,7 @@ const BUFFER_BYTES: usize = 65_536;
 /// What is printed of a tree file.
 #[derive(Clone, Copy)]
 pub struct TreeText<'a> {
-    /// How the file is read.
+    /// The grammar, its plan and the file's pass, by which records are read.
     pub format: FileFormat<'a>,
     /// The index of the file.
     pub index: &'a TreeIndex,

@@ -21,7 +21,7 @@ pub fn write_value(
     }
     match value.as_value() {
         Some(value) => write_flat(alloc, out, value, width),
-        // an error, or a text, table or list that is stored in another form, such as a rope or a tree
+        // an error, or a text, table or list that is stored in another form (a rope or a tree)
         None => write_flat(alloc, out, &value.to_value(alloc)?, width),
     }
 }

@@ -30,10 +30,12 @@ use treefile::{Device, Kind, Writer};
 /// The offset of the pass number in a header, in bytes.
 const PASS_OFFSET: u64 = 4;
 
-/// The pass number of the intermediate file, whose records are from right to left as in pass 1.
+/// The pass number of the intermediate file. As in a file of pass 1, each node is written after its
+/// children, and these from right to left.
 const BETWEEN: u16 = 1;
 
-/// Reads a tree file of version 1 backward, and writes the records of version 2 of the same tree.
+/// Reads a tree file of version 1 from its end, and writes the records of version 2 of the same
+/// tree.
 #[derive(Drop)]
 struct Upgrading {
     alloc: Global,
@@ -49,13 +51,13 @@ struct Subtree {
 }
 
 impl Upgrading {
-    /// Reads the record of a subtree's root. The record's frame should end where the frame that was read
-    /// last begins, or at the end of the file if none was read. Requires an item that is a child: a
-    /// symbol or a class. Fails with P2 if the root's level exceeds `MAX_REVERSED_LEVELS`, and with
-    /// P3 if `MAX_REVERSED_RECORDS` records were read already. Fails with R1 and the offset at
-    /// which the record's frame should end if no frame ends there, or one whose body is not a
-    /// record of the item. Fails with D1 if the device fails, and with `NoMemory` if memory cannot
-    /// be allocated.
+    /// Reads the record of a subtree's root. The record's frame should end where the frame that was
+    /// read last begins, or at the end of the file if none was read. Requires an item that is a
+    /// child: a symbol or a class. Fails with P2 if the root's level exceeds `MAX_REVERSED_LEVELS`,
+    /// and with P3 if `MAX_REVERSED_RECORDS` records were read already. Fails with R1 and the
+    /// offset at which the record's frame should end if no frame ends there, or one whose body is
+    /// not a record of the item. Fails with D1 if the device fails, and with `NoMemory` if memory
+    /// cannot be allocated.
     fn record<D: Device>(
         &mut self,
         grammar: &Grammar,
@@ -96,10 +98,10 @@ impl Upgrading {
     }
 
     /// Converts a subtree, if its item is a symbol or a class: reads its records, and writes the
-    /// records of version 2, each node after its children, and these from right to left. In version 2
-    /// and pass 0 the only values in a node's record are the texts of its children that are tokens. For a
-    /// literal does nothing. Returns the text if the item is a class, and otherwise `None`. Fails as
-    /// `upgrade` does for the first device, and with D1 if the second one fails.
+    /// records of version 2, each node after its children, and these from right to left. In version
+    /// 2 and pass 0 the only values in a node's record are the texts of its children that are
+    /// tokens. For a literal does nothing. Returns the text if the item is a class, and otherwise
+    /// `None`. Fails as `upgrade` does for the first device, and with D1 if the second one fails.
     fn tree<D: Device, E: Device>(
         &mut self,
         grammar: &Grammar,
@@ -184,9 +186,9 @@ fn add_text(texts: &mut Vec<Value>, text: Option<Value>) -> Result<(), NoMemory>
     Ok(())
 }
 
-/// Reads the file of version 1 and pass 0 of a tree backward, and writes a file with pass number 1
-/// of the tree's records of version 2, from right to left. Fails as `upgrade` does for the first
-/// device, and with D1 if the second one fails.
+/// Reads the file of version 1 and pass 0 of a tree from its end, and writes a file with pass
+/// number 1 that has the tree's records of version 2, with children from right to left. Fails as
+/// `upgrade` does for the first device, and with D1 if the second one fails.
 fn convert<D: Device, E: Device>(
     alloc: Global,
     grammar: &Grammar,
@@ -263,19 +265,19 @@ fn stored_among(items: &[Item]) -> u32
     count
 }
 
-/// Converts a tree file of version 1. Reads the file of pass 0 of a tree of the grammar backward
-/// from the first device, and writes to the third one the file of version 2 and pass 0 of the same
-/// tree: the file that `parse` writes for a sentence with this tree. Writes the same records from
-/// right to left to the second device in between. Returns the number of nodes. The recursion is as
-/// deep as the tree, and ends at the first record below level `MAX_REVERSED_LEVELS` (256). The
-/// first device keeps its content, also on failure. After a success the old content of the other two
-/// is lost.
+/// Converts a tree file of version 1. Reads the file of pass 0 of a tree of the grammar from its
+/// end, from the first device. Writes the tree's records of version 2 to the second device, with
+/// children from right to left, and then reverses this file to the third device. The result is the
+/// file of version 2 and pass 0 of the same tree: the file that `parse` writes for a sentence with
+/// this tree. Returns the number of nodes. The recursion is as deep as the tree, and ends before
+/// a record at a level above `MAX_REVERSED_LEVELS` (256) is read. The first device keeps its
+/// content, also on failure. After a success the old content of the other two is lost.
 ///
 /// Fails with R1 (`Damaged`) only if the content is not the file of version 1 and pass 0 of a tree
 /// of the grammar; the offset is as for `run_pass` of the crate `passrun`. If a limit is exceeded
-/// before any damage, fails with P2 (`TooDeep`) or P3 (`TooManyNodes`) instead: the content then
-/// encodes no tree of at most `MAX_REVERSED_LEVELS` (256) levels, or none of at most
-/// `MAX_REVERSED_RECORDS` (65,536) nodes, and may encode no tree at all. Fails with D1 (`Device`)
+/// before any damage, fails with P2 (`TooDeep`) or P3 (`TooManyNodes`) instead. With P2 the content
+/// encodes no tree of at most `MAX_REVERSED_LEVELS` (256) levels, with P3 none of at most
+/// `MAX_REVERSED_RECORDS` (65,536) nodes. It may encode no tree at all. Fails with D1 (`Device`)
 /// if a call of a device failed, and with `NoMemory` if memory cannot be allocated. What R1, P2 and P3
 /// mean holds if the first two devices return the bytes that were written to them. If the second one
 /// does not, the call may also fail with R1 and an offset in that device's content, or with P2. After a
@@ -283,7 +285,7 @@ fn stored_among(items: &[Item]) -> u32
 ///
 /// Allocates memory for a buffer of 4,096 bytes or of the largest frame, for one frame at a time,
 /// and for the texts of the tokens among the children of each node on the path from the root. While
-/// the intermediate file is reversed, allocates memory for a body at each level.
+/// the intermediate file is reversed, allocates memory for a body at each level of the tree.
 pub fn upgrade<D: Device, E: Device, F: Device>(
     alloc: Global,
     grammar: &Grammar,
@@ -317,8 +319,8 @@ pub fn upgrade<D: Device, E: Device, F: Device>(
 }
 
 /// Writes the record of a node or token that was read from a file of version 1. Its values are of
-/// the type `Value`, and not carried ones as those that a pass writes. Fails with D1 if the device
-/// fails, and with `NoMemory` if memory cannot be allocated.
+/// the type `Value`. (Those that a pass writes are of the type `Carried`.) Fails with D1 if the
+/// device fails, and with `NoMemory` if memory cannot be allocated.
 #[inline(always)]
 fn put_record<E: Device>(
     kind: Kind,

@@ -107,8 +107,8 @@ pass_2_of_one =
     ++ (0 ∷ 0 ∷ 1 ∷ 0 ∷ 0 ∷ 0 ∷ 0 ∷ 0 ∷ 0 ∷ 0 ∷ 0 ∷ 0 ∷ 0 ∷ 0 ∷ 0 ∷ 12 ∷ [])
     ++ (0 ∷ 0 ∷ 0 ∷ 1 ∷ 0 ∷ 0 ∷ 0 ∷ 5 ∷ 54 ∷ 53 ∷ 53 ∷ 51 ∷ 54 ∷ 0 ∷ 0 ∷ 0 ∷ 13 ∷ [])
 
--- the file of pass 0 of `iffy if` in the sample grammar with a token (`examples/words.ag`): its header, a frame for the name and
--- one for the root
+-- the file of pass 0 of `iffy if` in the sample grammar with a token (`examples/words.ag`): its header, a frame for the name
+-- `iffy` and one for the root
 abbrev pub file_of_iffy : List ℕ
 file_of_iffy =
     (65 ∷ 71 ∷ 84 ∷ 49 ∷ 0 ∷ 0 ∷ [])

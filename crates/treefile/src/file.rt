@@ -27,8 +27,8 @@ pub enum FileFault {
     File,
 }
 
-/// The access that a device has to its file. The crate doesn't export it, but contracts of other crates
-/// name it.
+/// The access that a device has to its file. The crate doesn't export it, but contracts of other
+/// crates name it.
 #[derive(Clone, Copy, PartialEq, Eq)]
 pub enum Access {
     /// The file is only read.
@@ -101,8 +101,8 @@ impl<F> FileDevice<F> {
 }
 
 impl<F: Read + Write + Seek + OpenFile> FileDevice<F> {
-    /// Converts the result of a write to the file. Fails with `Failed` if the write failed; that is counted,
-    /// and breaks the device: every later call fails.
+    /// Converts the result of a write to the file. Fails with `Failed` if the write failed; that is
+    /// counted, and breaks the device: every later call fails.
     fn check_write(&mut self, written: io::Result<()>) -> Result<(), DeviceFault>
         ensures ok { OnOk written ((result ≡ Ok tt) × (self.new ≡ self.old)) }
         ensures err { OnErr written (IsErrOf result DeviceFault.Failed) }
@@ -145,8 +145,8 @@ impl<F: Read + Write + Seek + OpenFile> FileDevice<F> {
         Ok(())
     }
 
-    /// Appends bytes to the buffer, without regard to its limit. Takes memory for them. Fails with NoMemory
-    /// if it is refused; nothing has changed then.
+    /// Appends bytes to the buffer, without regard to its limit. Takes memory for them. Fails with
+    /// NoMemory if it is refused; nothing has changed then.
     fn buffer_bytes(&mut self, bytes: &[u8]) -> Result<(), DeviceFault>
         ensures ok { OnOk result (self.new
             ≡ record self.old { buffered = self.old.buffered ++ bytes.now }) }
@@ -173,10 +173,10 @@ impl<F: Read + Write + Seek + OpenFile> FileDevice<F> {
         }
     }
 
-    /// Appends bytes as `append` does, also if they do not fit in the buffer: then it first writes the
-    /// buffered bytes to the file. Writes 65,536 bytes or more to the file without buffering them. Fails
-    /// with `Failed` if the file is only read, or if a write, now or earlier, failed, and with `NoMemory` if
-    /// memory is refused.
+    /// Appends bytes as `append` does, also if they do not fit in the buffer: then it first writes
+    /// the buffered bytes to the file. Writes 65,536 bytes or more to the file without buffering
+    /// them. Fails with `Failed` if the file is only read, or if a write, now or earlier, failed,
+    /// and with `NoMemory` if memory is refused.
     #[cold]
     #[inline(never)]
     fn append_slowly(&mut self, bytes: &[u8]) -> Result<(), DeviceFault>
@@ -201,9 +201,9 @@ impl<F: Read + Write + Seek + OpenFile> FileDevice<F> {
 
 impl<F: Read + Write + Seek + OpenFile> FileDevice<F> {
     /// Opens the file at `path` for reading and appending, and creates it if there is none. An
-    /// existing content stays until `clear`, unlike with std's `File::create`, which empties the file.
-    /// `before` is the record of calls that the device continues: `CallRecord::new()` for a new one.
-    /// Fails with F1 if the file can't be opened or created. Takes no memory.
+    /// existing content stays until `clear`, unlike with std's `File::create`, which empties the
+    /// file. `before` is the record of calls that the device continues: `CallRecord::new()` for a
+    /// new one. Fails with F1 if the file can't be opened or created. Takes no memory.
     pub fn create<Rt: Files<File = F>>(
         rt: &Rt,
         alloc: Global,
@@ -220,9 +220,10 @@ impl<F: Read + Write + Seek + OpenFile> FileDevice<F> {
         }
     }
 
-    /// Opens the existing file at `path` for reading only: `append`, `append_parts` and `clear` fail with
-    /// `Failed`. `before` is the record of calls that the device continues: `CallRecord::new()` for a new
-    /// one. Fails with F1 if the file can't be opened. Takes no memory.
+    /// Opens the existing file at `path` for reading only: `append`, `append_parts` and `clear`
+    /// fail with `Failed`. `before` is the record of calls that the device continues:
+    /// `CallRecord::new()` for a new one. Fails with F1 if the file can't be opened. Takes no
+    /// memory.
     pub fn existing<Rt: Files<File = F>>(
         rt: &Rt,
         alloc: Global,

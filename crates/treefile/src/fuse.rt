@@ -9,11 +9,12 @@ ghost use Rattle.treefile.specs.devices.Fuse.{FuseEffect, Fuse, FusePersists, fa
 use crate::device::{Device, DeviceFault};
 use std::marker::Model;
 
-/// A device that forwards the calls of `len`, `append`, `read_at` and `clear` to another one, `inner`,
-/// except one of them: that call fails and does nothing. Only these calls count. `append_parts` copies
-/// the parts and calls `append` of this device, and `lend_before` always returns `None`. The device is
-/// honest if `inner` is. `left` is the number of calls up to the failing one (1: the next; 0: there is
-/// none), and `failed` the number of failed calls that were not forwarded.
+/// A device that forwards the calls of `len`, `append`, `read_at` and `clear` to another one,
+/// `inner`, except one of them: that call fails and does nothing. Only these calls count.
+/// `append_parts` copies the parts and calls `append` of this device, and `lend_before` always
+/// returns `None`. The device is honest if `inner` is. `left` is the number of calls up to the
+/// failing one (1: the next; 0: there is none), and `failed` the number of failed calls that were
+/// not forwarded.
 #[derive(Drop)]
 pub struct FuseDevice<D> {
     inner: D,

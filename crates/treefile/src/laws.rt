@@ -54,10 +54,10 @@ pub fn last_is_read()
         last_body_of version content ≡ Err (Damaged at) → at ≡ length content }
 {}
 
-/// States three facts of a usable version. The file of a pass below 2^16 begins as a tree file of that
-/// pass. A file of bodies whose lengths are within the limits of the version is read back from its end
-/// to its header as these bodies, the last one first. A content that has only bytes, begins as a tree
-/// file and is read back as some bodies is the file of these.
+/// States three facts of a usable version. The file of a pass below 2^16 begins as a tree file of
+/// that pass. A file of bodies whose lengths are within the limits of the version is read back from
+/// its end to its header as these bodies, the last one first. A content that has only bytes, begins
+/// as a tree file and is read back as some bodies is the file of these.
 pub fn files_are_read_back()
     ensures begins { (version : Version) (pass : ℕ) (bodies : List (List ℕ)) → IsUsable version →
         pass < 2 ^ 16 → (is_tree_file version (file version pass bodies) ≡ true)
@@ -71,8 +71,8 @@ pub fn files_are_read_back()
         content ≡ file version (pass_of content) (reverse bodies) }
 {}
 
-/// States that the body of a record of well values, at most as many as the version allows, has a length
-/// within the limits of the version.
+/// States that the body of a record of well values, at most as many as the version allows, has a
+/// length within the limits of the version.
 pub fn records_fit()
     ensures least { (kind : Kind) (number : ℕ) (values : List Value) →
         least_body ≤ length (body_of kind number values) }

@@ -1,6 +1,6 @@
-//! Tree files: devices that store bytes, the frames of a file, writing records, and reading the record
-//! before an offset. A *body* is the bytes of one node's record, and a *frame* is a body followed by its
-//! length.
+//! Tree files: devices that store bytes, the frames of a file, writing records, and reading the
+//! record before an offset. A *body* is the bytes of one node's record, and a *frame* is a body
+//! followed by its length.
 #![tactic(auto)]
 
 mod body;

@@ -21,7 +21,8 @@ impl Model for MemDevice {
 }
 
 impl MemDevice {
-    /// Makes an empty device, which takes memory from `alloc` when it grows. Takes no memory itself.
+    /// Makes an empty device, which takes memory from `alloc` when it grows. Takes no memory
+    /// itself.
     pub fn new(alloc: Global) -> MemDevice
         ensures { result ≡ [] }
     {

@@ -1,5 +1,5 @@
-//! Reading a tree file: the pass in its header, the record before an offset, and the last record. The
-//! length of a body comes after it, so that reading can begin at the end of the file.
+//! Reading a tree file: the pass in its header, the record before an offset, and the last record.
+//! The length of a body comes after it, so that reading can begin at the end of the file.
 
 ghost use Rattle.std.specs.Prelude.{◌≡◌, ◌+◌, ◌<◌, ◌≤◌, ◌⊎◌, ◌^◌, length, take, IfErr, IfOk};
 ghost use Rattle.std.specs.Prelude.{IsErrOf, IsTrue, OnOk, nat_eq, slice_range};

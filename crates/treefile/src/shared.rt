@@ -13,7 +13,7 @@ use std::alloc::Global;
 use std::marker::Model;
 
 /// A device in memory that becomes one more owner of each shared value that `append_parts` appends.
-/// It lends bodies that contain such values without copying them. `append` and `read_at` copy bytes.
+/// If it has such values, it lends bodies without copying them. `append` and `read_at` copy bytes.
 /// Contracts see the bytes. The device is honest, and never fails with `Failed`.
 #[derive(Drop)]
 pub struct SharedDevice {
@@ -29,7 +29,8 @@ impl Model for SharedDevice {
 }
 
 impl SharedDevice {
-    /// Makes an empty device, which takes memory from `alloc` when it grows. Takes no memory itself.
+    /// Makes an empty device, which takes memory from `alloc` when it grows. Takes no memory
+    /// itself.
     pub fn new(alloc: Global) -> SharedDevice
         ensures { result ≡ [] }
     {
@@ -102,21 +103,23 @@ impl Device for SharedDevice {
     }
 }
 
-/// Lends the body of the frame that ends at offset `at` of a content. Returns `None` if no frame ends
-/// there, or if the body or its length can't be cut from the shared bytes.
+/// Lends the body of the frame that ends at offset `at` of a content. Returns `None` if no frame
+/// ends there, or if the body or its length can't be cut from the shared bytes.
 ///
-/// The type `Body` is any borrowed part of shared bytes, and only the result is the body of a frame.
-/// `frame` has all bytes before offset `at`, also those before the frame. `last` has the last four of
-/// them, and `rest` the others. A *splice* is the encoding of a shared value. `cut` splits a part at an
-/// offset; its second argument is the number of splices before the offset. The first two cuts have the
-/// same number, since a writer never shares the four bytes of a frame's length.
+/// The type `Body` is any borrowed part of shared bytes, and only the result is the body of a
+/// frame. `frame` has all bytes before offset `at`, also those before the frame. `last` has the
+/// last four of them, and `rest` the others. A *splice* is the encoding of a shared value. `cut`
+/// splits a part at an offset; its second argument is the number of splices before the offset. The
+/// first two cuts have the same number, since a writer never shares the four bytes of a frame's
+/// length.
 #[inline(never)]
 fn body_before(bytes: &SharedBytes, at: u64) -> Option<Body<'_>>
     ensures body { IfSome result (λ body. body_before version_two bytes.now at ≡ Ok body) }
     ensures bytes { IfSome result
         (λ body. IsBytes (drop (at - length_bytes - length body) bytes.now)) }
 {
-    // unused at run time: the clause `bytes` of `len` shows the prover that each of `bytes` is below 256
+    // unused at run time: the clause `bytes` of `len` shows the prover that each of `bytes` is
+    // below 256
     let _count = bytes.len();
     if at < HEADER_BYTES + LENGTH_BYTES {
         return None;

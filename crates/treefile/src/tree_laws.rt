@@ -1,6 +1,7 @@
-//! Laws about the definitions of trees of bodies and of their files. Each is the contract of a function with an
-//! empty body. `binary` is the grammar of binary fractions in `specs/Worked.antt`. Two grammars are those of
-//! `Sample.antt` of `ag_grammar`: `token_sample` (`examples/words.ag`), with the sentence `iffy if`, and `sample`
+//! Laws about the definitions of trees of bodies and of their files. Each is the contract of a
+//! function with an empty body. `binary` is the grammar of binary fractions in `specs/Worked.antt`,
+//! with the symbols N, Q, L, T and B. Two grammars are those of `Sample.antt` of `ag_grammar`:
+//! `token_sample` (`examples/words.ag`), with the sentence `iffy if`, and `sample`
 //! (`examples/swapped-attributes.ag` without its `text(..)`), with the sentence `x x`.
 
 ghost use Rattle.std.specs.Prelude.{◌≡◌, ◌≤◌, ◌++◌, ◌∷◌, ℕ, List, [], Option, None, All, Ok, length, pos};
@@ -47,8 +48,8 @@ pub fn reversed_postfix_is_prefix()
 {}
 
 /// States that if each body determines the number of children of its node, a list begins with the
-/// prefix list of at most one tree, and ends with the postfix list of at most one. So no prefix list is
-/// a proper prefix of another, and a list is that of at most one tree.
+/// prefix list of at most one tree, and ends with the postfix list of at most one. So no prefix
+/// list is a proper prefix of another, and a list is that of at most one tree.
 pub fn lists_determine_trees()
     ensures begins { (arity : List ℕ → Option ℕ) (direction : Direction) (tree another : BodyTree)
         (rest others : List (List ℕ)) → MatchesArity arity tree → MatchesArity arity another →
@@ -77,9 +78,9 @@ pub fn trees_are_read_back()
         (prefix (other (direction_of pass)) (bodies_of version grammar passes pass tree values)) }
 {}
 
-/// Worked examples: the files of `1` in the grammar of binary fractions, byte for byte, and the file of
-/// pass 0 of `iffy if` in `token_sample`. In pass 0 the only values are the texts of tokens. In version
-/// 2 the record of a node has copies too.
+/// Worked examples: the files of `1` in the grammar of binary fractions, byte for byte, and the
+/// file of pass 0 of `iffy if` in `token_sample`. In pass 0 the only values are the texts of
+/// tokens. In version 2 the record of a node has copies too.
 pub fn worked_files()
     ensures first { (values : Valuation) →
         file_of_tree version_one binary binary_passes 0 tree_of_one values ≡ pass_0_of_one }
@@ -97,10 +98,10 @@ pub fn worked_files()
         file_of_tree version_two token_sample iffy_passes 0 token_tree values ≡ file_of_iffy_in_two }
 {}
 
-/// States that a record determines its node's production and values. A list begins with the records of
-/// at most one tree of an item (a member of a right side: a symbol, a class or a literal), and of one
-/// valuation of it (the values of its nodes) up to the pass, each node before its children; and it ends
-/// with those of at most one, each node after its children.
+/// States that a record determines its node's production and values. A list begins with the records
+/// of at most one tree of an item (a member of a right side: a symbol, a class or a literal), and
+/// of one valuation of it (the values of its nodes) up to the pass, each node before its children;
+/// and it ends with those of at most one, each node after its children.
 pub fn records_determine_trees()
     ensures node { OneNode }
     ensures leading { OneTreeBefore }
@@ -154,9 +155,9 @@ pub fn refusals_are_true()
     ensures header { NoFileHasNoTree }
 {}
 
-/// States that the values of a record follow one another: a body is a record of a symbol exactly if it
-/// has a production of that symbol and the right number of well values, and it is none if a value is
-/// missing or bytes are left over.
+/// States that the values of a record follow one another: a body is a record of a symbol exactly if
+/// it has a production of that symbol and the right number of well values, and it is none if a
+/// value is missing or bytes are left over.
 pub fn records_are_read()
     ensures listed { ListedRecord }
     ensures missing { ValueIsMissing }
@@ -173,11 +174,10 @@ pub fn root_is_last()
 
 /// Worked examples: a record can number the productions of the grammar of binary fractions. The
 /// tree of `1` with its values can be recorded, and so can that of `iffy if`, but not with an empty
-/// text for the name. The file of pass 2 of `1` is that of no other tree, and its last record is
-/// that of N. Pass 1 ran from the file of pass 0 of `x x` in `sample` to that of
-/// pass 1, and so did the passes from 1 to 1. T's record in pass 1 has the number 65536, which is
-/// spelled in nine bytes. A following byte 9 begins no value, so these ten bytes do not spell two
-/// values.
+/// text for the token `iffy`. The file of pass 2 of `1` is that of no other tree, and its last
+/// record is that of N. Pass 1 ran from the file of pass 0 of `x x` in `sample` to that of pass 1,
+/// and so did the passes from 1 to 1. T's record in pass 1 has the number 65536, which is spelled
+/// in nine bytes. A following byte 9 begins no value, so these ten bytes do not spell two values.
 pub fn worked_records()
     ensures numbered { IsNumbered binary }
     ensures recorded { IsRecorded binary binary_passes 2 (item.Symbol 0) tree_of_one values_of_one }
@@ -203,11 +203,11 @@ pub fn worked_records()
 
 /// Worked examples: the nodes of T's record in pass 1 and of the record of the token `iffy` have no
 /// children, and Q's record is not a record of N. The next examples read the file of pass 0 of `1`
-/// in version 1 from its end, with children from right to left. N is expected first, and after its record Q
-/// and then L, one level deeper. The bodies are those of a tree of at most three levels, and of no
-/// tree of at most two. The file is that of no tree of at most two levels, and of no tree of at
-/// most three nodes. No tree has a header alone as its file of pass 0, or a file with only Q's
-/// record. No tree has the file of pass 0 of `1` as its file of pass 1.
+/// in version 1 from its end, with children from right to left. N is expected first, and after its
+/// record Q and then L, one level deeper. The bodies are those of a tree of at most three levels,
+/// and of no tree of at most two. The file is that of no tree of at most two levels, and of no tree
+/// of at most three nodes. No tree has a header alone as its file of pass 0, or a file with only
+/// Q's record. No tree has the file of pass 0 of `1` as its file of pass 1.
 pub fn worked_reading()
     ensures one { IsRecordOf version_one binary binary_passes 1 (item.Symbol 3, None)
         record_of_t [] }
@@ -235,8 +235,8 @@ pub fn worked_reading()
     ensures other_pass { HasNoTree version_one binary binary_passes 1 pass_0_of_one }
 {}
 
-/// States that a tree of a grammar has exactly one file of pass 0 in each version, whatever passes, from
-/// 1 on, its attributes have.
+/// States that a tree of a grammar has exactly one file of pass 0 in each version, whatever passes,
+/// from 1 on, its attributes have.
 pub fn first_files_are_one()
     ensures there { (version : Version) (grammar : Grammar) (tree : Tree) →
         IsTreeOf grammar tree → IsFirstFile version grammar tree (first_file version tree) }

@@ -1,8 +1,9 @@
 //! Writing a tree file: its header, and then the frames of its records. The private functions that
-//! fill a buffer or `parts`, or append to one of them, fail only if memory is refused. The buffer
-//! or `parts` has arbitrary bytes then. Records without values, and those whose values are one, two
-//! or three numbers, have functions that need no buffer. The last four bytes of their frames are
-//! the length of the body: 3 bytes, and 9 more for each number.
+//! fill a buffer or `parts`, or append to one of them, fail only if memory is refused, or if a
+//! shared value has 2^64 - 1 owners. The buffer or `parts` has arbitrary bytes then. Records
+//! without values, and those whose values are one, two or three numbers, have functions that need
+//! no buffer. The last four bytes of their frames are the length of the body: 3 bytes, and 9 more
+//! for each number.
 
 ghost use Rattle.std.specs.Prelude.{◌≡◌, ◌++◌, ◌∷◌, ◌+◌, ◌-◌, ◌<◌, ◌≤◌, ◌^◌, ◌⊎◌, [], length};
 ghost use Rattle.std.specs.Prelude.{true, false, All, IfOk, IfSome, IsErrOf, Ok, OnOk};
@@ -73,8 +74,9 @@ impl Writer {
         })
     }
 
-    /// Appends the frame of a record by one call of the device. Takes memory for a buffer with the frame
-    /// if there are more than three values, or one that is not a number; the device may take some too.
+    /// Appends the frame of a record by one call of the device. Takes memory for a buffer with the
+    /// frame if there are more than three values, or one that is not a number; the device may take
+    /// some too.
     ///
     /// Requires at most 272 values, each of them well, and fewer than u64::MAX frames appended
     /// before.
@@ -143,9 +145,9 @@ impl Writer {
         self.finish_call(answer)
     }
 
-    /// Appends the frame of a record of carried values (values of `ag_carried`, some of which several owners
-    /// may share), as `put` does with values. The device may share the shared ones too
-    /// (`Device::append_parts`). Requires what `put` does, and fails as `put` does.
+    /// Appends the frame of a record of carried values (values of `ag_carried`, some of which
+    /// several owners may share), as `put` does with values. The device may share the shared ones
+    /// too (`Device::append_parts`). Requires what `put` does, and fails as `put` does.
     #[inline(always)]
     pub fn put_carried<D: Device>(
         &mut self,
@@ -234,7 +236,8 @@ impl Writer {
         device.append(self.buffer.as_slice())
     }
 
-    /// Appends the frame of a given body by one call of the device. Takes memory for a buffer with the frame.
+    /// Appends the frame of a given body by one call of the device. Takes memory for a buffer with
+    /// the frame.
     ///
     /// Requires a body of 3 to 285,212,675 bytes, and fewer than u64::MAX frames appended before.
     ///
@@ -267,8 +270,8 @@ impl Writer {
         self.finish_call(answer)
     }
 
-    /// Updates the writer for the result of appending a frame: counts the frame, or marks the writer as
-    /// broken after `Failed`. Returns the result.
+    /// Updates the writer for the result of appending a frame: counts the frame, or marks the
+    /// writer as broken after `Failed`. Returns the result.
     #[inline(always)]
     fn finish_call(&mut self, answer: Result<(), DeviceFault>) -> Result<(), DeviceFault>
         requires { self.old.written < 2 ^ 64 - 1 }
@@ -541,8 +544,8 @@ fn append_carried(buffer: &mut Vec<u8>, value: &Carried) -> Result<(), NoMemory>
     Ok(())
 }
 
-/// Fills `parts` with the frame of a record of carried values. Shared values are not copied: `parts`
-/// becomes one more owner. `buffer` is used to spell the others.
+/// Fills `parts` with the frame of a record of carried values. Shared values are not copied:
+/// `parts` becomes one more owner. `buffer` is used to spell the others.
 fn fill_parts(
     parts: &mut SharedBytes,
     buffer: &mut Vec<u8>,

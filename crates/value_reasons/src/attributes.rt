@@ -28,7 +28,8 @@ pub struct NodeRequest<'a> {
     pub width: usize,
 }
 
-/// A rule that computes an attribute: the places from the root to its node, and its target there.
+/// A rule that computes an attribute: the places of children, from 1, that lead from the root to
+/// the rule's node, and the rule's target.
 #[derive(Clone, Copy)]
 struct RulePlace<'a> {
     places: &'a [u16],
@@ -40,7 +41,7 @@ impl<'a> ExplainedTree<'a> {
     /// attribute of the request its value, the rule for it, and the values of the rule's arguments
     /// that the file has. If the file does not have the attribute's value yet, writes the pass that
     /// computes it in place of the value. If the value is an error and the file is of the last
-    /// pass, a line about the cause comes last. Writes nothing if the tree does not have the node.
+    /// pass, a line about its cause follows. Writes nothing if the tree does not have the node.
     /// Fails with R1 if a record is damaged, with D1 if a call of the device fails, and if memory
     /// is refused.
     pub fn write_node<D: Device>(
@@ -234,8 +235,8 @@ impl<'a> ExplainedTree<'a> {
         }
     }
 
-    /// Returns the node of a rule, and the rule's number in its production. Returns `None` if the
-    /// node or the rule does not exist.
+    /// Returns the number of a rule's node in the index, and the rule's number, from 0, in its
+    /// production. Returns `None` if the node or the rule does not exist.
     fn rule_number(&self, place: RulePlace<'_>) -> Option<(u32, u16)> {
         let node = self.index.find(self.format.grammar, place.places)?;
         let NodeKind::Node(number) = self.index.kind(node)? else {

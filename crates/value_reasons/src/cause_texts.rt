@@ -14,8 +14,8 @@ use std::alloc::Global;
 use tree_index::{FileFormat, NodePath, TokenCounts, TreeFault, TreeIndex};
 use treefile::Device;
 
-/// What the message about a translation that is an error is made of. The tree file is an argument
-/// of the call.
+/// The grammar and the sentence of a translation that is an error, for the message of O1. The tree
+/// file is an argument of `describe_cause`.
 #[derive(Clone, Copy)]
 pub struct ErrorTranslation<'a> {
     /// The grammar.
@@ -29,11 +29,11 @@ pub struct ErrorTranslation<'a> {
 }
 
 impl<'a> ErrorTranslation<'a> {
-    /// Returns what a message says of the error after its value: the rule in which it arises, the
-    /// rule's position, where the rule's node is in the sentence (without a sentence, in the tree),
-    /// the values of the rule's arguments, and the number of rules that passed the error on.
-    /// `device` contains the file of the last pass. The file was just written, so its values are not
-    /// all read and checked (`read_shape`).
+    /// Returns the part of the message of O1 that follows the error's value: the rule in which it
+    /// arises, the rule's position, where the rule's node is in the sentence (without a sentence,
+    /// in the tree), the values of the rule's arguments, and the number of rules that passed the
+    /// error on. `device` contains the file of the last pass. The file was just written, so its
+    /// values are not all read and checked (`read_shape`).
     ///
     /// Returns `None` if no cause is found (`find_cause`). Fails with R1 if the file is damaged,
     /// with P2 or P3 if its tree exceeds a limit, with D1 if a call of the device fails, and if

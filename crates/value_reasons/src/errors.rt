@@ -21,8 +21,8 @@ const BUFFER_BYTES: usize = 65_536;
 
 impl<'a> ExplainedTree<'a> {
     /// Reads the body of the record that ends at the offset `end` in bytes. Fails with R1 if the
-    /// length there does not fit into the file, with D1 if a call of the device fails, and if memory
-    /// is refused.
+    /// length there does not fit into the file, with D1 if a call of the device fails, and if
+    /// memory is refused.
     fn read_body<D: Device>(&self, end: u64, device: &mut D) -> Result<Vec<u8>, TreeFault>
         ensures content { LeavesContent (D.is_honest device.new)
             (D.content device.old) (D.content device.new) }
@@ -32,8 +32,8 @@ impl<'a> ExplainedTree<'a> {
         Ok(body_before(self.alloc, device, end)?)
     }
 
-    /// Reads the record of the node at the end of `path` in the file of the last pass. Writes a
-    /// line for each rule of the node's production in which an error arises at the node. Returns
+    /// Reads the record of node `node`, whose path is `path`, in the file of the last pass. Writes
+    /// a line for each rule of the node's production in which an error arises at the node. Returns
     /// the number of such rules: 0 for a token, or if the index does not have the node. Fails with
     /// R1 if the record is damaged, with D1 if a call of the device fails, and if memory is
     /// refused.
@@ -68,7 +68,8 @@ impl<'a> ExplainedTree<'a> {
 
     /// Writes a line for each rule of production `number` in which an error arises at a node.
     /// `values` are those of the node's record; they have to be well (of the right form and within
-    /// the limits). Returns the number of such rules; 0 if the grammar does not have the production.
+    /// the limits). Returns the number of such rules; 0 if the grammar does not have the
+    /// production.
     fn write_errors_among(
         &self,
         out: &mut String,

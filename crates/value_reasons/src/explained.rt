@@ -18,7 +18,7 @@ pub struct ExplainedTree<'a> {
     pub(crate) source: Source<'a>,
     /// The grammar as it was read from this text, with the offsets of its rules.
     pub(crate) raw: RawGrammar,
-    /// How the file is read.
+    /// The grammar, its plan and the file's pass, by which records are read.
     pub(crate) format: FileFormat<'a>,
     /// The index of the file.
     pub(crate) index: &'a TreeIndex,

@@ -17,8 +17,8 @@ const MAX_TOKENS: usize = 3;
 /// The greatest number of characters of a token that are written.
 const MAX_CHARACTERS: usize = 24;
 
-/// A node that was entered, by its number in the index of the tree file. The items of its production
-/// before the index `item` were visited.
+/// A node that was entered, by its number in the index of the tree file. The items of its
+/// production before the index `item` were visited.
 #[derive(Clone, Copy)]
 struct OpenNode {
     node: u32,

@@ -2,8 +2,9 @@
 //! O1 says of the error that the root's `out` is.
 //!
 //! Control characters, white space other than the plain space, and some invisible characters are
-//! written as escapes, such as `\u{1b}`. In the text of a value, LF, tab and CR are `\n`, `\t` and `\r`; in a rule, a line
-//! break is a space. The functions that write to a `String` fail if memory is refused.
+//! written as escapes, such as `\u{1b}`. In the text of a value, LF, tab and CR are `\n`, `\t` and
+//! `\r`; in a rule, a line break is a space. The functions that write to a `String` fail if memory
+//! is refused.
 #![tactic(auto)]
 
 mod attributes;

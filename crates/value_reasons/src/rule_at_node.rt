@@ -19,11 +19,11 @@ const MAX_ARGUMENT: usize = 40;
 /// A rule at a node, with the record of the node.
 #[derive(Drop)]
 pub(crate) struct RuleAtNode<'a> {
-    /// The number of the node's production.
+    /// The number of the node's production, from 0.
     pub(crate) number: u16,
     pub(crate) production: &'a Production,
     pub(crate) rule: &'a Rule,
-    /// The number of the rule in its production.
+    /// The number of the rule in its production, from 0.
     pub(crate) index: u16,
     pub(crate) record: NodeRecord,
 }
@@ -91,8 +91,8 @@ impl<'a> ExplainedTree<'a> {
     /// Writes a cause: the target of the rule in which the error arises, the rule's position, the
     /// text `place`, the values of the rule's arguments, and the number of rules that passed the
     /// error on. `place` says where the rule's node is, and begins with a space. Writes nothing if
-    /// the node has no such rule. Fails with R1 if the node's record is damaged, with D1 if a call of
-    /// the device fails, and if memory is refused.
+    /// the node has no such rule. Fails with R1 if the node's record is damaged, with D1 if a call
+    /// of the device fails, and if memory is refused.
     pub fn write_cause<D: Device>(
         &self,
         out: &mut String,

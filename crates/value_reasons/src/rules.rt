@@ -102,7 +102,7 @@ impl<'a> ExplainedTree<'a> {
 }
 
 /// Returns the length in bytes of the rule with which a text begins, without its `;`. The rule ends
-/// at the first `;` that is not in quotes.
+/// at the first `;` that is not in quotes, or with the text if there is none.
 fn rule_length(text: &str) -> usize {
     let mut is_quoted = false;
     let mut is_escaped = false;

@@ -30,8 +30,8 @@ pub fn equal(left: &Value, right: &Value) -> Value
     truth(same(left, right))
 }
 
-/// Computes `a == b`, where a text may be a shared one, and a table or list may be a tree. Takes memory,
-/// for a copy, only to compare a shared text with a plain text of the same length.
+/// Computes `a == b`, where a text may be a shared one, and a table or list may be a tree. Takes
+/// memory, for a copy, only to compare a shared text with a plain text of the same length.
 pub fn equal_shared(
     alloc: Global,
     left: ValueRef<'_>,
@@ -68,7 +68,8 @@ fn same_values(alloc: Global, left: ValueRef<'_>, right: ValueRef<'_>) -> Result
     }
 }
 
-/// Returns whether a plain value is a text with the bytes of a shared text. Lengths are compared first.
+/// Returns whether a plain value is a text with the bytes of a shared text. Lengths are compared
+/// first.
 fn has_bytes(alloc: Global, plain: &Value, shared: &SharedText) -> Result<bool, NoMemory>
     ensures { IfOk result (λ same. IsTrue same ↔ (plain.now ≡ value.Text shared.now)) }
 {

@@ -27,7 +27,8 @@ pub fn length(list: &ListTree) -> Value
     count(list.len())
 }
 
-/// Computes `nth(l, i)`: the item with the index i, from 0, lent; the error `index` if there is none.
+/// Computes `nth(l, i)`: the item with the index i, from 0, lent; the error `index` if there is
+/// none.
 pub fn nth<'a>(list: &'a ListTree, index: &Value) -> Held<'a>
     ensures { held_value result ≡ nth_of (value.List list.now) index.now }
 {
@@ -69,8 +70,8 @@ pub fn concatenate<'a>(
     }
 }
 
-/// Computes `append(l, v)`: a tree that shares nodes with this one. Takes memory for the item, and for
-/// the nodes on the way to the end.
+/// Computes `append(l, v)`: a tree that shares nodes with this one. Takes memory for the item, and
+/// for the nodes on the way to the end.
 #[tactic(auto, using(crate::proofs::Lists::limits))]
 pub fn append<'a>(alloc: Global, list: &ListTree, item: Measured) -> Result<Held<'a>, NoMemory>
     requires { fault_of item ≡ None }

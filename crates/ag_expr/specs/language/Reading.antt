@@ -29,7 +29,7 @@ use Rattle.ag_tokens.specs.Parsing.{◌>>=◌, ◌>>◌, pure, choose, one_from,
 
 -- ---- faults
 
--- the fault for a text that cannot continue after its last token
+-- the fault if a token is needed where the tokens end
 abbrev pub ending_fault : Ending → ExprFault
 ending_fault (ending.EndsAt at) = fault.Unexpected at
 ending_fault (ending.NoTokenAt at) = fault.NoToken at
@@ -124,8 +124,8 @@ atom_of (token.Punctuation m) = marked_atom m
 atom_of (token.Name name) = cond (is_call (token.Name name)) atom.Call atom.Operand
 atom_of _ = atom.Operand
 
--- The next token begins an atom of this form, and of no earlier one. For `Operand`: it begins none of the other forms. It may
--- begin no atom at all then, and there may be no next token.
+-- The next token begins an atom of this form, and of no form in the cases above it. For `Operand`: it begins none of the other
+-- forms. It may begin no atom at all then, and there may be no next token.
 abbrev pub BeginsAtom : Atom → Input → Type 0
 BeginsAtom atom.Parenthesized i = sees (is_sign (mark punctuation.Open)) i ≡ true
 BeginsAtom atom.List i =

@@ -22,7 +22,7 @@ use Rattle.ag_expr.specs.language.Until.{read_until_from}
 
 -- ---- the tokens of a statement
 
--- the ending of the tokens: the first `;`, or that of the text
+-- the ending of a statement's tokens: at the offset of the first `;`, if there is one, else the ending e of the text
 abbrev pub ended_by : Ending → Option ℕ → Ending
 ended_by e None = e
 ended_by e (Some at) = ending.EndsAt at
@@ -65,7 +65,7 @@ input s = up_to s.is_statement s.tokens
 unfoldable pub complete_list : State → List Occ
 complete_list s = listed_with_all s.listed (all_occurrences (input s).left)
 
--- the state after the next token
+-- the state after the next token is skipped
 abbrev pub after_token : State → State
 after_token s = record s { tokens = next s.tokens }
 
@@ -123,7 +123,7 @@ abbrev pub IsReadToEnd : State → Result (Node × List Occ) ExprFault → Type 
 IsReadToEnd s answer = answer ≢ Err fault.NoMemory
     → answer_of (complete_list s) (expr_of (complete_list s) max_levels (input s)) ≡ answer
 
--- The result of parsing the tokens up to a `;`, with the input after the `;`; or the fault of the
+-- The result of parsing the tokens up to the first `;`, with the input after the `;`; or the fault of the
 -- specification's parser, unless memory ran out.
 abbrev pub IsReadEnded : Input → Result Ended ExprFault → Input → Type 0
 IsReadEnded old (Ok x) new = (read_until_from old ≡ Ok x) × (new ≡ record old { left = after_semicolon old.left })

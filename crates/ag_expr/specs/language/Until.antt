@@ -66,8 +66,8 @@ until_by None i = or_fault (ending_fault i.ending) (read_from i)
 abbrev pub read_until_from : Input → Result Ended ExprFault
 read_until_from i = until_by (first_semicolon i.left) i
 
--- The answer is the result of parsing the tokens of the text from the offset `from` up to a semicolon, or
--- memory ran out.
+-- The answer is the result of parsing the tokens of the text from the offset `from` up to the first semicolon,
+-- or memory ran out.
 abbrev pub IsReadUntil : List ℕ → ℕ → Result Ended ExprFault → Type 0
 IsReadUntil text from answer = (i : Input) → Lexes from (chars (drop from text)) i → answer ≢ Err fault.NoMemory
     → read_until_from i ≡ answer

@@ -17,7 +17,7 @@ each_holds bound [] = true
 each_holds bound (x ∷ xs) = x bound && each_holds bound xs
 
 -- The test of `is_within` for a tree, from the tests for its parts. A test gets the number `bound` of the names that are bound
--- around a tree; a `let` binds one more in its body.
+-- around a tree; a `let` binds one more in its body. n is the bound for the numbers of occurrences.
 abbrev pub below_step : ℕ → Node-F (ℕ → Bool) → ℕ → Bool
 below_step n (Node-F.Literal v) bound = true
 below_step n (Node-F.Occurrence k) bound = nat_lt k n

@@ -31,12 +31,12 @@ is_pass k (Some p) = nat_eq p k
 abbrev pub is_of_pass : Passes → ℕ → Production → Rule → Bool
 is_of_pass m k q r = is_pass k (pass_at m q r.target)
 
--- the number of rules of a production; 0 if there is none
+-- the number of rules of a production; 0 if there is no production
 abbrev pub rule_count : Option Production → ℕ
 rule_count None = 0
 rule_count (Some q) = length q.rules
 
--- the number of rules of a production whose target belongs to pass k; 0 if there is none
+-- the number of rules of a production whose target belongs to pass k; 0 if there is no production
 abbrev pub pass_rule_count : Passes → ℕ → Option Production → ℕ
 pass_rule_count m k None = 0
 pass_rule_count m k (Some q) = count_by (is_of_pass m k q) q.rules

@@ -36,7 +36,7 @@ EquationsKept = (g : Grammar) (m : Passes) (k j : ℕ) (x : Item) (t : Tree) (v 
     → Each (IsLegalFor (HasPass m)) g.productions → k ≤ j → Fits g x t → Same (λ p. p ≤ j) g m t v w → Solves (OfPass m k) g t v
     → Solves (OfPass m k) g t w
 
--- Values that satisfy the equations of every pass are a solution, if each target has a pass.
+-- Values that satisfy the equations of every pass are a solution, if the target of each rule has a pass.
 abbrev pub PassesSolve : Type 0
 PassesSolve = (g : Grammar) (m : Passes) (t : Tree) (v : Valuation)
     → Each (λ q. Each (λ r. (k : ℕ) × HasPass m q r.target k) q.rules) g.productions → ((k : ℕ) → Solves (OfPass m k) g t v)

@@ -18,11 +18,11 @@ use Rattle.ag_grammar.specs.grammars.Tree.{Tree, Forest, leaf, node, none, more}
 abbrev pub Valuation : Type 0
 Valuation = List ℕ → ℕ → Value
 
--- the values in the child with index i
+-- the valuation of the tree of the child with index i
 abbrev pub below : ℕ → Valuation → Valuation
 below i v path = v (i ∷ path)
 
--- the valuation of each child
+-- the valuation of the tree of each child, by the child's index
 abbrev pub children : Valuation → ℕ → Valuation
 children v i = below i v
 

@@ -41,7 +41,7 @@ impl Expr {
     /// Makes the expression from a tree and the list of occurrences to which the tree refers by
     /// index. No two occurrences may have the same place and name. Each occurrence in the tree must
     /// be an index of the list, and each bound name in the tree must be bound around it. Nothing is
-    /// checked at run time. Does not allocate.
+    /// checked at run time.
     pub fn new(node: Node, occurrences: SmallVec<Occ, 4>) -> Expr
         requires below { is_below (length occurrences.items) node ≡ true }
         requires different { AreDifferent occurrences.items }
@@ -50,7 +50,7 @@ impl Expr {
         Expr { node, occurrences }
     }
 
-    /// Returns the tree. Does not allocate.
+    /// Returns the tree.
     pub fn tree(&self) -> &Node
         ensures value { result.now ≡ self.now.0 }
         ensures below { is_below (length self.now.1) result.now ≡ true }
@@ -60,7 +60,6 @@ impl Expr {
 }
 
 /// Returns the distinct occurrences of an expression, in the order in which `Expr::new` got them.
-/// Does not allocate.
 pub fn occurrences(expr: &Expr) -> &[Occ]
     ensures lent { result.now ≡ expr.now.1 }
     ensures listed { is_below (length result.now) expr.now.0 ≡ true }

@@ -30,7 +30,7 @@ impl Model for Literal {
 }
 
 impl Literal {
-    /// Makes the literal of a number. Does not allocate.
+    /// Makes the literal of a number.
     pub fn number(number: i64) -> Literal
         ensures { result ≡ value.Num number }
     {
@@ -39,7 +39,7 @@ impl Literal {
         }
     }
 
-    /// Makes the literal of a text. Does not allocate.
+    /// Makes the literal of a text.
     #[tactic(auto, using(ag_value::proofs::Layers::items, ag_value::proofs::Utf8::utf8))]
     pub fn text(text: Text) -> Literal
         ensures { result ≡ value.Text text }
@@ -51,7 +51,7 @@ impl Literal {
         }
     }
 
-    /// Returns the value. Does not allocate.
+    /// Returns the value.
     pub fn value(&self) -> &Value
         ensures value { result.now ≡ self.now }
         ensures item { is_item result.now ≡ true }

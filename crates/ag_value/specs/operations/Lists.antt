@@ -1,6 +1,6 @@
--- Operations on lists, and those shared by texts, lists and tables. Except for `listed`, the arguments are not errors. A
--- definition whose name ends with `_at` takes the outermost levels of values; the next one with its comment takes the values.
--- All definitions are this project's.
+-- Operations on lists, and those shared by texts, lists and tables. Except for `listed`, they are used for arguments that are not
+-- errors (see `strict` of `Arguments`). A definition whose name ends with `_at` takes the outermost levels of values; the next
+-- one with its comment takes the values. All definitions are this project's.
 use Rattle.std.specs.Prelude.{ℤ, pos, negsuc, List, [], ◌∷◌, ◌++◌, length, Option, Some, None, slice_get}
 use Rattle.ag_value.specs.declared.value.ErrorCode.TheVariants.{Kind, Index}
 use Rattle.ag_value.specs.declared.value.Value.{Value, out-Value}

@@ -1,5 +1,6 @@
--- Operations on numbers. A definition whose name ends with `_at` takes the outermost level of a value; the next one with its
--- comment takes the value. All definitions are this project's.
+-- Operations on numbers. They are used for arguments that are not errors (see `strict` of `Arguments`). A definition whose name
+-- ends with `_at` takes the outermost level of a value; the next one with its comment takes the value. All definitions are this
+-- project's.
 use Rattle.std.specs.Prelude.{ℕ, zero, suc, ◌==◌, ℤ, pos, negsuc, neg_ℤ, int_div, int_rem, Bool, ◌&&◌, nat_lt, List, [], ◌∷◌}
 use Rattle.std.specs.Prelude.{length, Option, Some, None, if◌then◌else◌}
 use Rattle.std.specs.Char.{is_ascii_digit}
@@ -43,8 +44,8 @@ of_numbers f left right = from_numbers f (out-Value left) (out-Value right)
 abbrev pub is_digits : List ℕ → Bool
 is_digits digits = nat_lt 0 (length digits) && list_all is_ascii_digit digits
 
--- The number that these bytes denote, if there is at least one, all are digits, and the number is in the range of i64. `sign` is
--- applied to the number of the digits: it negates it or leaves it as it is.
+-- The number that these bytes denote, if there is at least one, all are digits, and the number is in the range of i64. `sign`
+-- negates the number that the digits denote, or leaves it as it is.
 abbrev pub signed_number : (ℤ → ℤ) → List ℕ → Option ℤ
 signed_number sign digits =
     if is_digits digits && is_i64 (sign (pos (digits_value 10 digits))) then Some (sign (pos (digits_value 10 digits))) else None

@@ -1,4 +1,5 @@
--- Operations on tables (this project's). No argument is an error. A name ends with `_at` if it takes outermost levels of values.
+-- Operations on tables (this project's). They are used for arguments that are not errors (see `strict` of `Arguments`). A name
+-- ends with `_at` if it takes outermost levels of values.
 use Rattle.std.specs.Prelude.{◌≡◌, ℕ, suc, Bool, true, false, List, ◌∷◌, ◌++◌, map, filter, find, take, drop, slice_get, Option}
 use Rattle.std.specs.Prelude.{Some, None, bytes_eq}
 use Rattle.ag_value.specs.declared.value.ErrorCode.TheVariants.{Kind, Key}

@@ -1,5 +1,6 @@
--- Operations on texts. A definition whose name ends with `_at` takes the outermost levels of values; the next one with its
--- comment takes the values. All definitions are this project's.
+-- Operations on texts. They are used for arguments that are not errors (see `strict` of `Arguments`). A definition whose name
+-- ends with `_at` takes the outermost levels of values; the next one with its comment takes the values. All definitions are this
+-- project's.
 use Rattle.std.specs.Prelude.{ℕ, Bool, true, false, List, [], if◌then◌else◌}
 use Rattle.std.specs.List.{join_by, list_all}
 use Rattle.ag_value.specs.declared.value.ErrorCode.TheVariants.{Kind}
@@ -22,7 +23,7 @@ abbrev pub bytes_at : Value-F Value → List ℕ
 bytes_at (Value-F.Text text) = text
 bytes_at v = []
 
--- the bytes of a text
+-- the bytes of a text; none for another value
 abbrev pub bytes_of : Value → List ℕ
 bytes_of v = bytes_at (out-Value v)
 

@@ -54,8 +54,9 @@ pub fn decode(alloc: Global, input: &[u8]) -> Result<(Value, usize), ValueFault>
 
 /// Reads the value, of a depth of at most `levels`, at the beginning of the bytes. Returns it and
 /// the bytes after it. Fails with V1 if the bytes begin with no spelling of such a value, if a list
-/// or table contains an error, or if the keys of a table do not rise. Can also fail with NoMemory.
-/// Reads errors itself, since `item_of` rejects them, and numbers, which saves a call.
+/// or table contains an error, or if the keys of a table are not strictly ascending. Can also fail
+/// with NoMemory. Errors are read here, since `item_of` rejects them. Numbers are read here to save
+/// a call.
 #[inline(always)]
 #[tactic(auto, unfolding(crate::specs::Reading::value_at, crate::specs::Reading::item_at))]
 fn leading_value(alloc: Global, levels: usize, bytes: &[u8]) -> Result<(Value, &[u8]), ValueFault>
@@ -73,8 +74,8 @@ fn leading_value(alloc: Global, levels: usize, bytes: &[u8]) -> Result<(Value, &
 
 /// Reads the value, of a depth of at most `levels`, at the beginning of the bytes. Returns it and
 /// the bytes after it. Fails with V1 if the bytes begin with no spelling of such a value, if the
-/// value is an error or contains one, or if the keys of a table do not rise. Can also fail with
-/// NoMemory.
+/// value is an error or contains one, or if the keys of a table are not strictly ascending. Can
+/// also fail with NoMemory.
 #[cycle(reading)]
 #[tactic(auto, unfolding(crate::specs::Reading::item_at))]
 fn item_of(alloc: Global, levels: usize, bytes: &[u8]) -> Result<(Value, &[u8]), ValueFault>

@@ -15,8 +15,8 @@ pub fn is_well(value: &Value) -> bool
     ensures { IsTrue result ↔ IsWell value.now }
 {
     match value {
-        // A short way for numbers, since most values are numbers. The read shows the prover that
-        // the number is of i64.
+        // A short way for numbers, since most values are numbers. `_in_range` is for the proof: of
+        // a number that is read, the prover knows that it is in the range of i64.
         Value::Num(n) => {
             let _in_range = *n;
             true
@@ -34,12 +34,12 @@ fn is_item(value: &Value) -> bool
     ensures { result ≡ is_item value.now }
 {
     match value {
-        // The read shows the prover that the number is of i64.
+        // `_in_range` is for the proof, as in `is_well`.
         Value::Num(n) => {
             let _in_range = *n;
             true
         }
-        // The call shows the prover that the text is UTF-8.
+        // `_utf8` is for the proof: of a `&str`, the prover knows that it is UTF-8.
         Value::Text(text) => {
             let _utf8 = text.as_str();
             true

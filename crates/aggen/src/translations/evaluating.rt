@@ -57,8 +57,8 @@ impl Translator {
         let grammar = self.grammar();
         let mut meter = Meter::new();
         let first = run_pass(alloc, grammar, plan, 1, tree, b, &mut meter)?;
-        // Pass 2 reads `b`, so `b` is the first device of `run_all`, and its `Last::A` means `b`. If
-        // the plan has one pass, `run_all` runs none, and returns `Last::A`.
+        // Pass 2 reads `b`, so `b` is the first device of `run_all`, and its `Last::A` means `b`.
+        // If the plan has one pass, `run_all` runs none, and returns `Last::A`.
         let (last, others) = run_all(alloc, grammar, plan, 2, b, a, &mut meter)?;
         Ok(Report {
             nodes: first.nodes,

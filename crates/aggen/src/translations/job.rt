@@ -23,11 +23,11 @@ use treefile::Device;
 /// exactly `%%`, and a sentence. A translator is built from the grammar, and translates the
 /// sentence by way of the devices `a` and `b`, as `Translator::translate` does.
 ///
-/// Fails with J2 if the reader fails, with J3 above 2,097,156 bytes, and with J1 if no line is
-/// `%%`; then as `Translator::build` does for the grammar, before a device is used, and as
-/// `Translator::translate` does for the sentence; and with NoMemory if memory is refused. After
-/// every fault except O2 `out` is unchanged. A fault before the translation leaves the devices
-/// unchanged. After a later one the devices have what `Translator::translate` leaves.
+/// Fails with J2 if the reader fails, with J3 if there are more than 2,097,156 bytes, and with J1
+/// if no line is `%%`. Then fails as `Translator::build` does for the grammar, before a device is
+/// used, and as `Translator::translate` does for the sentence. Fails with NoMemory if memory is
+/// refused. After every fault except O2 `out` is unchanged. A fault before the translation leaves
+/// the devices unchanged. After a later one the devices have what `Translator::translate` leaves.
 #[tactic(auto, using(crate::proofs::Begun::begun))]
 pub fn run_job<R: Read + Drop, D: Device, W: Write>(
     alloc: Global,

@@ -9,7 +9,8 @@ pub struct Report {
     pub nodes: u32,
     /// The number of passes that ran: those of the plan, at least 1.
     pub passes: u16,
-    /// The number of evaluations of rules: the sum, over all nodes, of the numbers of their rules.
+    /// The number of evaluations of rules: over all nodes, the sum of the number of rules of the
+    /// node's production (0 for a token).
     pub evals: u64,
     /// The number of records that the passes read: for each pass as many as the tree has nodes. The
     /// records that the parser wrote are not counted.

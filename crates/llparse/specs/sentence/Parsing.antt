@@ -91,7 +91,8 @@ abbrev pub IsShallow : ℕ → List Open → Type 0
 IsShallow depth [] = Unit {0}
 IsShallow depth (o ∷ os) = (deepest o.done + suc (length os) ≤ depth) × IsShallow depth os
 
--- the position `at` in the words, the count of nodes, the records and the texts agree with the open nodes, within the limits
+-- The position `at` in the words, the count of nodes, and the output (`made`: records and texts) agree with the open nodes os.
+-- The count and the levels are within the limits.
 pub record Agrees (k : Task) (os : List Open) (at count : ℕ) (made : Output) : Type 0 where
   pub within : at ≤ length k.words
   pub content : WhenHonest k.honest (made.bytes ≡ k.prefix ++ written os)

@@ -12,8 +12,8 @@ use Rattle.closure.specs.declared.edges.Edge.{Edge}
 use Rattle.llparse.specs.declared.ahead.Ahead.{Ahead}
 use Rattle.llparse.specs.declared.table.nodes.Sizes.{Sizes}
 
--- Whether items can start with a look-ahead, for the items with it in FIRST and the nullable items: one has it in FIRST and all
--- before that one are nullable, or all are nullable and the look-ahead can follow (`following`).
+-- Whether items can start with a look-ahead: an item has it in FIRST (`in_first`) and all before that item are nullable
+-- (`nullable`), or all items are nullable and the look-ahead can come after them (`following`).
 abbrev pub can_start_in : (Item → Bool) → (Item → Bool) → Bool → List Item → Bool
 can_start_in in_first nullable following [] = following
 can_start_in in_first nullable following (x ∷ xs) = in_first x || (nullable x && can_start_in in_first nullable following xs)

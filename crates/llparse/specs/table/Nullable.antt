@@ -14,7 +14,7 @@ abbrev pub is_nullable_item : (ℕ → Bool) → Item → Bool
 is_nullable_item n (item.Symbol s) = n s
 is_nullable_item n (item.Terminal a) = false
 
--- the clause of a production, for the numbers of symbols and of literals: the left side is nullable if each item of the right
+-- the clause of a production, for the counts of symbols and of literals: the left side is nullable if each item of the right
 -- side is
 abbrev pub clause_of : ℕ → ℕ → Production → Clause
 clause_of symbols literals q = record { head = q.left; body = map (node_of symbols literals) q.items }

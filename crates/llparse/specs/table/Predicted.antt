@@ -11,8 +11,8 @@ use Rattle.llparse.specs.declared.ahead.Ahead.{Ahead}
 use Rattle.llparse.specs.declared.table.choosing.Pair.{Pair}
 use Rattle.llparse.specs.declared.table.predict.Sets.{Sets}
 
--- the marks are those of the nullable symbols; the clauses `first` and `follow` are those of the edges for FIRST and for FOLLOW,
--- and not these sets
+-- The marks are those of the nullable symbols. The clauses `first` and `follow` are those of the edges for FIRST and for FOLLOW,
+-- not the FIRST and FOLLOW sets.
 pub record AreSets (g : Grammar) (sets : Sets) : Type 0 where
   pub nullable_exact : AreNullableMarks g sets.nullable.items
   pub first_exact : IsOver g (AreFirstEdges g sets.nullable.items) sets.first
@@ -30,7 +30,7 @@ IsMarkedOf qs marks s k = (q : Production) × (slice_get qs k ≡ Some q) × (q.
 abbrev pub choice_at : List (Option ℕ) → ℕ → Option ℕ
 choice_at choices s = slice_index_or choices s None
 
--- For each symbol the first of its marked productions is chosen, among those from a number on.
+-- For each symbol the first of its marked productions is chosen, among the productions from number `from` on.
 pub record AreEarliestFrom (qs : List Production) (marks : List Bool) (from : ℕ) (choices : List (Option ℕ)) : Type 0 where
   pub chosen : (s k : ℕ) → choice_at choices s ≡ Some k
       → (from ≤ k) × IsMarkedOf qs marks s k × ((j : ℕ) → from ≤ j → IsMarkedOf qs marks s j → k ≤ j)
@@ -44,7 +44,8 @@ AreConflicting qs marks a b = (a < b) × ((s : ℕ) × IsMarkedOf qs marks s a �
 abbrev pub IsNoLater : Pair → ℕ → ℕ → Type 0
 IsNoLater p a b = (p.first < a) ⊎ ((p.first ≡ a) × (p.second ≤ b))
 
--- The least pair of such productions, among those whose first is from a number on, if there is one.
+-- The least pair of conflicting productions (`AreConflicting`), among the pairs whose first has at least the number `from`, if
+-- there is one.
 abbrev pub IsLeastFrom : List Production → List Bool → ℕ → Option Pair → Type 0
 IsLeastFrom qs marks from None = (a b : ℕ) → from ≤ a → AreConflicting qs marks a b → ⊥
 IsLeastFrom qs marks from (Some p) =

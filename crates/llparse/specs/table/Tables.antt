@@ -19,7 +19,7 @@ pub record Choices : Type 0 where
   pub literals : ℕ
   pub columns : List (List (Option ℕ))
 
--- a look-ahead is one of the literals below a number, of the classes, or the end
+-- a look-ahead is a literal with a number below `literals`, a class, or the end
 abbrev pub is_known : ℕ → Ahead → Bool
 is_known literals (ahead.Terminal (Literal l)) = nat_lt l literals
 is_known literals (ahead.Terminal (Class c)) = nat_lt c class_count
@@ -34,8 +34,8 @@ choice_of t s x =
 abbrev pub FitsGrammar : Grammar → Choices → Type 0
 FitsGrammar g t = (s : ℕ) (x : Ahead) (k : ℕ) → choice_of t s x ≡ Some k ↔ IsChoice g s x k
 
--- Conflicts are in order of their first productions, then of their second ones, then of their look-aheads: literals, then
--- classes, then the end (this project's).
+-- The conflict of a and b at x is not after that of c and d at y. Conflicts are in order of their first productions, then of
+-- their second ones, then of their look-aheads: literals, then classes, then the end (this project's).
 abbrev pub IsNotAfter : Grammar → ℕ → ℕ → Ahead → ℕ → ℕ → Ahead → Type 0
 IsNotAfter g a b x c d y =
     (a < c) ⊎ ((a ≡ c) × ((b < d) ⊎ ((b ≡ d) × (index_of (length g.literals) x ≤ index_of (length g.literals) y))))

@@ -1,5 +1,5 @@
-//! The look-aheads expected where a sentence is refused: each is tried after the tokens before
-//! that place.
+//! The look-aheads expected at the place where a sentence is refused. Each look-ahead of the
+//! grammar is tried there, after the tokens before this place.
 ghost use Rattle.std.specs.Prelude.{◌≡◌, ◌≤◌, true, length, All, IfOk, OnOk};
 ghost use Rattle.llparse.specs.sentence.Parsing.{right_side};
 ghost use Rattle.llparse.specs.table.Tables.{is_known};
@@ -44,11 +44,10 @@ fn next_if_any(grammar: &Grammar, node: &mut OpenProduction) -> Option<Item>
     None
 }
 
-/// Parses on from the innermost open node, and writes nothing. Compares the number of all tokens
-/// taken with `until` after each token that it takes, and stops when it is at least `until`; it also
-/// stops when no node is open. Returns the node that is then the innermost one, if any. Fails as
-/// `Parser::open` and `take_unwritten` do. After a fault `parser.tokens` is at the token where the
-/// parser stopped.
+/// Parses on from the innermost open node, and writes nothing. Stops after taking a token if at
+/// least `until` tokens of the sentence are taken by then. Also stops when no node is open. Returns
+/// the node that is then the innermost one, if any. Fails as `Parser::open` and `take_unwritten`
+/// do. After a fault `parser.tokens` is at the token where the parser stopped.
 fn continue_until(
     parser: &mut Parser<'_>,
     innermost: OpenProduction,
@@ -76,8 +75,8 @@ fn continue_until(
 }
 
 /// Opens a node of the start symbol, and parses on as `continue_until` does. Returns the innermost
-/// open node, if any. Fails with P1 if the look-ahead predicts no production of the start symbol, and
-/// otherwise as `continue_until` does.
+/// open node, if any. Fails with P1 if the look-ahead predicts no production of the start symbol,
+/// and otherwise as `continue_until` does.
 fn start_until(
     parser: &mut Parser<'_>,
     language: &Language<'_>,
@@ -207,15 +206,15 @@ pub struct StuckPlace<'t> {
 
 /// Runs a parser that takes as many tokens as it can, and writes nothing. Returns the parser, and
 /// whether `parse` fails with P1 where it stopped: the next token can't be taken, or the sentence
-/// can't end. Fails with NoMemory.
+/// can't end. Fails with NoMemory if memory is refused.
 fn run_until_stuck<'t>(
     alloc: Global,
     language: &Language<'_>,
     sentence: &'t Sentence<'_>,
 ) -> Result<(Parser<'t>, bool), NoMemory> {
     let mut parser = Parser::new(alloc, sentence);
-    // no sentence has `usize::MAX` tokens, so this parser stops only at a fault, or when the tree is
-    // complete
+    // no sentence has `usize::MAX` tokens, so this parser stops only at a fault, or when the tree
+    // is complete
     let refused = match start_until(&mut parser, language, usize::MAX) {
         Ok(_) => parser.tokens.ahead().is_some(),
         Err(ParseFault::Unexpected(_)) => true,
@@ -248,8 +247,8 @@ fn position_after<'t>(
 /// there. Each look-ahead is tried after the tokens before that place, with all nodes that are open
 /// there, so one that the tables allow only in other contexts is not returned. If `parse` doesn't
 /// fail with P1, no look-ahead is returned, and the place is only where the parser stopped: at the
-/// end, or where it reached a limit. (This holds for a call of `parse` that fails neither with D1
-/// nor with NoMemory.)
+/// end, or where it reached a limit. Here, `parse` is a call that fails neither with D1 nor with
+/// NoMemory.
 ///
 /// If the tables are not the grammar's, the result is the place where a parse by them is stuck, and
 /// what they allow there: literals of the grammar, classes and the end. Reads the tokens before the

@@ -12,7 +12,7 @@ pub enum ParseFault {
     /// P1: no tree has these tokens. Carries the offset, in bytes from the beginning of the
     /// sentence, of the token that can't be taken. If the sentence ends too early, it is the offset
     /// of the last token, or 0 if there is none. P2 or P3 comes instead if the parser reaches a
-    /// limit before this token.
+    /// limit first.
     Unexpected(u32),
     /// P2: each tree with these tokens is deeper than the limit. There may be no such tree (see
     /// P1).

@@ -57,8 +57,8 @@ pub(crate) fn next_item(grammar: &Grammar, node: &mut OpenProduction) -> Option<
 }
 
 /// Returns an open node of a symbol with the production that a look-ahead predicts, and none of its
-/// items passed; `None` if no production is predicted. `base` is the number of texts that the parser
-/// has kept.
+/// items passed; `None` if no production is predicted. `base` is the number of texts that the
+/// parser has kept.
 #[inline(always)]
 pub(crate) fn node_at(
     tables: &Tables,
@@ -113,7 +113,8 @@ struct Leaf<'t> {
     lex: &'t str,
 }
 
-/// Appends the record of a leaf, and keeps its text after the others. Fails with D1 or NoMemory.
+/// Appends the record of a leaf, and keeps its text after the others. Fails with D1 if the device
+/// fails, and with NoMemory if memory is refused.
 #[inline(always)]
 fn put_leaf<D: Device>(
     alloc: Global,
@@ -146,7 +147,7 @@ fn put_leaf<D: Device>(
 }
 
 /// Appends the record of a symbol's node, with the texts of the tokens of a class among its
-/// children. Fails with D1 or NoMemory.
+/// children. Fails as `put_leaf` does.
 #[inline(always)]
 pub(crate) fn put_node<D: Device>(
     production: u16,
@@ -235,9 +236,9 @@ impl<'t> Parser<'t> {
         &self.texts[base..]
     }
 
-    /// Opens a node of a symbol, which is the item that `outer` has just passed. `outer` waits
-    /// until this node ends. Fails with P1 if no production is predicted, with P2 or P3 if a limit
-    /// is reached, and with NoMemory.
+    /// Opens a node of the symbol that `outer` has just passed. `outer` waits until this node ends.
+    /// Fails with P1 if no production is predicted, with P2 or P3 if a limit is reached, and with
+    /// NoMemory if memory is refused.
     #[inline(always)]
     pub(crate) fn open(
         &mut self,
@@ -265,9 +266,9 @@ impl<'t> Parser<'t> {
         Ok(node)
     }
 
-    /// Takes the next token. If its terminal is a class, appends its record and keeps its text. Fails
-    /// with P1 if its terminal is not `terminal` or there is no token, with P2 or P3 if a limit is
-    /// reached, and with D1 or NoMemory.
+    /// Takes the next token. If its terminal is a class, appends its record and keeps its text.
+    /// Fails with P1 if its terminal is not `terminal` or there is no token, with P2 or P3 if a
+    /// limit is reached, and as `put_leaf` does.
     #[inline(always)]
     pub(crate) fn take<D: Device>(
         &mut self,
@@ -280,8 +281,8 @@ impl<'t> Parser<'t> {
         requires written { writer.old.written + length self.old.waiting.items + 1
             ≡ self.old.count }
         requires fine { writer.old.is_broken ≡ false }
-        // `honest` is the field of the task: whether the device is honest when the parse ends. If it
-        // is, it is honest after this call too.
+        // `honest` is the field of `Task`: whether the device is honest when the parse ends. A
+        // device that is honest then is honest after this call too.
         ensures takes { OnOk result ((node : OpenProduction) (honest : Bool)
             → (honest ≡ true → D.is_honest device.new ≡ true)
             → Writes (FitsTokens self.old.tokens.list) self.old.tokens.list

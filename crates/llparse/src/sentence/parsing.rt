@@ -98,9 +98,10 @@ fn run<D: Device>(
 /// is then beyond the limit, and so is each tree with all tokens, of which there may be none. Fails
 /// with D1 Device if the device failed, and with NoMemory if memory is refused.
 ///
-/// After a fault an honest device has a prefix of the header of pass 0 and frames of bodies, each
-/// of 3 to 285,212,675 bytes. The contract does not say that the bodies are records of a tree:
-/// after P1 there is none. The writer is broken after D1, and after no other fault.
+/// After a fault an honest device has a prefix, possibly all, of a header of pass 0 followed by
+/// frames of bodies, each of 3 to 285,212,675 bytes. The contract does not say that the bodies are
+/// records of a tree: after P1 there is none. The writer is broken after D1, and after no other
+/// fault.
 pub fn parse<D: Device>(
     alloc: Global,
     grammar: &Grammar,
@@ -140,7 +141,7 @@ pub fn parse<D: Device>(
     ensures large { IsErrOf result ParseFault.TooManyNodes
         → LeavesOnlyLarger max_nodes grammar.now (words_of sentence.now) }
 
-    // Err: an honest device has a prefix of a file of pass 0.
+    // Err: an honest device has a prefix of a header of pass 0 followed by frames.
     ensures left { IfErr result (λ _. WhenHonest (D.is_honest device.new)
         (BeginsFile 0 (D.content device.new))) }
 

@@ -14,8 +14,8 @@ use std::alloc::Global;
 /// Builds the tables of a grammar from the predictions of its productions.
 ///
 /// Fails with L1 Conflict if the grammar has a conflict, and returns the least one. Conflicts are
-/// ordered by the first production, then the second, then the look-ahead: literals by their numbers,
-/// then classes, then the end. Fails with NoMemory if memory is refused.
+/// ordered by the first production, then the second, then the look-ahead: literals by their
+/// numbers, then classes, then the end. Fails with NoMemory if memory is refused.
 pub fn tables(alloc: Global, grammar: &Grammar) -> Result<Tables, TableFault>
     ensures fits { IfOk result (λ tables. FitsGrammar grammar.now tables) }
     ensures free { IfOk result (λ tables. HasNoConflict grammar.now) }

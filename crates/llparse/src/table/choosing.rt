@@ -76,7 +76,8 @@ impl Column {
 }
 
 /// Returns the choices and the least conflict at a look-ahead, from the marks of the productions
-/// that it predicts. `symbols` is the number of symbols. Fails with `NoMemory` if memory is refused.
+/// that it predicts. `symbols` is the number of symbols. Fails with `NoMemory` if memory is
+/// refused.
 pub(crate) fn choose(
     alloc: Global,
     productions: &[Production],

@@ -8,8 +8,8 @@ use ag_value::NoMemory;
 /// The reasons why a grammar has no tables.
 #[derive(Clone, Copy, Debug, PartialEq, Eq)]
 pub enum TableFault {
-    /// L1: two productions of a symbol are predicted by the same look-ahead, `ahead`. The symbol and the
-    /// productions are given by their numbers; `first` is the lesser one.
+    /// L1: two productions of a symbol are predicted by the same look-ahead, `ahead`. The symbol
+    /// and the productions are given by their numbers; `first` is the lesser one.
     Conflict {
         symbol: u16,
         first: u16,

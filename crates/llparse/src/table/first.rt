@@ -1,7 +1,7 @@
-//! The edges for FIRST. The starting items of a right side are its first item that is not nullable and
-//! all items before that; if all items are nullable, all of them. Edges go from each starting item to
-//! the left side, so that the nodes with a look-ahead in FIRST are those that edges reach from the
-//! look-ahead.
+//! The edges for FIRST. The starting items of a right side are its first item that is not nullable
+//! and all items before that; if all items are nullable, all of them. Edges go from each starting
+//! item to the left side, so that the nodes with a look-ahead in FIRST are those that edges reach
+//! from the look-ahead's node.
 ghost use Rattle.std.specs.Prelude.{◌≡◌, ◌≤◌, length, take, OnOk};
 ghost use Rattle.closure.specs.Following.{is_marked};
 ghost use Rattle.ag_grammar.specs.declared.grammar.Item.{Item as AnItem};
@@ -22,8 +22,8 @@ pub(crate) fn add_edge(edges: &mut Vec<Edge>, from: usize, to: usize) -> Result<
     Ok(())
 }
 
-/// Returns the number of starting items: the first that is not nullable and all before it, or all items
-/// if all are nullable.
+/// Returns the number of starting items: the first that is not nullable and all before it, or all
+/// items if all are nullable.
 pub(crate) fn starting_items_len(nullable: &[bool], items: &[Item]) -> usize
     ensures within { result ≤ length items.now }
     ensures items { take result items.now ≡ starting_items (is_marked nullable.now) items.now }

@@ -8,8 +8,8 @@ use crate::table::nodes::Sizes;
 use std::marker::Model;
 
 /// The production of each symbol at each look-ahead. Contracts see the number of literals and, for
-/// each look-ahead, the choices for all symbols. Takes memory for an `Option<u16>` for each symbol
-/// and each look-ahead.
+/// each look-ahead, the choices for all symbols. Takes memory for an `Option<u16>` for each pair of
+/// a symbol and a look-ahead.
 #[derive(Drop)]
 pub struct Tables {
     pub(crate) literals: u16,

@@ -9,7 +9,7 @@ use crate::ahead::Ahead;
 use ag_grammar::limits::CLASS_COUNT;
 use ag_grammar::{Grammar, Item, Terminal};
 
-/// The numbers of symbols and of literals of a grammar.
+/// The count of a grammar's symbols, and the count of its literals.
 #[derive(Clone, Copy, PartialEq, Eq)]
 pub(crate) struct Sizes {
     pub(crate) symbols: u16,

@@ -1,5 +1,5 @@
-//! The nullable symbols. Each production becomes a Horn clause of the crate `closure`, with the left
-//! side as the head, and the items of the right side as the body.
+//! The nullable symbols. Each production becomes a Horn clause of the crate `closure`, with the
+//! left side as the head, and the items of the right side as the body.
 ghost use Rattle.std.specs.Prelude.{◌≡◌, IfOk};
 ghost use Rattle.closure.specs.Following.{is_marked};
 ghost use Rattle.llparse.specs.table.Nullable as spec;

@@ -63,9 +63,10 @@ fn edges_of(
 }
 
 /// The data from which the predictions for all look-aheads are computed: the marks of the nullable
-/// symbols, and the edges of two graphs. `first` and `follow` are these edges, and not FIRST and
-/// FOLLOW sets: for one look-ahead, `first` reaches from its node the symbols that have it in FIRST,
-/// and `follow` reaches from its seeds the symbols that have it in FOLLOW.
+/// symbols, and the edges of two graphs. `first` and `follow` are these edges, not the FIRST and
+/// FOLLOW sets. From the node of a look-ahead, the edges of `first` reach the symbols that have it
+/// in FIRST. From the seeds of a look-ahead, the edges of `follow` reach the symbols that have it
+/// in FOLLOW.
 #[derive(Drop)]
 pub(crate) struct Sets {
     nullable: Vec<bool>,
@@ -91,8 +92,8 @@ impl Sets {
         })
     }
 
-    /// Returns the marks of the nodes with a look-ahead in FIRST (FIRST of a terminal has that terminal
-    /// alone). Fails with `NoMemory` if memory is refused.
+    /// Returns the marks of the nodes with a look-ahead in FIRST (FIRST of a terminal has that
+    /// terminal alone). Fails with `NoMemory` if memory is refused.
     fn first_marks(
         &self,
         alloc: Global,
@@ -109,8 +110,8 @@ impl Sets {
         Ok(marks)
     }
 
-    /// Returns the marks of the symbols with a look-ahead in FOLLOW, from the marks of the nodes with
-    /// it in FIRST. Fails with `NoMemory` if memory is refused.
+    /// Returns the marks of the symbols with a look-ahead in FOLLOW, from the marks of the nodes
+    /// with it in FIRST. Fails with `NoMemory` if memory is refused.
     fn follow_marks(
         &self,
         alloc: Global,
@@ -129,8 +130,8 @@ impl Sets {
         Ok(marks)
     }
 
-    /// Returns the marks of the productions that a look-ahead predicts, by their numbers. Fails with
-    /// `NoMemory` if memory is refused.
+    /// Returns the marks of the productions that a look-ahead predicts, by their numbers. Fails
+    /// with `NoMemory` if memory is refused.
     pub(crate) fn predicted(
         &self,
         alloc: Global,

@@ -17,8 +17,8 @@ struct Conflict<'a> {
     ahead: Ahead,
 }
 
-/// Returns the productions and the look-ahead of L1. None for another fault, or if this grammar does not have the
-/// productions.
+/// Returns the productions and the look-ahead of L1. None for another fault, or if this grammar
+/// does not have the productions.
 fn conflict_of<'a>(fault: TableFault, raw: &'a RawGrammar) -> Option<Conflict<'a>> {
     match fault {
         TableFault::Conflict {
@@ -49,8 +49,8 @@ pub fn locate_conflict(fault: TableFault, text: &GrammarText<'_>) -> Location {
     }
 }
 
-/// Describes L1: the productions that conflict, at which look-ahead, and what to do. Nothing if memory for
-/// reading the text again is refused.
+/// Describes L1: the productions that conflict, at which look-ahead, and what to do. Writes nothing
+/// if memory for reading the text again is refused.
 pub fn describe_conflict(
     parts: &mut Parts,
     fault: TableFault,
@@ -94,8 +94,8 @@ fn write_productions(
     write!(out, " {place} if the next token is ")
 }
 
-/// Writes what to do about a conflict. The usual causes are left recursion, a production that can be empty,
-/// and a common beginning.
+/// Writes what to do about a conflict. The usual causes are left recursion, a production that can
+/// be empty, and a common beginning.
 fn write_help(
     out: &mut String,
     conflict: &Conflict<'_>,

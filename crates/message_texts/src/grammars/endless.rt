@@ -1,16 +1,16 @@
-//! The unproductive symbols of a grammar. Messages say that they never end: no sentence can be built from them.
+//! The unproductive symbols of a grammar. Messages say that they never end: no sentence can be
+//! built from them.
 
 use ag_grammar::{RawGrammar, RawItem, RawProduction};
 use ag_value::NoMemory;
 use std::alloc::Global;
 use std::collections::HashSet;
 
-/// The greatest number of rounds over all productions. The rounds find the other symbols: those that
-/// end.
+/// The greatest number of rounds over all productions. Each round finds symbols that end.
 const MAX_ROUNDS: usize = 64;
 
-/// Returns the names of the symbols that never end, in declared order. None if the last of `MAX_ROUNDS` rounds still
-/// finds a symbol that ends. Takes memory.
+/// Returns the names of the symbols that never end, in declared order. None if the last of
+/// `MAX_ROUNDS` rounds still finds a symbol that ends. Takes memory.
 pub fn endless_symbols<'a>(
     alloc: Global,
     raw: &'a RawGrammar,
@@ -24,7 +24,8 @@ pub fn endless_symbols<'a>(
     Ok(None)
 }
 
-/// Adds each symbol to `ending` that has a production whose symbols are all in `ending`. Returns whether one was added.
+/// Adds each symbol to `ending` that has a production whose symbols are all in `ending`. Returns
+/// whether one was added.
 fn add_ending<'a>(raw: &'a RawGrammar, ending: &mut HashSet<&'a str>) -> Result<bool, NoMemory> {
     let mut is_new = false;
     for production in raw.productions.as_slice() {

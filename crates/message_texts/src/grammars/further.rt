@@ -1,6 +1,6 @@
-//! Counts all faults of a grammar of the same kind, not only the first one, and lists missing
-//! rules. In this file a place is a number in a production: 0 is the left side, and 1, 2, .. are
-//! the symbols and classes of the right side.
+//! Counts the faults of a grammar that have the number (such as N1) of its first fault, and lists
+//! missing rules. In this file a place is a number in a production: 0 is the left side, and 1, 2, ..
+//! are the symbols and classes of the right side.
 
 use ag_grammar::{Named, Occ, RawGrammar, RawItem, RawProduction, RawSymbol, occurrences};
 use ag_value::NoMemory;
@@ -63,7 +63,8 @@ impl<'a> Declarations<'a> {
         Ok(declarations)
     }
 
-    /// Adds a symbol, unless one of its name is there, and its attributes.
+    /// Adds the number of a symbol, unless an earlier symbol has the same name. Adds the kinds of
+    /// its attributes.
     fn declare(&mut self, number: usize, symbol: &'a RawSymbol) -> Result<(), NoMemory> {
         let name = symbol.name.name.as_str();
         if !self.numbers.contains_key(name) {
@@ -73,7 +74,8 @@ impl<'a> Declarations<'a> {
         self.declare_kind(number, symbol.inh.as_slice(), AttributeKind::Inherited)
     }
 
-    /// Adds the attributes of a kind, unless they are there.
+    /// Adds the kind of the attributes `names` of the symbol `number`. An attribute that has a kind
+    /// already keeps it.
     fn declare_kind(
         &mut self,
         number: usize,
@@ -90,9 +92,8 @@ impl<'a> Declarations<'a> {
     }
 
     /// Returns the number of faults in productions that are of the kind of `fault`, if this kind is
-    /// N1, N7, N8 or N9, and 0 for other kinds. An occurrence that is several times in an expression
-    /// counts once.
-    /// Takes memory.
+    /// N1, N7, N8 or N9, and 0 for other kinds. An occurrence that is several times in an
+    /// expression counts once. Takes memory.
     fn count(
         &self,
         fault: &NormalFault,
@@ -168,8 +169,8 @@ impl<'a> Declarations<'a> {
         Ok(count)
     }
 
-    /// Returns the rules that a production lacks, by place and then in the order of the declarations.
-    /// Takes memory.
+    /// Returns the rules that a production lacks, by place and then in the order of the
+    /// declarations. Takes memory.
     pub fn missing_in(
         &self,
         production: &'a RawProduction,
@@ -200,8 +201,8 @@ impl<'a> Declarations<'a> {
         Ok(())
     }
 
-    /// Returns the attributes at a place that a production has to have rules for: the synthesized ones of its left
-    /// side, place 0, and the inherited ones of a child.
+    /// Returns the attributes at a place that a production has to have rules for: the synthesized
+    /// ones of its left side, place 0, and the inherited ones of a child.
     fn defined_at(&self, place: usize, placed: ItemAtPlace) -> &'a [Named] {
         let ItemAtPlace::Symbol(number) = placed else {
             return &[];
@@ -247,8 +248,8 @@ impl<'a> Declarations<'a> {
         }
     }
 
-    /// Returns whether a production has to have a rule for the attribute of an occurrence. False if the attribute
-    /// does not exist.
+    /// Returns whether a production has to have a rule for the attribute of an occurrence. False if
+    /// the attribute does not exist.
     fn is_defined(&self, places: &[ItemAtPlace], occurrence: &Occ) -> bool {
         match self.kind_of(places, occurrence) {
             Some(kind) => (kind == AttributeKind::Synthesized) == (occurrence.place == 0),

@@ -91,7 +91,8 @@ fn large_symbol(raw: &RawGrammar) -> Option<&RawSymbol> {
     None
 }
 
-/// Returns the first production whose right side exceeds a limit. None for a limit of something else.
+/// Returns the first production whose right side exceeds a limit. None if there is none, or if the
+/// limit is not one of right sides.
 fn large_production(raw: &RawGrammar, kind: LimitKind) -> Option<&RawProduction> {
     for production in raw.productions.as_slice() {
         let exceeds = match kind {

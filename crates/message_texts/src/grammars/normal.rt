@@ -16,7 +16,7 @@ use std::alloc::{AllocError, Global};
 
 /// Returns the location of the name, the occurrence or the production for which a grammar is
 /// refused, or `Whole` if the whole grammar exceeds a limit or the fault is NoMemory. `InFault` if
-/// memory for reading its text again was refused.
+/// `text` has no raw grammar, since memory for reading it again was refused.
 pub fn locate_in_grammar(fault: &NormalFault, text: &GrammarText<'_>) -> Location {
     let Some(raw) = &text.raw else {
         return Location::InFault;
@@ -47,8 +47,8 @@ fn offset_of(fault: &NormalFault, raw: &RawGrammar) -> Option<usize> {
     }
 }
 
-/// Describes N1 to N10 of a grammar, and what to do. Nothing if memory for reading its text again is
-/// refused.
+/// Describes N1 to N10 of a grammar, and what to do. Writes nothing if memory for reading its text
+/// again is refused.
 pub fn describe_normal(
     parts: &mut Parts,
     fault: &NormalFault,
@@ -67,8 +67,8 @@ pub fn describe_normal(
     }
 }
 
-/// Returns whether the message of a fault has the number of further faults of its kind: that of N1,
-/// N7, N8 or N9.
+/// Returns whether a fault is N1, N7, N8 or N9. Messages about these have the number of further
+/// faults of the same kind.
 fn is_of_one_place(fault: &NormalFault) -> bool {
     matches!(
         fault,
@@ -123,7 +123,8 @@ fn describe_first(
     }
 }
 
-/// Describes N1: a symbol that is not declared, or an occurrence of an attribute that does not exist.
+/// Describes N1: a symbol that is not declared, or an occurrence of an attribute that does not
+/// exist.
 fn describe_unknown(parts: &mut Parts, raw: &RawGrammar, at: usize) -> Result<(), AllocError> {
     if let Some(placed) = placed_at(raw, at) {
         write!(
@@ -320,7 +321,8 @@ fn describe_unreachable(parts: &mut Parts, raw: &RawGrammar, name: &str) -> Resu
     parts.help.push_str("use it in a production, or remove it")
 }
 
-/// Describes N6: the rules that a production lacks. Nothing if memory for finding them is refused.
+/// Describes N6: the rules that a production lacks. Writes nothing if memory for finding them is
+/// refused.
 fn describe_missing(
     parts: &mut Parts,
     alloc: Global,
@@ -333,7 +335,8 @@ fn describe_missing(
     }
 }
 
-/// Describes N6 by the declarations of a grammar. Nothing if memory is refused.
+/// Describes N6 by the declarations of a grammar. Writes nothing if memory for finding the rules is
+/// refused.
 fn describe_missing_by(
     parts: &mut Parts,
     declarations: &Declarations<'_>,
@@ -349,8 +352,8 @@ fn describe_missing_by(
     }
 }
 
-/// Describes N6 with the rules that a production lacks, and the number of those that other productions lack. All
-/// productions together lack `all` rules.
+/// Describes N6 with the rules that a production lacks, and the number of those that other
+/// productions lack. All productions together lack `all` rules.
 fn describe_rules(
     parts: &mut Parts,
     production: &RawProduction,
@@ -482,8 +485,8 @@ fn write_occurrences(
     Ok(shown)
 }
 
-/// Appends the attributes at a place to a list of `before` occurrences, each as `write_occurrence` does. Returns the
-/// number of occurrences in the list.
+/// Appends the attributes at a place to a list of `before` occurrences, each as `write_occurrence`
+/// does. Returns the number of occurrences in the list.
 fn write_at_place(
     out: &mut String,
     before: usize,
@@ -497,8 +500,9 @@ fn write_at_place(
     Ok(shown)
 }
 
-/// Appends an occurrence to a list of `before` occurrences. Only the first `MAX_NAMED` are written: in place of the next
-/// one ` and more`, and nothing in place of the later ones. Returns the number of occurrences in the list.
+/// Appends an occurrence to a list of `before` occurrences. Only the first `MAX_NAMED` are written:
+/// in place of the next one ` and more`, and nothing in place of the later ones. Returns the number
+/// of occurrences in the list.
 fn write_occurrence(
     out: &mut String,
     before: usize,

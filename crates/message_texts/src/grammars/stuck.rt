@@ -14,12 +14,13 @@ const MAX_NAMED_RULES: usize = 8;
 /// attributes and each direction of passes, `stuck` has a *strike*: a rule for the attribute, and
 /// an argument of the rule that a pass of the direction does not compute in time. If the argument
 /// is of the same child as the rule's target, or of a child that is visited later, the rule waits
-/// for no other. Otherwise the argument is struck too, and the rule waits for the rule of that
-/// strike.
+/// for no other rule. Otherwise the argument has a strike of the same direction too, and the rule
+/// waits for the rule of that strike.
 ///
-/// The message names rules of one direction that wait for no other, at most `MAX_NAMED_RULES`. It
-/// is the direction with fewer such rules or, if both have as many, the direction of pass 1, from
-/// right to left. Writes nothing if memory for reading the text again is refused.
+/// The message names rules of one direction that wait for no other rule, at most `MAX_NAMED_RULES`.
+/// It chooses the direction with fewer such rules. If both directions have the same number of them,
+/// it chooses the direction of pass 1, from right to left. Writes nothing if memory for reading the
+/// text again is refused.
 pub fn describe_stuck(
     parts: &mut Parts,
     stuck: &Stuck,
@@ -31,7 +32,7 @@ pub fn describe_stuck(
     }
 }
 
-/// Describes A1 by the direction with fewer rules that wait for no other.
+/// Describes A1 by the direction with fewer rules that wait for no other rule.
 fn describe_fewest(
     parts: &mut Parts,
     stuck: &Stuck,
@@ -93,8 +94,9 @@ impl Obstacle<'_> {
 }
 
 /// The strikes of the passes of a direction, one for each attribute that no pass can compute, and
-/// the grammar as it is written. A strike waits for another one if the place of its argument is not
-/// a reason: the pass would compute the argument in time if the argument were not struck.
+/// the grammar as it is written. A strike waits for another one if `reason` returns None for the
+/// places of its target and its argument: then the pass would compute the argument in time if the
+/// argument had no strike.
 #[derive(Clone, Copy)]
 struct DirectionStrikes<'a> {
     direction: Direction,
@@ -118,8 +120,8 @@ impl<'a> DirectionStrikes<'a> {
         })
     }
 
-    /// Returns why a rule for the place `target` can't use an attribute at the place `argument` in the same pass of
-    /// the direction. None if it can, once that attribute is computed.
+    /// Returns why a rule for the place `target` can't use an attribute at the place `argument` in
+    /// the same pass of the direction. None if it can, once that attribute is computed.
     fn reason(&self, target: u16, argument: u16) -> Option<Reason> {
         if target == 0 || argument == 0 {
             None
@@ -132,7 +134,7 @@ impl<'a> DirectionStrikes<'a> {
         }
     }
 
-    /// Returns the number of strikes that wait for no other.
+    /// Returns the number of strikes that wait for no other strike.
     fn count(&self) -> usize {
         self.strikes
             .iter()
@@ -140,7 +142,7 @@ impl<'a> DirectionStrikes<'a> {
             .count()
     }
 
-    /// Describes the rules of the strikes that wait for no other, and what to do.
+    /// Describes the rules of the strikes that wait for no other strike, and what to do.
     fn describe(&self, parts: &mut Parts, source: &Source<'_>) -> Result<(), AllocError> {
         let count = self.count();
         let (noun, help) = match count {
@@ -161,7 +163,8 @@ impl<'a> DirectionStrikes<'a> {
         )
     }
 
-    /// Writes the rules of the first strikes that wait for no other, at most `MAX_NAMED_RULES`.
+    /// Writes the rules of the strikes that wait for no other strike, at most the first
+    /// `MAX_NAMED_RULES`.
     fn write_named(&self, out: &mut String, source: &Source<'_>) -> Result<(), AllocError> {
         let mut rules_written = 0usize;
         for strike in self.strikes {

@@ -19,8 +19,8 @@ const LITERAL_NEEDS: &str =
 /// What a writer may have meant by a name that no `let` binds.
 const ATTRIBUTE: &str = "an attribute is written with its place, as in `$1.s`";
 
-/// Returns the location from which on a text can't be read as a grammar, or `Whole` if the text is too long or memory
-/// was refused.
+/// Returns the location from which on a text can't be read as a grammar, or `Whole` if the text is
+/// too long or memory was refused.
 pub fn locate_in_text(fault: TextFault, text: &GrammarText<'_>) -> Location {
     match offset_of(fault) {
         Some(at) => text.location(at),
@@ -28,7 +28,8 @@ pub fn locate_in_text(fault: TextFault, text: &GrammarText<'_>) -> Location {
     }
 }
 
-/// Returns the offset in bytes from which on a text can't be read as a grammar. None if the fault has none.
+/// Returns the offset in bytes from which on a text can't be read as a grammar. None if the fault
+/// has none.
 fn offset_of(fault: TextFault) -> Option<usize> {
     match fault {
         TextFault::BadUtf8(at) | TextFault::Unexpected(_, at) => Some(at),
@@ -50,7 +51,7 @@ pub fn describe_text(
     }
 }
 
-/// Describes a fault of a text that could go on with `expected`.
+/// Describes a fault of a text. `expected` is what could be at the fault's offset.
 fn describe_in(
     parts: &mut Parts,
     fault: TextFault,
@@ -88,17 +89,17 @@ fn describe_rule(
     Ok(())
 }
 
-/// Returns why the token that was found is damaged: it begins as a literal where an item is
-/// expected, or as an occurrence where a rule is expected (a rule begins with its target, such as
-/// `$1.sum`), but is neither. None otherwise.
+/// Returns the fault of what was found, if it begins with a quote where an item is expected, or
+/// with a `$` where a rule is expected (a rule begins with its target, such as `$1.sum`), and no
+/// token begins there. None otherwise.
 fn damaged_token(found: Option<&str>, expected: &[Expected]) -> Option<ExprFault> {
     let is_meant = begins_with(found, '"') && expected.contains(&Expected::Item)
         || begins_with(found, '$') && expected.contains(&Expected::Rule);
     if is_meant { token_fault(found?) } else { None }
 }
 
-/// Describes a token outside the expressions, and what the text could go on with, or what is wrong with
-/// the literal there.
+/// Describes a token outside the expressions, and what the text could go on with, or what is wrong
+/// with the literal there.
 fn describe_unexpected(
     parts: &mut Parts,
     context: &Context<'_>,

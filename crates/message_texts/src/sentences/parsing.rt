@@ -21,7 +21,7 @@ pub fn locate_in_sentence(fault: ParseFault, sentence: &Source<'_>) -> Location 
     }
 }
 
-/// A sentence, and the grammar by whose tables it was parsed.
+/// A sentence, and the grammar and the look-ahead tables by which it was parsed.
 #[derive(Clone, Copy)]
 pub struct ParsedSentence<'a> {
     pub grammar: &'a Grammar,
@@ -29,7 +29,7 @@ pub struct ParsedSentence<'a> {
     pub source: Source<'a>,
 }
 
-/// Describes P1 to P3 of a sentence, which is scanned again for P1. Takes memory for that. Writes nothing for P1 if the
+/// Describes P1 to P3 of a sentence. For P1 the sentence is scanned again. Writes nothing if that
 /// scan fails.
 pub fn describe_parse(
     alloc: Global,
@@ -54,8 +54,8 @@ pub fn describe_parse(
     }
 }
 
-/// Describes the token at which the parser stops, and the tokens that could come in its place. Nothing if memory
-/// for finding them is refused.
+/// Describes the token at which the parser stops, and the tokens that could come in its place.
+/// Writes nothing if memory for finding them is refused.
 fn describe_unexpected(
     alloc: Global,
     parts: &mut Parts,
@@ -92,8 +92,8 @@ fn describe_stuck(
     )
 }
 
-/// Returns a token as it is written in the text of a sentence: a TEXT with its two quotes, which `lex` does not have.
-/// None if the text does not have the token's bytes.
+/// Returns a token as it is written in the text of a sentence: a TEXT with its two quotes, which
+/// `lex` does not have. None if the text does not have the token's bytes.
 fn text_of<'a>(text: &'a str, token: Token<'_>) -> Option<&'a str> {
     let length = match token.kind {
         Terminal::Class(number) if class_name(number) == "TEXT" => {

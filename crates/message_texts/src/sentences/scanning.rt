@@ -1,4 +1,4 @@
-//! Sentences that cannot be cut into tokens.
+//! Sentences that cannot be cut into tokens, or are too long.
 
 use crate::found::begins_with;
 use crate::hints::{BYTE_ORDER_MARK, MARK};
@@ -23,8 +23,8 @@ const ADD_QUOTE: &str = "add the quote (a TEXT has no escapes)";
 /// What is wrong with a character of a sentence if the grammar has no terminals.
 const NO_TERMINALS: &str = ", but the grammar has no literal and no class";
 
-/// Returns the location at which a sentence can't be cut into tokens, or `Whole` if it is too long or memory was
-/// refused.
+/// Returns the location at which a sentence can't be cut into tokens, or `Whole` if it is too long
+/// or memory was refused.
 pub fn locate_token(fault: ScanFault, sentence: &Source<'_>) -> Location {
     match fault {
         ScanFault::BadUtf8(at) | ScanFault::NoToken(at) | ScanFault::LongToken(at) => {
@@ -62,7 +62,8 @@ pub fn describe_scan(
     }
 }
 
-/// Describes S2 at a quote that begins no TEXT, with the quote before it if that is in another line.
+/// Describes S2 at a quote that begins no TEXT, with the quote before it if that is in another
+/// line.
 fn describe_quote(parts: &mut Parts, before: Option<Place<'_>>) -> Result<(), AllocError> {
     parts.add(NO_SECOND_QUOTE, ADD_QUOTE)?;
     match before {
@@ -105,7 +106,8 @@ fn quote_before<'a>(sentence: &Source<'a>, at: usize) -> Option<Place<'a>> {
     }
 }
 
-/// Returns the character at an offset in bytes. None at the text's end.
+/// Returns the character at an offset in bytes. None at the text's end, after it, or inside a
+/// character.
 fn first_character(text: &str, at: usize) -> Option<&str> {
     let rest = text.get(at..)?;
     match rest.char_indices().nth(1) {

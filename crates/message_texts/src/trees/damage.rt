@@ -55,10 +55,9 @@ pub struct TreeFormat<'a> {
 }
 
 /// Describes R1 of a tree file at the offset `at` in bytes. If a record is damaged, and not the
-/// header, the file is read once more from its end. Takes memory for the stack that
-/// `expected_before` returns. If this function returns None, the message doesn't say what was
-/// expected. If the record that ends at `at` can't be read, the message says that none ends there
-/// or, at the end of the header, that there are no more records.
+/// header, the file is read once more from its end. If `expected_before` returns None, the message
+/// doesn't say what was expected. If the record that ends at `at` can't be read, the message says
+/// that none ends there or, at the end of the header, that there are no more records.
 pub fn describe_damage<D: Device>(
     alloc: Global,
     parts: &mut Parts,
@@ -117,8 +116,8 @@ impl TreeFormat<'_> {
         parts.help.push_str(AGAIN)
     }
 
-    /// Writes the record that ends at an offset, if one does, and the number of bytes of its values. Before the values
-    /// a body has 3 bytes, with the record's kind and number.
+    /// Writes the record that ends at an offset, if one does, and the number of bytes of its
+    /// values. Before the values a body has 3 bytes, with the record's kind and number.
     fn write_found(
         &self,
         out: &mut String,
@@ -203,14 +202,15 @@ impl TreeFormat<'_> {
         parts.add_tree_limit(most as usize, "nodes", FILE, SPLIT)
     }
 
-    /// Returns whether some production of a symbol has a token of a class. The records of its nodes have the texts
-    /// of these tokens.
+    /// Returns whether some production of a symbol has a token of a class. The records of its nodes
+    /// have the texts of these tokens.
     fn has_tokens(&self, symbol: u16) -> bool {
         self.grammar.productions().iter().any(|production| production.left == symbol
             && has_token(production.items.as_slice()))
     }
 
-    /// Writes an item: a node of a symbol, or a token of a class. A literal has no record, so nothing is written.
+    /// Writes an item: a node of a symbol, or a token of a class. A literal has no record, so
+    /// nothing is written.
     fn write_item(&self, out: &mut String, item: Item) -> Result<(), AllocError> {
         match item {
             Item::Symbol(number) => match self.grammar.symbols().get(usize::from(number)) {

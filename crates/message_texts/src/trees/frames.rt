@@ -13,7 +13,8 @@ use treefile::{Device, FileVersion, LENGTH_BYTES, fits_before};
 pub struct Frame {
     /// The offset in bytes at which the frame begins.
     pub begin: u64,
-    /// The kind in the body: 0 for a symbol's node, 1 for a token of a class; a damaged file can have others.
+    /// The kind in the body: 0 for a symbol's node, 1 for a token of a class; a damaged file can
+    /// have others.
     pub kind: u8,
     /// The number in the body: of the node's production, or of the token's class.
     pub number: u16,
@@ -21,8 +22,8 @@ pub struct Frame {
     pub bytes: u64,
 }
 
-/// Returns the frame that ends at the offset `end`, in bytes, of a tree file of this version. None if no frame ends
-/// there, or if it can't be read. Takes no memory.
+/// Returns the frame that ends at the offset `end`, in bytes, of a tree file of this version. None
+/// if no frame ends there, or if it can't be read. Takes no memory.
 pub fn frame_before<D: Device>(version: FileVersion, tree: &mut D, end: u64) -> Option<Frame>
     ensures content { LeavesContent (D.is_honest tree.new)
         (D.content tree.old) (D.content tree.new) }
@@ -86,8 +87,9 @@ pub fn expected_before<D: Device>(
     Some(expected)
 }
 
-/// Appends the children that a node of a production has, the rightmost one last: its record comes first when the file is
-/// read from its end. None if the grammar has no production with this number, or memory is refused.
+/// Appends the children that a node of a production has, the rightmost one last: its record comes
+/// first when the file is read from its end. None if the grammar has no production with this
+/// number, or memory is refused.
 fn push_children(grammar: &Grammar, number: u16, expected: &mut Vec<Item>) -> Option<()> {
     let production = grammar.productions().get(usize::from(number))?;
     for item in production.items.as_slice() {

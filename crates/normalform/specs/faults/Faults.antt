@@ -1,8 +1,9 @@
--- The faults of a raw grammar, kind by kind, and their order (this project's; complete is Knuth's, 1968, and productive and
--- reached are the textbook's). Each kind but N4 and N5 is a list of checks. Those of N6 are by production, place and
--- attribute, those of N10 in the order of `LimitKind`, and those of other kinds in the order of the raw grammar's lists. N4 and
--- N5 name the first wrong symbol. In this file, `ss` are the declared symbols, `names` their names, `qs` productions, `q` one of
--- them and `p` its number, `items` the items at its places, `r` a rule, `o` an occurrence, and `ts` targets of rules.
+-- The faults of a raw grammar, kind by kind, and their order (this project's). Without N4 and N5 each symbol is productive and
+-- reached (the textbook), and without N6 to N8 the productions are complete (Knuth, 1968). Each kind but N4 and N5 is a list of
+-- checks. Those of N6 are by production, place and attribute, those of N10 in the order of `LimitKind`, and those of other kinds
+-- in the order of the raw grammar's lists. N4 and N5 name the first wrong symbol.
+-- In this file, `ss` are the declared symbols, `names` their names, `qs` productions, `q` one of them and `p` its number, `items`
+-- the items at its places, `r` a rule, `o` an occurrence, and `ts` targets of rules.
 use Rattle.std.specs.Prelude.{All, ℕ, zero, suc, cond, fold, ◌⊎◌, ◌+◌, ◌≡◌, ◌<◌, ◌≤◌, nat_eq, nat_le, not, Bool, true, false}
 use Rattle.std.specs.Prelude.{◌&&◌, List, [], ◌∷◌, ◌++◌, length, map, flat_map, find, Option, Some, None, bytes_eq, slice_get}
 use Rattle.std.specs.List.{list_any, list_all, range_with_len}
@@ -62,11 +63,11 @@ item_checks names (raw_item.Class c) = []
 abbrev pub occurrence_check : List Symbol → List Item → Occ → Check
 occurrence_check ss items o = (fault.UnknownName o.at, list_any (bytes_eq o.attr) (names_at ss items o.place))
 
--- the target of a rule, then the occurrences of its expression
+-- N1. The checks of a rule: of its target, then of the occurrences in its expression.
 abbrev pub rule_checks : List Symbol → List Item → RawRule → List Check
 rule_checks ss items r = occurrence_check ss items r.target ∷ map (occurrence_check ss items) r.expr.1
 
--- a production: its left side, its items, its rules
+-- N1. The checks of a production: of its left side, then of its items, then of its rules.
 abbrev pub unknown_in : List Symbol → RawProduction → List Check
 unknown_in ss q =
     name_check (declared_names ss) q.left ∷ flat_map (item_checks (declared_names ss)) q.items ++ flat_map
@@ -84,11 +85,11 @@ new_check seen name = (fault.DoubledName name.at, not (list_any (bytes_eq name.n
 abbrev pub with_name : List (List ℕ) → Named → List (List ℕ)
 with_name seen name = with_text seen name.name
 
--- the checks of a list of names, after those that are seen
+-- N2. The checks of a list of names; `seen` are those before the list.
 abbrev pub doubled_names : List (List ℕ) → List Named → List Check
 doubled_names seen names = checks_along new_check with_name seen names
 
--- a symbol: its name, then its attributes among themselves
+-- N2. The checks of a symbol: of its name, then of its attributes, which are compared only with each other.
 abbrev pub symbol_checks : List (List ℕ) → RawSymbol → List Check
 symbol_checks seen s = new_check seen s.name ++ doubled_names [] (s.syn ++ s.inh)
 
@@ -169,7 +170,7 @@ missing_checks ss qs = checks_along (missing_in ss) next_index 0 qs
 abbrev pub new_target : List Symbol → List Item → List Target → RawRule → List Check
 new_target ss items ts r = (fault.RuleDoubled r.target.at, not (list_any (same_target (target_of ss items r.target)) ts)) ∷ []
 
--- the checks of the rules of a production
+-- N7. The checks of the rules of a production.
 abbrev pub doubled_in : List Symbol → RawProduction → List Check
 doubled_in ss q = checks_along (new_target ss (placed ss q)) (with_rule ss (placed ss q)) [] q.rules
 
@@ -194,7 +195,7 @@ abbrev pub defined_check : List Symbol → List Item → RawRule → Check
 defined_check ss items r = let t = target_of ss items r.target in
     (fault.NotDefinedHere r.target.at, has_kind ss items t (defined_kind t.place))
 
--- the checks of the rules of a production
+-- N8. The checks of the rules of a production.
 abbrev pub not_defined_in : List Symbol → RawProduction → List Check
 not_defined_in ss q = map (defined_check ss (placed ss q)) q.rules
 
@@ -206,7 +207,7 @@ not_defined_here ss qs = flat_map (not_defined_in ss) qs
 abbrev pub used_check : List Symbol → List Item → Occ → Check
 used_check ss items o = let t = target_of ss items o in (fault.NotNormal o.at, has_kind ss items t (used_kind t.place))
 
--- the checks of the rules of a production
+-- N9. The checks of the rules of a production.
 abbrev pub not_normal_in : List Symbol → RawProduction → List Check
 not_normal_in ss q = flat_map (λ r. map (used_check ss (placed ss q)) r.expr.1) q.rules
 
@@ -222,7 +223,7 @@ few_attributes s = nat_le (length (attribute_names s)) max_attributes
 abbrev pub few_items : RawProduction → Bool
 few_items q = nat_le (length q.items) max_items
 
--- a right side has at most 16 children (`max_children`): they and the left side have the places
+-- a right side has at most 16 children (`max_children`); `placed` has one item more, the left side
 abbrev pub few_children : List Symbol → RawProduction → Bool
 few_children ss q = nat_le (length (placed ss q)) (1 + max_children)
 
@@ -251,12 +252,12 @@ literal_limits texts =
 abbrev pub limit_checks : List Symbol → List RawProduction → List Check
 limit_checks ss qs = symbol_limits ss ++ production_limits ss qs ++ literal_limits (literals_of qs)
 
--- the checks of the kinds before N4: names, and the start symbol
+-- the checks of N1 to N3: names, and the start symbol
 abbrev pub naming_checks : RawGrammar → List Check
 naming_checks raw = let ss = map symbol_of raw.symbols in
     unknown_checks ss raw.productions ++ doubled_checks raw.symbols ++ start_checks ss raw.start
 
--- the checks of the kinds about rules
+-- the checks of N6 to N9: rules
 abbrev pub rule_kinds : List Symbol → List RawProduction → List Check
 rule_kinds ss qs = missing_checks ss qs ++ doubled_rules ss qs ++ not_defined_here ss qs ++ not_normal ss qs
 
@@ -294,12 +295,12 @@ IsReadableItem (raw_item.Name name) = Unit {0}
 IsReadableItem (raw_item.Literal text) = (1 ≤ length text) × Each (λ b. IsSeparator b → ⊥) text
 IsReadableItem (raw_item.Class c) = c < class_count
 
--- the literals of a raw grammar are not empty and have no separators, and its classes are known; that is so of each grammar that
--- was read from a text
+-- the literals of a raw grammar are not empty and have no separators, and its classes are known; this holds of each raw grammar
+-- that was read from a text
 abbrev pub IsReadable : RawGrammar → Type 0
 IsReadable raw = Each (λ q. Each IsReadableItem q.items) raw.productions
 
--- each occurrence in a rule's expression is in the rule's list of occurrences, and each bound name is in scope
+-- each occurrence in a rule's expression is in the expression's list of occurrences, and the expression has no unbound name
 abbrev pub IsListed : Rule → Type 0
 IsListed r = is_below (length r.expr.1) r.expr.0 ≡ true
 

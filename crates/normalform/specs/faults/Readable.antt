@@ -1,4 +1,4 @@
--- The test of whether the literals and classes of a raw grammar could come from a text (`IsReadable` of `Faults` as a test).
+-- `IsReadable` of `Faults` as a test: whether the literals and classes of a raw grammar could come from the text of a grammar.
 use Rattle.std.specs.Prelude.{ℕ, Bool, true, ◌&&◌, not, nat_eq, nat_le, nat_lt, List, length, ◌||◌}
 use Rattle.std.specs.List.{list_all}
 use Rattle.ag_grammar.specs.grammars.Accepted.{class_count}
@@ -14,7 +14,7 @@ is_separator b = nat_eq b 32 || nat_eq b 9 || nat_eq b 13 || nat_eq b 10
 abbrev pub readable_text : List ℕ → Bool
 readable_text text = nat_le 1 (length text) && list_all (λ b. not (is_separator b)) text
 
--- an item: a name always passes, a literal as above, and a class if it is one of the three
+-- an item: a name always passes, a literal if `readable_text` holds, and a class if it is one of the three
 abbrev pub readable_item : RawItem → Bool
 readable_item (raw_item.Name name) = true
 readable_item (raw_item.Literal text) = readable_text text

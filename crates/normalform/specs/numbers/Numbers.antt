@@ -1,6 +1,7 @@
--- The numbering of a raw grammar (this project's). A symbol, and an attribute among those of its symbol, has the number of its
--- first declaration. Different literals are numbered in the order of first appearance. The number of an undeclared name is the
--- count of the declared ones, so that each raw grammar can be numbered.
+-- The numbering of a raw grammar (this project's), from 0. Symbols are numbered in declared order, and so are the attributes of
+-- each symbol, the synthesized ones first. A name that is declared twice has the number of its first declaration. Different
+-- literals are numbered in the order of first appearance. The number of an undeclared name is the count of the declared ones, so
+-- that each raw grammar can be numbered.
 use Rattle.std.specs.Prelude.{ℕ, ◌==◌, Bool, false, cond, List, [], ◌∷◌, ◌++◌, map, filter, fold, bytes_eq, slice_get}
 use Rattle.std.specs.List.{list_any, position_or_len}
 use Rattle.ag_grammar.specs.declared.grammar.Item.{Item}

@@ -1,6 +1,8 @@
 //! The clauses by which symbols are productive, and the edges by which they are reached. Clauses
-//! and edges contain the numbers of symbols. A clause says that its head is productive if each
-//! symbol of its body is. An edge says that its end is reached if its start is.
+//! and edges contain the numbers of symbols. The head of a clause is the left side of a production,
+//! and its body has the symbols of the right side. A clause says that its head is productive if
+//! each symbol of its body is. An edge says that the symbol `to` is reached if the symbol `from`
+//! is.
 ghost use Rattle.std.specs.Prelude.{◌≡◌, ◌++◌, IfOk, OnOk};
 ghost use Rattle.normalform.specs.faults.Clauses as spec;
 ghost use Rattle.normalform.specs.faults.Clauses.{body_of, edges_of};

@@ -84,7 +84,7 @@ pub fn first_unknown(
     Ok(None)
 }
 
-/// Returns N2 if a name was seen before, and marks it as seen.
+/// Returns N2 if a name is one of the earlier names, which are `seen`. Adds the name to them.
 fn doubled_name<'t>(seen: &mut Names<'t>, name: &'t Named) -> Result<Option<NormalFault>, NoMemory>
     ensures fault { IfOk result (λ f. f ≡ first_wrong (new_check seen.old name.now)) }
     ensures seen { OnOk result (seen.new ≡ with_text seen.old name.now.name) }
@@ -96,8 +96,8 @@ fn doubled_name<'t>(seen: &mut Names<'t>, name: &'t Named) -> Result<Option<Norm
     }
 }
 
-/// Returns N2 for the first name of `names` that was seen before or repeats an earlier name of the
-/// list. Marks the names before that one as seen, or all of them if there is none.
+/// Returns N2 for the first name of `names` that is in `seen` or repeats an earlier name of
+/// `names`. Adds the names before that one to `seen`, or all of them if there is none.
 fn doubled_names<'t>(
     seen: &mut Names<'t>,
     names: &'t [Named],
@@ -125,8 +125,8 @@ fn doubled_attributes(alloc: Global, symbol: &RawSymbol) -> Result<Option<Normal
     doubled_names(&mut seen, symbol.inh.as_slice())
 }
 
-/// Returns the first fault N2 of a symbol, and marks its name as seen. `seen` has the names of the
-/// symbols before it.
+/// Returns the first fault N2 of a symbol. `seen` has the names of the symbols before it. Adds the
+/// symbol's name to them.
 fn doubled_in_symbol<'t>(
     alloc: Global,
     seen: &mut Names<'t>,

@@ -1,4 +1,4 @@
-//! Tests whether the literals and classes of a raw grammar could come from a text.
+//! Tests whether the literals and classes of a raw grammar could come from the text of a grammar.
 ghost use Rattle.std.specs.Prelude.{◌≡◌, ◌↔◌, IsTrue, not};
 ghost use Rattle.std.specs.List.{list_all};
 ghost use Rattle.normalform.specs.faults.Faults.{IsReadable};
@@ -8,7 +8,7 @@ ghost use Rattle.normalform.specs.faults.Readable.{readable_in};
 use ag_grammar::limits::CLASS_COUNT;
 use ag_grammar::{RawGrammar, RawItem, RawProduction};
 
-/// Returns whether a byte separates the words of a sentence.
+/// Returns whether a byte separates the tokens of a sentence.
 fn is_separator(byte: u8) -> bool
     ensures { result ≡ is_separator byte }
 {
@@ -30,8 +30,8 @@ fn is_readable_text(text: &[u8]) -> bool
     true
 }
 
-/// Returns whether an item could come from a text: a literal is not empty and has no separator, and
-/// a class is one of the three. The name of a symbol always passes.
+/// Returns whether an item is readable: a literal is not empty and has no separator, and a class is
+/// one of the three. The name of a symbol is always readable.
 fn is_readable_item(item: &RawItem) -> bool
     ensures { result ≡ readable_item item.now }
 {

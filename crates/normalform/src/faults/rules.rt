@@ -51,9 +51,9 @@ fn targets_of(
     Ok(targets)
 }
 
-/// Returns N6 for the first attribute, at one place of a production, that needs a rule and has none.
-/// `production` is the production's number, `item` the item at the place, and `targets` has the
-/// targets of all its rules. The attribute of a token needs no rule.
+/// Returns N6 for the first attribute, at one place of a production, that needs a rule and has
+/// none. `production` is the production's number, `item` the item at the place, and `targets` has
+/// the targets of all its rules. The attribute of a token needs no rule.
 fn missing_at(
     declared: &Declared<'_>,
     targets: &Targets,
@@ -76,7 +76,7 @@ fn missing_at(
     None
 }
 
-/// Returns N6 for the first attribute, at all places of a production, that needs a rule and has none.
+/// Returns N6 for the first attribute, by place, that needs a rule of a production and has none.
 fn missing_among(
     declared: &Declared<'_>,
     targets: &Targets,
@@ -94,7 +94,8 @@ fn missing_among(
     None
 }
 
-/// Returns N6 for the first attribute, in a production, that needs a rule and has none.
+/// Returns N6 for the first attribute that needs a rule of a production and has none. `number` is
+/// the production's number.
 fn missing_in(
     alloc: Global,
     declared: &Declared<'_>,
@@ -131,7 +132,7 @@ pub fn first_missing(
     Ok(None)
 }
 
-/// Returns N7 if the target of a rule is one of the earlier ones, and adds it to them.
+/// Returns N7 if the target of a rule is in `targets`, those of the earlier rules. Adds it to them.
 fn doubled_rule(
     targets: &mut Targets,
     declared: &Declared<'_>,
@@ -216,8 +217,8 @@ pub fn first_not_defined(
     first_in_productions(alloc, RuleCheck::Defined, declared, productions)
 }
 
-/// Returns the first fault N9: an argument that is neither inherited at place 0 nor synthesized at a
-/// later place.
+/// Returns the first fault N9: an argument that is neither inherited at place 0 nor synthesized at
+/// a later place.
 pub fn first_not_normal(
     alloc: Global,
     declared: &Declared<'_>,

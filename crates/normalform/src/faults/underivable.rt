@@ -1,5 +1,5 @@
-//! Finds the first number that does not follow from clauses. It is the number of a symbol that is
-//! not productive, or not reached.
+//! Finds the first symbol, by number, that is not productive or not reached: the first number that
+//! does not follow from clauses and seeds. `Follows` of the crate `closure` defines this.
 ghost use Rattle.std.specs.Prelude.{◌≡◌, ◌<◌, ℕ, true, length, All, None, IfOk, IfSome};
 ghost use Rattle.closure.specs.Following.{is_marked, Follows};
 ghost use Rattle.normalform.specs.faults.Underivable.{IsFirstUnmarked, IsFirstUnderivable};
@@ -22,8 +22,8 @@ fn first_false(marks: &[bool]) -> Option<usize>
     None
 }
 
-/// Returns the least number below the count of `clauses` that does not follow from clauses and
-/// seeds, if there is one. Fails with `NoMemory` if memory is refused.
+/// Returns the least number that does not follow from clauses and seeds, if there is one below the
+/// count of symbols, for which `clauses` was made. Fails with `NoMemory` if memory is refused.
 pub fn first_underivable(
     alloc: Global,
     clauses: &Clauses,

@@ -69,7 +69,7 @@ fn attributes<'t>(alloc: Global, symbols: &'t [RawSymbol]) -> Result<Vec<Names<'
 }
 
 /// The declared symbols. Contracts see the list of them. Where a method takes `items`, these are
-/// the items at the places of the occurrence's production (`places_of`).
+/// the items at the places of one production (`places_of`).
 #[derive(Drop)]
 pub struct Declared<'t> {
     symbols: &'t [RawSymbol],
@@ -182,8 +182,8 @@ impl<'t> Declared<'t> {
         self.symbols.get(number)
     }
 
-    /// Returns whether the symbol with number `symbol` exists, and its attribute `number` exists and
-    /// is synthesized.
+    /// Returns whether the symbol with number `symbol` exists, and its attribute `number` exists
+    /// and is synthesized.
     fn synthesizes(&self, symbol: usize, number: usize) -> bool
         ensures { result
             ≡ is_kind Synthesized (slice_get (symbol_kinds (slice_get self.now symbol)) number) }
@@ -194,8 +194,8 @@ impl<'t> Declared<'t> {
         }
     }
 
-    /// Returns whether the symbol with number `symbol` exists, and its attribute `number` exists and
-    /// is inherited.
+    /// Returns whether the symbol with number `symbol` exists, and its attribute `number` exists
+    /// and is inherited.
     fn inherits(&self, symbol: usize, number: usize) -> bool
         ensures { result
             ≡ is_kind Inherited (slice_get (symbol_kinds (slice_get self.now symbol)) number) }

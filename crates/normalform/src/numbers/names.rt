@@ -12,8 +12,9 @@ use std::marker::Model;
 /// Texts in order. The number of a text is the index of the first text that is equal to it.
 /// Contracts see the list of the texts.
 ///
-/// A key is a text with an integer (not the text's number): 0 for the first key of the text, and for a
-/// later one its index among the keys. So no two keys are the same, and key i is that of text i.
+/// A key is a text with an integer (not the text's number): 0 for the first key of the text, and
+/// for a later one its index among the keys. So no two keys are the same, and key i is that of text
+/// i.
 #[derive(Drop)]
 pub struct Names<'t> {
     keys: IndexSet<(&'t str, usize)>,

@@ -80,7 +80,7 @@ pub record IsBodyOf (g : Grammar) (s p : ℕ) (spellings body : List ℕ) : Type
   pub left : production.left ≡ s
   pub same : body ≡ body_from Node p spellings
 
--- A body is the record of a node of symbol s with this production, and its row was read. `values` are the node's own values, and
+-- A body is the record of a node of symbol s and of production p, and its row was read. `values` are the node's own values, and
 -- `table` has those of its children. Of attributes of the pass itself they can be any well values.
 pub record IsNodeRead (c : Setting) (s p : ℕ) (body : List ℕ) (old new : List Value) : Type 0 where
   pub production : Production

@@ -69,8 +69,8 @@ pub struct Layout {
     pub hints: Hints,
 }
 
-/// Returns the rows of the places of a production in a pass, and the number of values in the row of
-/// each of its nodes. Fails with `NoMemory` if memory cannot be allocated.
+/// Returns a `PlaceRow` for each place of a production in a pass, and the number of values in the
+/// row of each of its nodes. Fails with `NoMemory` if memory cannot be allocated.
 fn rows_of_places(
     alloc: Global,
     setting: &Setting<'_>,
@@ -243,10 +243,10 @@ fn row_of_production(
 
 /// Returns the layout of each production of a grammar in a pass of a plan, and the hints.
 ///
-/// Fails with `NoMemory` if memory cannot be allocated. As to its time: it goes through the attributes
-/// of one symbol, at most 16, a few times for each place of a production, and once for each target and
-/// argument of its rules. For the hints, it goes at most through the whole expression of each rule of
-/// an earlier pass, and through the slots of one row.
+/// Fails with `NoMemory` if memory cannot be allocated. The time: for each place of a production,
+/// it reads the at most 16 attributes of the symbol there a few times, and for each target and
+/// argument of the rules once. For the hints, it reads at most the whole expression of each rule of
+/// an earlier pass, and the slots of one row.
 pub fn build_layout(alloc: Global, setting: &Setting<'_>) -> Result<Layout, NoMemory>
     requires plan { IsPlan setting.now.grammar.now setting.now.plan.now.0 setting.now.plan.now.1 }
     requires first { 1 ≤ setting.now.pass }

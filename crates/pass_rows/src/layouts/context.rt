@@ -1,4 +1,4 @@
-//! The context of a pass: what it needs to run, and the layout of each production.
+//! The context of a pass: what the pass needs to run, and the layout of each production.
 
 ghost use Rattle.std.specs.Prelude.{◌≡◌, ◌<◌, ◌≤◌, ◌+◌, ◌-◌, ◌^◌, Some, length, slice_get};
 ghost use Rattle.ag_grammar.specs.declared.grammar.Production.{Production};
@@ -47,7 +47,7 @@ impl PassContext<'_> {
         &self.rows[production as usize]
     }
 
-    /// Returns the instructions of the pass for an open node, whose production has this layout.
+    /// Returns the instructions of the pass for an open node. `layout` is that of its production.
     fn list<'r>(&self, layout: &'r ProductionRow, node: OpenNode) -> &'r [Instr]
         requires layout { IsRowAt (setting self.now) node.production layout.now }
         requires there { node.production < length self.now.setting.grammar.now.productions }
@@ -56,7 +56,7 @@ impl PassContext<'_> {
         layout.list.as_slice()
     }
 
-    /// Returns the next instruction of an open node, whose production has this layout.
+    /// Returns the next instruction of an open node. `layout` is that of its production.
     pub fn instruction(&self, layout: &ProductionRow, node: OpenNode) -> Instr
         requires layout { IsRowAt (setting self.now) node.production layout.now }
         requires there { node.production < length self.now.setting.grammar.now.productions }
@@ -68,8 +68,8 @@ impl PassContext<'_> {
         self.list(layout, node)[node.at]
     }
 
-    /// Returns the item at a place of an open node and the range of its copies. The node's production
-    /// has this layout.
+    /// Returns the item at a place of an open node and the range of its copies. `layout` is that of
+    /// the node's production.
     pub fn place(&self, layout: &ProductionRow, node: OpenNode, place: u16) -> PlaceRow
         requires layout { IsRowAt (setting self.now) node.production layout.now }
         requires there { place < length layout.now.places }

@@ -1,9 +1,9 @@
 //! Hints for reading: where the value that a pass reads next may be stored already.
 //!
-//! Most values that a pass reads are equal to others that it has read before. The row of a node
-//! has the values of the node's own attributes, the synthesized ones first, and after them copies
-//! of its children's synthesized attributes. While the record of the child at place j is read, the
-//! row of its parent is stored, and so are the values of the child's row before the one that is read
+//! Most values that a pass reads are equal to others that it has read before. The row of a node has
+//! the values of the node's own attributes, the synthesized ones first, and after them copies of
+//! its children's synthesized attributes. While the record of the child at place j is read, the row
+//! of its parent is stored, and so are the values of the child's row before the one that is read
 //! next. Rules and places are those of the parent's production in the first two rows of the table,
 //! and those of the child's own production in the others:
 //!
@@ -13,12 +13,13 @@
 //! | own inherited `a` | in the parent's row: `$i.b`, if the rule of `$j.a` is `$i.b` | always |
 //! | other own inherited `a` | in its own row: `b`, if a rule is `$0.b = $0.a` | always |
 //! | copy of `$i.b` | in its own row: `a`, if a rule is `$0.a = $i.b` | always |
-//! | other copy of `$i.b` | in its own row: `$m.d` before it, if a rule is `$i.c = $m.d` | if rules below `$i` copy `c` to `b` |
+//! | other copy of `$i.b` | in its own row: earlier `$m.d`, if a rule is `$i.c = $m.d` | maybe |
 //!
-//! "Always" means in each file that the earlier passes wrote; in a damaged file the values may differ.
-//! A rule also counts as `$i.b` if its expression is a `let`, an `if` or an `orelse` that may return
-//! that occurrence; then the values are equal if it does return it. Only rules of passes before k
-//! count: their values are in the file.
+//! "Always" means in each file that the earlier passes wrote. In a damaged file the values may
+//! differ. "Maybe" means if rules below `$i` copy `c` to `b`. A rule also counts as `$i.b` if its
+//! expression is a `let`, an `if` or an `orelse` that may return that occurrence. Then the values
+//! are equal if it does return it. Only rules of passes before k count: their values are in the
+//! file.
 //!
 //! No contract mentions hints. `Carried::read_beside` compares the candidate with the bytes that
 //! are read: a wrong hint costs a comparison and changes nothing. Numbers and errors are read
@@ -38,8 +39,8 @@ use std::alloc::Global;
 pub struct RowHints {
     /// For each slot of the row, another slot of the row, or none.
     own: Vec<Option<usize>>,
-    /// For each place, and for each slot of the row of the child there, a slot of the parent's row, or
-    /// none.
+    /// For each place, and for each slot of the row of the child there, a slot of the parent's row,
+    /// or none.
     children: Vec<Vec<Option<usize>>>,
 }
 
@@ -101,7 +102,8 @@ impl RowHints {
         self.add_returned(*place, slot);
     }
 
-    /// Makes `slot` the hint for those copies at a place that come after this slot and have no hint.
+    /// Makes `slot` the hint for those copies at a place that come after this slot and have no
+    /// hint.
     fn add_returned(&mut self, place: PlaceRow, slot: usize) {
         let start = place.start as usize;
         for (copy, hint) in self.own.iter_mut().enumerate() {
@@ -123,14 +125,14 @@ pub struct Hints {
 }
 
 impl Hints {
-    /// Returns no hints.
+    /// Returns hints in which no value has one.
     pub fn none(alloc: Global) -> Hints {
         Hints {
             rows: Vec::new(alloc),
         }
     }
 
-    /// Returns the hints for each production of a grammar in a pass, by the layouts of the
+    /// Returns the hints for each production of a grammar in a pass. `rows` has the layouts of the
     /// productions. Fails with `NoMemory` if memory cannot be allocated.
     pub fn new(
         alloc: Global,
@@ -165,9 +167,9 @@ impl Hints {
     }
 }
 
-/// Returns the hints for the slots of the row of the child at a place: the slots of its copies in the
-/// parent's row, and none for values without a copy. A token has no hints. Fails with `NoMemory` if
-/// memory cannot be allocated.
+/// Returns the hints for the slots of the row of the child at a place: the slots of its copies in
+/// the parent's row, and none for values without a copy. A token has no hints. Fails with
+/// `NoMemory` if memory cannot be allocated.
 fn hints_of_copies(
     alloc: Global,
     setting: &Setting<'_>,
@@ -201,7 +203,8 @@ fn is_earlier(setting: &Setting<'_>, row: &ProductionRow, target: Target) -> boo
     }
 }
 
-/// Returns the number of an occurrence whose value an expression may return unchanged, if it finds one.
+/// Returns the number of an occurrence whose value an expression may return unchanged, if it finds
+/// one.
 fn returned_occurrence(node: &Node) -> Option<usize> {
     match node {
         Node::Occurrence(k) => Some(*k),
@@ -229,18 +232,18 @@ fn set(hints: &mut Vec<Option<usize>>, slot: usize, hint: usize) {
     }
 }
 
-/// Where a record is read: at a place of an open node of a production. The root has no parent, and no
-/// row is stored before its own. Its location is place 0 of production 0, since no slot of place 0 has
-/// a hint.
+/// Where a record is read: at a place of an open node of a production. The root has no parent, and
+/// no row is stored before its own. Its location is place 0 of production 0, since no slot of place
+/// 0 has a hint.
 #[derive(Clone, Copy, Default)]
 pub struct ChildLocation {
     pub production: u16,
     pub place: u16,
 }
 
-/// The row that a record is read into by a pass: that of a node of a production, whose record is
-/// read at the location `parent`. The row begins at index `start` of all stored values. The row of the
-/// parent, if it is stored, comes directly before.
+/// The row into which a pass reads the record of a node. `production` is the number of the node's
+/// production, and `parent` the location at which the record is read. The row begins at index
+/// `start` of all stored values. The row of the parent, if it is stored, comes directly before.
 #[derive(Clone, Copy)]
 pub struct RowLocation<'a> {
     /// The hints. This is a reference to a reference, so that it costs a load only where a hint is

@@ -43,8 +43,8 @@ impl From<ValueFault> for RecordFault {
     }
 }
 
-/// Returns the number that is encoded at the beginning of some bytes, and the bytes after it; `None`
-/// if they do not begin with the encoding of a number.
+/// Returns the number that is encoded at the beginning of some bytes, and the bytes after it;
+/// `None` if they do not begin with the encoding of a number.
 #[inline(always)]
 fn number_in(bytes: &[u8]) -> Option<(i64, &[u8])>
     ensures spelled { IfSome result
@@ -64,9 +64,9 @@ fn number_in(bytes: &[u8]) -> Option<(i64, &[u8])>
     Some((number.cast_signed(), rest))
 }
 
-/// Reads a value as `Carried::read` does, fails as it does, and returns the value with the length of
-/// its encoding in bytes. The candidate is a stored value that may be equal to the one that is read; if
-/// it is, and can have several owners, it is returned and nothing is decoded.
+/// Reads a value as `Carried::read` does, fails as it does, and returns the value with the length
+/// of its encoding in bytes. The candidate is a stored value that may be equal to the one that is
+/// read. If it is, and it can have several owners, the result shares it and nothing is decoded.
 fn read_beside(
     alloc: Global,
     candidate: Option<&Carried>,
@@ -268,9 +268,10 @@ pub fn node_in<'b>(grammar: &Grammar, symbol: u16, body: &'b [u8]) -> Option<(u1
     Some((number, spellings))
 }
 
-/// Reads the body of a node of a symbol from the file of pass k - 1, where k is the setting's pass, and
-/// appends its row to the values: first the node's own values, then the copies of its children. For
-/// each attribute of pass k, the row has 0 as a placeholder. Returns the number of the node's production.
+/// Reads the body of a node of a symbol from the file of pass k - 1, where k is the setting's pass,
+/// and appends its row to the values: first the node's own values, then the copies of its children.
+/// For each attribute of pass k, the row has 0 as a placeholder. Returns the number of the node's
+/// production.
 ///
 /// Fails with `Damaged` if the body is not the record of a node of the symbol in the file of that
 /// pass. Such a record has a production of the symbol, a well value for each own attribute and each
@@ -310,8 +311,8 @@ pub fn read_node(
     Ok(number)
 }
 
-/// Reads the body of a node as `read_node` does, and fails as it does. Takes the passes of the values
-/// from the layout of its production, and uses the hints for a record at this location.
+/// Reads the body of a node as `read_node` does, and fails as it does. Takes the passes of the
+/// values from the layout of its production, and uses the hints for a record at this location.
 #[inline(always)]
 fn read_node_by_layout(
     context: &PassContext<'_>,
@@ -392,10 +393,10 @@ fn read_token(
     Ok(())
 }
 
-/// Reads the record of an item, and appends its row to the values. `location` says where the item is,
-/// for the hints. Returns the number in the record: that of the production, or that of the token's
-/// class. Fails with `Damaged` if the body is not a record of the item, and with `NoMemory` if memory
-/// cannot be allocated.
+/// Reads the record of an item, and appends its row to the values. `location` says where the item
+/// is, for the hints. Returns the number in the record: that of the production, or that of the
+/// token's class. Fails with `Damaged` if the body is not a record of the item, and with `NoMemory`
+/// if memory cannot be allocated.
 #[inline(always)]
 pub fn read_record(
     context: &PassContext<'_>,

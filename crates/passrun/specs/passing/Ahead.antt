@@ -1,5 +1,5 @@
--- The children whose records are still to be read at the open nodes, and the meaning of the faults of a pass. All
--- definitions are this project's.
+-- The children whose records are still to be read at the open nodes, and the meaning of the faults of a pass. In these
+-- definitions c is a setting and q a production. All definitions are this project's.
 use Rattle.std.specs.Prelude.{ℕ, suc, Bool, true, false, List, [], ◌∷◌, Option, Some, None, slice_get}
 use Rattle.ag_grammar.specs.declared.grammar.Production.{Production}
 use Rattle.ag_grammar.specs.grammars.AttributeGrammar.{stored_items}
@@ -25,19 +25,21 @@ goes_next (instr.Put j ∷ xs) = false
 goes_next (instr.Def a r ∷ xs) = goes_next xs
 goes_next (instr.End ∷ xs) = false
 
--- The children of a node, each with the copies of its values that the node's record has. These are taken from the table e, which
--- has the values at the node and its children.
+-- The children of a node of production q, each with the copies of its values that the node's record has. The copies are taken
+-- from the table e, which has the values at the node and its children.
 abbrev pub children_of : Setting → Production → Table → List Child
 children_of c q e =
     children_with_copies true c.grammar c.passes c.read (stored_items q.items)
     (copies c c.read (stored_items q.items) (in_children e))
 
--- The pending list of a node's children without the first n that the pass visits, at a level, followed by others.
+-- The children of a node as a pending list, without the first n that the pass visits, and then the list `others`. `level` is the
+-- level of these children.
 abbrev pub following : Setting → Production → Table → (n level : ℕ) → Pending → Pending
 following c q e n level others =
     before_others (pass_direction c) level (remaining_of (pass_direction c) (children_of c q e) n) others
 
--- The pending list of all children of the node whose record was read last, followed by others. A token has none.
+-- All children of the node whose record was read last as a pending list, and then the list `others`. A token (None) has no
+-- children.
 abbrev pub pending_of_child : Setting → Option Production → Table → (level : ℕ) → Pending → Pending
 pending_of_child c None e level others = others
 pending_of_child c (Some q) e level others = following c q e 0 level others

@@ -3,11 +3,11 @@ use Rattle.std.specs.Prelude.{ℕ, zero, suc, ◌&&◌, nat_eq, cond}
 use Rattle.ag_value.specs.declared.value.Value.{Value}
 use Rattle.pass_rows.specs.Places.{Table}
 
--- The table with one value replaced, at a place and attribute.
+-- The table e with v as the value of attribute a at place j. i and b are the place and the attribute that are looked up.
 abbrev pub set : Table → ℕ → ℕ → Value → Table
 set e j a v i b = cond (nat_eq i j && nat_eq b a) v (e i b)
 
--- The table with the values at one place replaced.
+-- The table e with f as the values at place j.
 abbrev pub with_row : Table → ℕ → (ℕ → Value) → Table
 with_row e j f i = cond (nat_eq i j) f (e i)
 

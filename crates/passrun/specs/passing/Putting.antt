@@ -19,6 +19,7 @@ pub record HasPut (kind : Kind) (number : ℕ) (values : List Value) (honest : B
 abbrev pub AddsFrames : Bool → (old new : List ℕ) → Type 0
 AddsFrames honest old new = WhenHonest honest (beginning.AddsFrames {E = RunFault} old new (Ok tt))
 
--- With the fault f: if the device is honest, a prefix of some frames, possibly empty or whole, was appended to its content.
+-- After a failure with the fault f: if the device is honest, a prefix of some frames, possibly none or all of them, was appended
+-- to its content.
 abbrev pub LeavesFrames : Bool → (old new : List ℕ) → RunFault → Type 0
 LeavesFrames honest old new f = WhenHonest honest (beginning.AddsFrames {E = RunFault} old new (Err f))

@@ -254,8 +254,9 @@ pub record IsRootReady (c : Setting) (root : ℕ) (values : List Value) (new : T
   pub record_is : root_body (bodies_of version_two c.grammar c.passes c.write tree valuation) ≡ body_of Node root values
   pub nothing : todo ≡ []
 
--- The invariant of a pass: these nodes are open, the innermost first; these values are in memory; this number
--- of rules was run; and these children are still to be read.
+-- The invariant of a pass. The list of nodes has the open ones, the innermost first. `values` are in memory, `new` is the
+-- transcript, `evals` rules were evaluated, and the children `todo` are still to be read. `root` is the number of the root's
+-- production.
 abbrev pub RunInvariant : Setting → ℕ → List OpenNode → List Value → Transcript → ℕ → Pending → Type 0
 RunInvariant c root [] values new evals todo = IsRootReady c root values new evals todo
 RunInvariant c root (x ∷ xs) values new evals todo =

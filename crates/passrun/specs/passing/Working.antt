@@ -25,13 +25,13 @@ all_of (row ∷ rows) k = length (slice_index_or row k []) + all_of rows k
 abbrev pub node_cost : Setting → ℕ
 node_cost c = suc (suc (all_of c.code c.read))
 
--- The amount reserved for a child whose record the innermost node has read and that it has not entered yet.
+-- The work reserved for the child that the innermost node enters next, if the child's record was read already; otherwise 0.
 abbrev pub reserved_work : Setting → Option OpenNode → ℕ
 reserved_work c None = 0
 reserved_work c (Some x) = if goes_next (rest_of c x) then node_cost c else 0
 
--- The measure: the bound of one node for each record that may still be read, plus the remaining instructions,
--- plus the amount reserved.
+-- The measure: `node_cost` for each record that may still be read, plus the work that remains at the open nodes, plus the work
+-- reserved for a child.
 abbrev pub measure : Setting → Machine → Option OpenNode → ℕ
 measure c m next =
     node_cost c * (max_nodes - m.back.progress.records)

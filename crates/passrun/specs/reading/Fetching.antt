@@ -1,4 +1,5 @@
--- Reading the record of an item from a tree file that is read backward. All definitions are this project's.
+-- Reading the record of an item from a tree file that is read from its end. In these definitions c is a setting and x an item.
+-- All definitions are this project's.
 use Rattle.std.specs.Prelude.{ℕ, ◌≡◌, ◌+◌, ◌<◌, ◌≤◌, Bool, List, Option, Some, None, Result, Ok, Err}
 use Rattle.ag_value.specs.declared.value.Value.{Value}
 use Rattle.ag_grammar.specs.declared.grammar.Item.{Item}
@@ -25,7 +26,8 @@ pub record HasFetched (c : Setting) (x : Item) (p open_count : ℕ) (honest : Bo
   pub deep : open_count < max_depth
   pub few : old.progress.records < max_nodes
 
--- Reading before an offset returned no record of an item: a fault, no frame, or another body.
+-- Reading the frame that ends at an offset gave no record of an item: it gave a fault, no frame, or a body that is not a record
+-- of the item.
 abbrev pub IsMissing : Setting → Item → Result (Option (List ℕ)) FrameFault → Type 0
 IsMissing c x (Err frame_fault) = Unit {0}
 IsMissing c x (Ok None) = Unit {0}

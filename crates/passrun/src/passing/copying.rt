@@ -16,9 +16,9 @@ use pass_rows::layouts::building::PlaceRow;
 use pass_rows::layouts::context::PassContext;
 use std::mem::{replace, swap};
 
-/// Returns whether two rows have the same values of all attributes whose pass is before pass `k`.
-/// `passes` has the pass of each attribute. A row begins with the values of the attributes whose pass
-/// is at most `k`, in the order of `passes`.
+/// Returns whether `ours` and `theirs` have the same values of all attributes whose pass is before
+/// pass `k`. `passes` has the pass of each attribute. Both lists begin with the values of the
+/// attributes whose pass is at most `k`, in the order of `passes`.
 #[tactic(auto)]
 pub(crate) fn agree(passes: &[u16], k: u16, ours: &[Carried], theirs: &[Carried]) -> bool
     requires { 1 ≤ k }
@@ -120,7 +120,7 @@ pub(crate) fn put_value(values: &mut Vec<Carried>, index: usize, value: Carried)
         return put_number(&mut values[index], number);
     }
     let old = replace(&mut values[index], value);
-    // drops the old value; for a number or an error, `release` calls nothing
+    // drops the old value, without a call if it is a number or an error
     old.release();
 }
 

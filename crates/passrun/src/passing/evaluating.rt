@@ -16,9 +16,9 @@ use pass_rows::layouts::building::RuleSlots;
 use std::alloc::Global;
 use std::marker::Model;
 
-/// The values of a rule's arguments: argument k, which is occurrence k of the rule's expression (an
-/// attribute at a place, such as `$1.value`), has the value in slot `slots[k]` of `values`. No slot
-/// is out of range.
+/// The values of a rule's arguments, which are numbered from 0. Argument k is occurrence k of the
+/// rule's expression (an attribute at a place, such as `$1.value`). Its value is in slot `slots[k]`
+/// of `values`. No slot is out of range.
 #[derive(Drop)]
 struct Lender<'a> {
     values: &'a [Carried],
@@ -54,7 +54,7 @@ impl<'a> CarriedEnvironment for Lender<'a> {
     }
 }
 
-/// Returns the value of argument k, which is in slot `slots[k]`.
+/// Returns the value of argument k (from 0), which is in slot `slots[k]`.
 #[inline(always)]
 fn value_in_slot<'a>(values: &'a [Carried], slots: &[u16], k: usize) -> &'a Carried
     requires number { k < length slots.now }

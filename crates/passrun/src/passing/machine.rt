@@ -1,7 +1,8 @@
 //! The state of a running pass, and the execution of its instructions, which "Listings" in
-//! docs/FORMATS.md describes. `Set` and `Def` have one function, each other kind has its own, and
-//! `Machine::step` calls them. The `measure` (`specs/passing/Working.antt`) bounds the work that
-//! remains: the clauses `less` say that it falls, and the clauses `most` that it doesn't rise.
+//! docs/FORMATS.md describes. `Set` and `Def` have one function (`run_rule`), and `Get`, `Go`,
+//! `Put` and `End` one each. `Machine::step` calls them. The `measure`
+//! (`specs/passing/Working.antt`) bounds the work that remains: the clauses `less` say that it
+//! falls, and the clauses `most` that it doesn't rise.
 
 ghost use Rattle.std.specs.Prelude.{◌≡◌, ◌+◌, ◌^◌, ◌<◌, ◌≤◌, ◌∷◌, ◌++◌, [], Some, IfErr, IfOk};
 ghost use Rattle.std.specs.Prelude.{IsErrOf, OnOk, length, reverse, slice_get};

@@ -85,7 +85,8 @@ body_in (old.Token d v) = body_of Token d (v ∷ [])
 abbrev pub upcoming : Grammar → List Item → List Child
 upcoming g xs = children_with_copies false g no_passes 0 (stored_items xs) []
 
--- The pending list of some items' children at a level, from right to left, followed by others.
+-- The items xs that are children (symbols and classes), from right to left at a level, as a pending list, and then the list
+-- `others`.
 abbrev pub pending_items : Grammar → ℕ → List Item → Pending → Pending
 pending_items g level xs others = before_others RightToLeft level (upcoming g xs) others
 
@@ -96,8 +97,8 @@ pub record IsAt (g : Grammar) (content : List ℕ) (progress : Progress) (todo :
   pub arrival : ArrivesAt (old_file g) content progress.at todo
   pub counted : progress.records ≡ length arrival.bodies
 
--- The trees of the items xs, whose roots are at a level, were to be read next, and then any others. If the reader's
--- progress was right so far, the fault f, which ended the conversion, is true of the content.
+-- The trees of the items xs, whose roots are at a level, were to be read next, and then any others. If the reader was there
+-- (`IsAt`), the fault f, with which the conversion failed, is true of the content.
 abbrev pub IsUnconverted : Grammar → List ℕ → List Item → (level : ℕ) → Progress → RunFault → Type 0
 IsUnconverted g content xs level progress f = (others : Pending) → IsAt g content progress (pending_items g level xs others)
     → IsUpgradeFault g content f
@@ -125,7 +126,8 @@ pub record HasTaken (g : Grammar) (x : Item) (level : ℕ) (honest : Bool) (cont
 
 -- The trees of the last items `xs` of a right side, whose roots are at a level, were converted from right to left: their records
 -- were read, and those of version 2 were written. The trees of the items before them (`prefix`) are still to be read. The texts
--- are those of the tokens among the last items, the last one first.
+-- are those of the tokens among the last items, the last one first. `before` and `after` are the reader's progress before and
+-- after this; `out_old` and `out_new` are the contents of the second device, which is `honest` or not.
 pub record Converted (g : Grammar) (content : List ℕ) (prefix xs : List Item) (level : ℕ) (before after : Progress)
     (honest : Bool) (out_old out_new : List ℕ) (texts : List Value) : Type 0 where
   pub trees : Forest
@@ -139,7 +141,7 @@ pub record Converted (g : Grammar) (content : List ℕ) (prefix xs : List Item) 
       (out_new ≡ out_old ++ flat_map frame (postfix_all RightToLeft (first_bodies_all version_two trees)))
   pub texts_are : texts ≡ reverse (leaf_texts trees)
 
--- The text of a token; none for a node.
+-- The list with the text of a token; the empty list for a node and a literal (None).
 abbrev pub text_list : Option Value → List Value
 text_list None = []
 text_list (Some v) = v ∷ []

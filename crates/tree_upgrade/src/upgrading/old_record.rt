@@ -20,9 +20,10 @@ pub(crate) enum OldRecord {
 
 /// Reads a body as the record of an item.
 ///
-/// Fails with `Damaged` if the body is not a record of the item: for a symbol, the number of one of its
-/// productions with nothing after it; for a class, one of its tokens. A literal has no record. Fails
-/// with `NoMemory` if memory cannot be allocated.
+/// Fails with `Damaged` if the body is not a record of the item. The record of a symbol has the
+/// number of one of the symbol's productions, and nothing after it. The record of a class is that
+/// of a token of the class. A literal has no record. Fails with `NoMemory` if memory cannot be
+/// allocated.
 pub(crate) fn old_record(
     alloc: Global,
     grammar: &Grammar,

@@ -23,7 +23,8 @@ content_of device = (replay device.events).stored ++ device.buffered
 abbrev pub is_honest_of : {F : Type 0} → FileDeviceState F → Bool
 is_honest_of device = (replay device.events).is_honest
 
--- The bytes that the file has taken, if they are known, and then the bytes that are not written yet.
+-- The bytes that the file has taken, and then the bytes that are not written yet. `contents` gives the bytes of a file, or None
+-- if contracts can't name them; then the result is None too.
 abbrev pub taken : {F : Type 0} → (F → Option (List ℕ)) → FileDeviceState F → Option (List ℕ)
 taken contents device = append_known (contents device.file) device.buffered
 

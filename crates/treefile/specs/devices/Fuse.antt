@@ -2,8 +2,8 @@
 use Rattle.std.specs.Prelude.{◌≡◌, ◌≢◌, ℕ, ◌+◌, ◌-◌, min, Bool}
 use Rattle.treefile.specs.devices.Device.{HasRisen, Persists, max_failures}
 
--- the device that gets the calls, the number of calls up to the one that fails (1: the next; 0: there is
--- none), and the number of failed calls that the device did not get
+-- the device that gets the calls (`inner`), the number of calls up to the one that fails (1: the next; 0: there is none), and the
+-- number of failed calls that `inner` did not get
 pub record Fuse (D : Type 0) : Type 0 where
   pub inner : D
   pub left : ℕ

@@ -15,7 +15,7 @@ pass_of content = from_be_bytes w16 (slice_range content 4 header_bytes)
 abbrev pub pass_in : Version → List ℕ → Result ℕ FrameFault
 pass_in version content = if is_tree_file version content then Ok (pass_of content) else Err NotATreeFile
 
--- the offset where the frame of this body begins, if it ends at `at`; the frame before it ends there
+-- The offset at which the frame of this body begins, if that frame ends at `at`. The frame before it ends at this offset.
 abbrev pub before_frame : ℕ → List ℕ → ℕ
 before_frame at body = at - length_bytes - length body
 

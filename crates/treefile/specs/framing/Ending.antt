@@ -51,8 +51,8 @@ pub record IsBodyBefore (version : Version) (content : List ℕ) (at : ℕ) (bod
 abbrev pub IsBytes : List ℕ → Type 0
 IsBytes bytes = (i : ℕ) → slice_index bytes i < 256
 
--- A content begins as a tree file of a version: it has room for a header, and its first bytes are those of the version. What
--- follows the header is not looked at.
+-- A content begins as a tree file of a version: it has room for a header, and its first bytes are the version's magic. The bytes
+-- after the header don't matter.
 unfoldable pub is_tree_file : Version → List ℕ → Bool
 is_tree_file version content = nat_le header_bytes (length content) && starts_with nat_eq content version.magic
 
@@ -81,8 +81,8 @@ unfoldable pub last_body_of : Version → List ℕ → Result (List ℕ) FrameFa
 last_body_of version content =
     if is_tree_file version content then body_before version content (length content) else Err NotATreeFile
 
--- The result of a call agrees with the result of reading the content, unless the device failed or memory was
--- refused.
+-- The result of a call agrees with the result of reading the content, unless the device failed or memory was refused. `view`
+-- gives the part of the call's result that is compared.
 abbrev pub ReadsAs : {X Y : Type 0} → (X → Y) → Result X FrameFault → Result Y FrameFault → Type 0
 ReadsAs view (Ok x) read = read ≡ Ok (view x)
 ReadsAs view (Err NotATreeFile) read = read ≡ Err NotATreeFile

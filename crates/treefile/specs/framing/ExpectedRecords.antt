@@ -1,7 +1,7 @@
--- Reading a tree file from its end to its header: the records that are still expected, of the items whose
--- trees were not read yet. The letters are those of `Records.antt`; d is a direction, e gives the values of a node's attributes,
--- x is an item or a child, and xs and ys are lists of these; in `IsRecordOf` x is also the text of a token, and in `Expects`,
--- `AreThere` and `Breaks` a child with its level. All of this is this project's.
+-- Reading a tree file from its end to its header: the records that are still expected, of the items whose trees were not read
+-- yet. The letters are those of `Records.antt`. Also, d is a direction, e gives the values of a node's attributes, x is an item
+-- or a child, and xs and ys are lists of these. In `IsRecordOf` x is also the text of a token, and in `Expects`, `AreThere` and
+-- `Breaks` x is a child with its level. All of this is this project's.
 use Rattle.std.specs.Prelude.{ℕ, suc, ◌≡◌, ◌+◌, ◌-◌, ◌<◌, ◌≤◌, ◌⊎◌, Bool, true, false, List, [], ◌∷◌, ◌++◌, All, length, take}
 use Rattle.std.specs.Prelude.{drop, Option, Some, None, Result, Ok, Err, refl}
 use Rattle.std.proofs.Common.{inl, inr, lit<}
@@ -80,7 +80,7 @@ IsNoRecord version g m k x body = (ys : List Child) → IsRecordOf version g m k
 abbrev pub Pending : Type 0
 Pending = List (ℕ × Child)
 
--- Some members of a right side in a direction, each with a level, before others that are expected.
+-- Some members of a right side in a direction, each with the level `level`, before others that are expected.
 abbrev pub before_others : {X : Type 0} → Direction → ℕ → List X → List (ℕ × X) → List (ℕ × X)
 before_others d level [] others = others
 before_others LeftToRight level (x ∷ xs) others = (level, x) ∷ before_others LeftToRight level xs others

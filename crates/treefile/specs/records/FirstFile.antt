@@ -1,5 +1,5 @@
 -- The file of pass 0 of a tree, in which no attribute but the `lex` of tokens has a value: it determines only the tree. The
--- letters are those of `Records.antt`. All of this is this project's.
+-- letters are those of `Records.antt`, but x is the text of a token, and us are trees too. All of this is this project's.
 use Rattle.std.specs.Prelude.{ℕ, ◌≤◌, List, [], ◌∷◌}
 use Rattle.ag_value.specs.declared.value.Value.{Value, Text}
 use Rattle.ag_grammar.specs.Lists.{Each}

@@ -1,6 +1,7 @@
 -- The records of a tree's nodes, and the file of a tree after a pass. In these definitions g is a grammar, m has the passes of
--- its attributes, k is the number of a pass, s a symbol, p the number of a production and q the production itself, c a class, t
--- a tree, and v its values. All of this is this project's.
+-- its attributes, k is the number of a pass, s a symbol, p the number of a production and q the production itself, c a class, t a
+-- tree, and v its values. For the children of a node, ts are trees and vs their values. An item is x, and xs are items. All of
+-- this is this project's.
 use Rattle.std.specs.Prelude.{◌≡◌, ℕ, suc, ◌+◌, ◌≤◌, nat_le, Bool, true, false, List, [], ◌∷◌, ◌++◌, Option, Some, None}
 use Rattle.std.specs.Prelude.{slice_get, length, take, if◌then◌else◌}
 use Rattle.ag_value.specs.declared.value.Value.{Value, Text}
@@ -18,17 +19,19 @@ use Rattle.treefile.specs.declared.body.Kind.TheVariants.{Node, Token}
 use Rattle.treefile.specs.records.Orders.{BodyTree, BodyForest, branch, none, more, postfix}
 use Rattle.treefile.specs.records.TreeFile.{Version, body_of, file}
 
--- of k, all passes and all values of a symbol's attributes: the values of those whose pass is at most k, in declared order
+-- the values of those attributes of a symbol whose pass is at most k, in declared order, from the passes and the values of all of
+-- its attributes
 abbrev pub values_up_to : ℕ → List ℕ → (ℕ → Value) → List Value
 values_up_to k [] values = []
 values_up_to k (pass ∷ passes) values =
     (if nat_le pass k then values 0 ∷ [] else []) ++ values_up_to k passes (λ a. values (suc a))
 
--- the number of a symbol's synthesized attributes, which are numbered before the inherited ones; below it their passes
+-- the number of a symbol's synthesized attributes, which are numbered before the inherited ones
 abbrev pub synthesized_count : Option Symbol → ℕ
 synthesized_count None = 0
 synthesized_count (Some s) = length s.syn
 
+-- the passes of a symbol's synthesized attributes
 abbrev pub synthesized_passes : Grammar → Passes → ℕ → List ℕ
 synthesized_passes g m s = take (synthesized_count (slice_get g.symbols s)) (m s)
 
