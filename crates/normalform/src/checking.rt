@@ -182,22 +182,10 @@ fn first_fault(alloc: Global, raw: &RawGrammar) -> Result<Option<Found>, NoMemor
     ensures { IfOk result (λ found. IsFound raw.now found) }
 {
     let declared = Declared::new(alloc, raw.symbols.as_slice())?;
-    first_fault_of(alloc, raw, &declared)
-}
-
-/// Returns the first fault of a raw grammar with these declared symbols, if there is one.
-fn first_fault_of(
-    alloc: Global,
-    raw: &RawGrammar,
-    declared: &Declared<'_>,
-) -> Result<Option<Found>, NoMemory>
-    requires { declared.now ≡ map symbol_of raw.now.symbols }
-    ensures { IfOk result (λ found. IsFound raw.now found) }
-{
-    match naming_fault(alloc, raw, declared)? {
-        Some(fault) => Ok(Some(Found::Fault(fault))),
-        None => structure_fault(alloc, raw, declared),
+    if let Some(fault) = naming_fault(alloc, raw, &declared)? {
+        return Ok(Some(Found::Fault(fault)));
     }
+    structure_fault(alloc, raw, &declared)
 }
 
 /// Returns the number of the start symbol, and the numbered productions. Moves the expressions of
@@ -275,9 +263,8 @@ pub fn check(alloc: Global, raw: RawGrammar) -> Result<Grammar, NormalFault>
     ensures in_order { IfOk result (λ g. IsInOrder g) }
     ensures refused { IfErr result (λ fault. IsTrueOf raw fault) }
 {
-    match first_fault(alloc, &raw) {
-        Ok(None) => Ok(number(alloc, raw)?),
-        Ok(Some(found)) => Err(refusal(found, raw)),
-        Err(refused) => Err(NormalFault::from(refused)),
+    match first_fault(alloc, &raw)? {
+        None => Ok(number(alloc, raw)?),
+        Some(found) => Err(refusal(found, raw)),
     }
 }

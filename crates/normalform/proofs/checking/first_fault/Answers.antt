@@ -1,7 +1,7 @@
--- The remaining goals of `first_fault_of`.
+-- The remaining goals of `first_fault`.
 use Rattle.std.proofs.Common.{sym, ◌∙◌}
 use Rattle.normalform.specs.faults.Faults.{in_names}
-use Rattle.normalform.proofs.checking.first_fault_of.Goals as goal
+use Rattle.normalform.proofs.checking.first_fault.Goals as goal
 
 pub returns-in-Some : goal.returns-in-Some
 returns-in-Some c = in_names (sym c.in_ok-fault.ensures ∙ c.in-Some.is)
