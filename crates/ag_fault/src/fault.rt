@@ -55,8 +55,8 @@ pub enum Fault {
     NoText(Value),
     /// B1: a device does not contain a tree file.
     NotATreeFile,
-    /// B2: no frame ends at this offset (in bytes from 0), or the frame that ends there is not that
-    /// of the expected record. At the end of the last tree file, the root's record is expected.
+    /// B2: no record ends at this offset (in bytes from 0), or not the expected one. At the end of
+    /// the last tree file, the root's record is expected.
     Damaged(u64),
     /// D1: a call of a device failed.
     Device,

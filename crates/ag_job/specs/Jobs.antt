@@ -44,8 +44,8 @@ pub record IsJob (bytes text sentence : List ℕ) : Type 0 where
 abbrev pub HasNoSeparator : List ℕ → Type 0
 HasNoSeparator bytes = (text sentence : List ℕ) → IsCut bytes text sentence → ⊥
 
--- If the bytes of the reader are known, they are at most `max_job_bytes` without a line `%%` after J1, and more after J3. J2 and
--- NoMemory claim nothing about the bytes.
+-- What a fault says of the bytes of the reader, if they are known. J1: there are at most `max_job_bytes` of them, and no line is
+-- exactly `%%`. J3: there are more than `max_job_bytes`. J2 and NoMemory say nothing of the bytes.
 abbrev pub IsJobFault : Option (List ℕ) → JobFault → Type 0
 IsJobFault known fault.NoSeparator = IfSome known (λ bytes. (length bytes ≤ max_job_bytes) × HasNoSeparator bytes)
 IsJobFault known fault.Read = Unit {0}

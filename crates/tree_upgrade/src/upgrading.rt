@@ -54,9 +54,9 @@ impl Upgrading {
     /// Reads the record of a subtree's root. The record's frame should end where the frame that was
     /// read last begins, or at the end of the file if none was read. Requires an item that is a
     /// child: a symbol or a class. Fails with P2 if the root's level exceeds `MAX_REVERSED_LEVELS`,
-    /// and with P3 if `MAX_REVERSED_RECORDS` records were read already. Fails with R1 and the
-    /// offset at which the record's frame should end if no frame ends there, or one whose body is
-    /// not a record of the item. Fails with D1 if the device fails, and with `NoMemory` if memory
+    /// and with P3 if `MAX_REVERSED_RECORDS` records were read already. Fails with R1 if no
+    /// frame ends at the expected offset, or one whose body is not a record of the item. R1 has this
+    /// offset. Fails with D1 if the device fails, and with `NoMemory` if memory
     /// cannot be allocated.
     fn record<D: Device>(
         &mut self,
@@ -283,9 +283,10 @@ fn stored_among(items: &[Item]) -> u32
 /// does not, the call may also fail with R1 and an offset in that device's content, or with P2. After a
 /// failure the second and the third device each have their old content, or a prefix of a tree file.
 ///
-/// Allocates memory for a buffer of 4,096 bytes or of the largest frame, for one frame at a time,
-/// and for the texts of the tokens among the children of each node on the path from the root. While
-/// the intermediate file is reversed, allocates memory for a body at each level of the tree.
+/// Allocates memory for a buffer that is read (4,096 bytes or the largest frame), for the frame that
+/// is written, and for the texts of the tokens among the children of each node on the path from the
+/// root. While the intermediate file is reversed, allocates memory for a body at each level of the
+/// tree.
 pub fn upgrade<D: Device, E: Device, F: Device>(
     alloc: Global,
     grammar: &Grammar,
