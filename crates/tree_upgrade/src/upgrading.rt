@@ -54,10 +54,9 @@ impl Upgrading {
     /// Reads the record of a subtree's root. The record's frame should end where the frame that was
     /// read last begins, or at the end of the file if none was read. Requires an item that is a
     /// child: a symbol or a class. Fails with P2 if the root's level exceeds `MAX_REVERSED_LEVELS`,
-    /// and with P3 if `MAX_REVERSED_RECORDS` records were read already. Fails with R1 if no
-    /// frame ends at the expected offset, or one whose body is not a record of the item. R1 has this
-    /// offset. Fails with D1 if the device fails, and with `NoMemory` if memory
-    /// cannot be allocated.
+    /// and with P3 if `MAX_REVERSED_RECORDS` records were read already. Fails with R1 if no frame
+    /// ends at the expected offset, or one whose body is not a record of the item. R1 has this
+    /// offset. Fails with D1 if the device fails, and with `NoMemory` if memory cannot be allocated.
     fn record<D: Device>(
         &mut self,
         grammar: &Grammar,

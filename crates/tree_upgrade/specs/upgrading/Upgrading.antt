@@ -85,8 +85,8 @@ body_in (old.Token d v) = body_of Token d (v ∷ [])
 abbrev pub upcoming : Grammar → List Item → List Child
 upcoming g xs = children_with_copies false g no_passes 0 (stored_items xs) []
 
--- The pending list that begins with the children of a right side (the symbols and classes among the items xs), from right to left,
--- each with the level `level`, and ends with the list `others`.
+-- The pending list that begins with the children of a right side (the symbols and classes among the items xs), from right to
+-- left, each with the level `level`, and ends with the list `others`.
 abbrev pub pending_items : Grammar → ℕ → List Item → Pending → Pending
 pending_items g level xs others = before_others RightToLeft level (upcoming g xs) others
 
@@ -97,8 +97,8 @@ pub record IsAt (g : Grammar) (content : List ℕ) (progress : Progress) (todo :
   pub arrival : ArrivesAt (old_file g) content progress.at todo
   pub counted : progress.records ≡ length arrival.bodies
 
--- The fault f is true of the content if the reader, before it failed, expected the children among the items xs at the level `level`
--- and after them any list of others (`IsAt`).
+-- The fault f is true of the content if the reader, before it failed, expected the children among the items xs at the level
+-- `level`, and after them any list of others (`IsAt`).
 abbrev pub IsUnconverted : Grammar → List ℕ → List Item → (level : ℕ) → Progress → RunFault → Type 0
 IsUnconverted g content xs level progress f = (others : Pending) → IsAt g content progress (pending_items g level xs others)
     → IsUpgradeFault g content f
