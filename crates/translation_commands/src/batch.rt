@@ -106,10 +106,10 @@ fn check_overlaps<R: Files>(
         check_work(rt, alloc, paths, outputs, folder)?;
     }
     check_outputs(rt, alloc, paths.sentences.as_slice(), outputs)?;
-    match paths.grammar {
-        InputPath::File(path) => check_outputs(rt, alloc, &[path], outputs),
-        InputPath::Standard => Ok(()),
+    for output in outputs {
+        check_output(rt, alloc, output.as_str(), &[paths.grammar], None)?;
     }
+    Ok(())
 }
 
 /// Fails if an input, or a translation's file, is one of the tree files in `folder`, and if memory
