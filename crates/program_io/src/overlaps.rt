@@ -75,8 +75,8 @@ pub fn check_output<R: Files>(
     }
 }
 
-/// Fails if one of the translations' files, `outputs`, is one of the inputs, and if memory is
-/// refused. Both are paths. Does not compare the outputs with work files: `check_output` does.
+/// Fails if one of the files at the paths `outputs` is one of those at the paths `inputs`, and if
+/// memory is refused. Does not compare the outputs with work files: `check_output` does.
 pub fn check_outputs<R: Files>(
     rt: &R,
     alloc: Global,

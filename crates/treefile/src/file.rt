@@ -101,8 +101,8 @@ impl<F> FileDevice<F> {
 }
 
 impl<F: Read + Write + Seek + OpenFile> FileDevice<F> {
-    /// Converts the result of a write to the file. Fails with `Failed` if the write failed; that is
-    /// counted, and breaks the device: every later call fails.
+    /// Converts the result of a write to the file. Fails with `Failed` if the write failed. The
+    /// failure is counted and breaks the device: every later call but `lend_before` fails.
     fn check_write(&mut self, written: io::Result<()>) -> Result<(), DeviceFault>
         ensures ok { OnOk written ((result ≡ Ok tt) × (self.new ≡ self.old)) }
         ensures err { OnErr written (IsErrOf result DeviceFault.Failed) }

@@ -109,9 +109,9 @@ impl Device for SharedDevice {
 /// The type `Body` is any borrowed part of shared bytes, and only the result is the body of a
 /// frame. `frame` has all bytes before offset `at`, also those before the frame. `last` has the
 /// last four of them, and `rest` the others. A *splice* is the encoding of a shared value. `cut`
-/// splits a part at an offset; its second argument is the number of splices before the offset. The
-/// first two cuts have the same number, since a writer never shares the four bytes of a frame's
-/// length.
+/// splits a part at an offset; its second argument is the number of splices before the offset. For
+/// the first two cuts, at the end and at the beginning of the four bytes of the length, this number
+/// is the same, since these bytes contain no splice.
 #[inline(never)]
 fn body_before(bytes: &SharedBytes, at: u64) -> Option<Body<'_>>
     ensures body { IfSome result (λ body. body_before version_two bytes.now at ≡ Ok body) }

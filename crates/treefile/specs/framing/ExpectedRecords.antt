@@ -86,7 +86,7 @@ before_others d level [] others = others
 before_others LeftToRight level (x ∷ xs) others = (level, x) ∷ before_others LeftToRight level xs others
 before_others RightToLeft level (x ∷ xs) others = before_others RightToLeft level xs ((level, x) ∷ others)
 
--- The members of a right side that a direction visits after the first i of them, from left to right.
+-- The members of a right side that a direction visits after it has visited i of them. They are listed from left to right.
 abbrev pub remaining_of : {X : Type 0} → Direction → List X → ℕ → List X
 remaining_of LeftToRight xs i = drop i xs
 remaining_of RightToLeft xs i = take (length xs - i) xs

@@ -21,8 +21,8 @@ AreFromOne m = (s : ℕ) → Each (λ k. 1 ≤ k) (m s)
 abbrev pub no_passes : Passes
 no_passes s = []
 
--- The content is the file of pass 0 of a tree, for all passes from 1 on and all values that give each leaf
--- its text.
+-- The content is the file of pass 0 of a tree, by each assignment in which all passes are from 1 on, and with all values that
+-- give each leaf its text.
 abbrev pub IsFirstFile : Version → Grammar → Tree → List ℕ → Type 0
 IsFirstFile version g t content = (m : Passes) (v : Valuation) → AreFromOne m → Solves NoRule g t v
     → IsFileOfTree version g m 0 t v content
