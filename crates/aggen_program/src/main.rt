@@ -3,12 +3,13 @@
 //! `run G S` translates the sentence in a file by the grammar in a file, and prints the
 //! translation; `eval G TREE` translates the tree in a tree file. Without arguments the program
 //! translates the job on standard input. `check G` checks a grammar, and prints its numbers of
-//! symbols and productions; `plan G` and `code G` print its passes and what they do; `why G` prints
-//! why the passes are needed, and `why G SYMBOL.attribute` why no earlier pass can compute the
-//! attribute; `parse G S TREE` parses a sentence, and writes its tree's file; `upgrade G OLD TREE`
-//! converts a tree file of version 1 to version 2; `show G TREE` prints the tree in a tree file,
-//! and `explain G TREE` where its values come from; `value EXPR` evaluates an expression, writes
-//! its value to a tree file in memory, and prints the value that it reads back.
+//! symbols and productions; `plan G` prints its passes, and `code G` their instructions; `why G`
+//! prints why the passes are needed, and `why G SYMBOL.attribute` why no earlier pass can compute
+//! the attribute; `parse G S TREE` parses a sentence, and writes its tree's file;
+//! `upgrade G OLD TREE` converts a tree file of version 1 to version 2; `show G TREE` prints the
+//! tree in a tree file, and `explain G TREE` how values of a node were computed; `value EXPR`
+//! evaluates an expression, writes its value to a tree file in memory, and prints the value that it
+//! reads back.
 #![tactic(auto)]
 
 ghost use Rattle.aggen.specs.Status.{IsCommandFault};
@@ -50,8 +51,8 @@ fn main(rt: HostRuntime) -> ExitCode {
 }
 
 /// Runs the command of the command line, and returns the status. `is_terminal` says whether
-/// standard error is a terminal. If parsing the command line fails, the message is printed without
-/// colour (`Screen::plain`).
+/// standard error is a terminal. If the command line can't be read or parsed, messages are printed
+/// without colour (`Screen::plain`).
 fn exit_code<R: Env + Files + Input + Print + Eprint + Clock + AllocGlobal>(
     rt: &R,
     is_terminal: bool,
@@ -69,7 +70,7 @@ fn exit_code<R: Env + Files + Input + Print + Eprint + Clock + AllocGlobal>(
                 Err(report) => fail(rt, alloc, screen, &report),
             }
         }
-        // what is wrong with the words was printed
+        // `from_words` has printed what is wrong with the words
         Err(CommandLineFault::Usage) => ExitCode::from(status(&Fault::Usage)),
         Err(fault) => fail(
             rt,
@@ -80,7 +81,7 @@ fn exit_code<R: Env + Files + Input + Print + Eprint + Clock + AllocGlobal>(
     }
 }
 
-/// Prints the message of a failure, and returns its status.
+/// Prints the message of a failure (`Screen::print`), and returns the status of its fault.
 fn fail<R: Eprint>(rt: &R, alloc: Global, screen: Screen, report: &FaultReport) -> ExitCode {
     screen.print(rt, alloc, report);
     ExitCode::from(status(&report.fault))
@@ -98,8 +99,8 @@ fn fault_of(fault: CommandLineFault) -> Fault
 }
 
 /// Runs the command of a request. Returns the status 0, except for `run` with `--out-dir`: if
-/// sentences failed, this prints their messages, and returns the status of the first one. On any
-/// other failure returns its report.
+/// sentences failed, this prints their messages, and returns the status of the first that failed.
+/// On any other failure returns the report of the failure.
 fn perform<R: Files + Input + Print + Eprint + Clock>(
     rt: &R,
     alloc: Global,

@@ -15,8 +15,8 @@ use std::alloc::Global;
 use std::io::{self, Write};
 use std::rt::Files;
 
-/// Prints why a grammar needs its passes or, if an attribute is named, why no pass before that of
-/// the attribute can compute it. If no assignment of passes is legal, prints why, and fails with
+/// Prints why a grammar needs its passes or, if an attribute is named, why no pass earlier than the
+/// attribute's pass can compute it. If no assignment of passes is legal, prints why, and fails with
 /// A1.
 ///
 /// Also fails if the grammar can't be read or is refused, if it does not have the attribute
@@ -72,7 +72,7 @@ fn report_of_name(
     report.or_bare(written)
 }
 
-/// Returns the explanation of a plan, or of the pass of an attribute.
+/// Returns the explanation of a plan or, if an attribute is given, of the pass of this attribute.
 fn text_of_plan(
     alloc: Global,
     source: Source<'_>,
@@ -93,7 +93,7 @@ fn text_of_plan(
 }
 
 /// Returns why no pass computes some attributes of a grammar or, if an attribute is given, why no
-/// pass computes this one. If it is not one of those attributes, the text says that.
+/// pass computes this one. If the given attribute is not in `stuck.stuck.set`, the text says so.
 fn text_of_stuck(
     alloc: Global,
     source: Source<'_>,

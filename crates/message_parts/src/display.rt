@@ -14,8 +14,7 @@ pub const MAX_NAMED: usize = 12;
 const MAX_SHOWN: usize = 24;
 
 /// A number that prints in groups of three digits, as in `1,048,576`. It prints with at most two
-/// commas: above 999,999,999 the first group has more than three
-/// digits.
+/// commas: above 999,999,999 the first group has more than three digits.
 #[derive(Clone, Copy)]
 pub struct GroupedNumber(pub usize);
 
@@ -53,7 +52,7 @@ impl fmt::Display for PlainText<'_> {
 }
 
 /// The text of a literal, which prints as a grammar writes it: in quotes, with a backslash before
-/// each quote and each backslash. Otherwise it prints as by `PlainText`.
+/// each quote and each backslash. The other characters print as by `PlainText`.
 #[derive(Clone, Copy)]
 pub struct QuotedText<'a>(pub &'a str);
 
@@ -72,7 +71,7 @@ impl fmt::Display for QuotedText<'_> {
 
 /// What was found, such as a token or a value. It prints in backquotes, as by `PlainText`. If it
 /// has more than `MAX_SHOWN` characters, only the first `MAX_SHOWN` print, and `..` after them.
-/// None means that the text ended there, and prints as `END`.
+/// None means that the text ended there, and prints as `END`, without backquotes.
 #[derive(Clone, Copy)]
 pub struct FoundText<'a>(pub Option<&'a str>);
 

@@ -83,9 +83,9 @@ fn attribute_number(symbol: &Symbol, name: &str) -> Option<u16>
 }
 
 impl NameFault<'_> {
-    /// Writes the fault of `name` into a message. For `NoSymbol` it also writes the names of the
-    /// grammar's symbols (at most `MAX_NAMED`), and for `NoAttribute` those of the symbol's
-    /// attributes. Fails if memory is refused.
+    /// Appends the fault of the text `name` to the part `found`. For `NoSymbol` it also appends the
+    /// names of the grammar's symbols (at most `MAX_NAMED`), and for `NoAttribute` those of the
+    /// symbol's attributes. Fails if memory is refused.
     pub fn describe(
         &self,
         parts: &mut Parts,

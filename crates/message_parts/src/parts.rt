@@ -1,4 +1,4 @@
-//! The parts of a message, and the location that it is about.
+//! The parts of a message, and the location of the fault that the message is about.
 
 use crate::display::GroupedNumber;
 use crate::position::Position;
@@ -13,8 +13,8 @@ pub enum Location {
     /// The fault itself prints an offset or names after its number, or the location is not known.
     /// The message prints no position, and a colon and a space before the first part.
     InFault,
-    /// At a line and a column. The message prints them, with the name of the file if it has one,
-    /// and a colon and a space before the first part.
+    /// At a line and a column. The message prints them, with the name of the file if the message
+    /// has this name, and a colon and a space before the first part.
     At(Position),
 }
 

@@ -16,7 +16,8 @@ pub struct Position {
 
 impl Position {
     /// Returns the position in a text of an offset in bytes. For an offset inside of a character
-    /// this is the position of the next character, and for one beyond the text that of its end.
+    /// this is the position of the next character, and for an offset beyond the text it is the
+    /// position of the text's end.
     pub fn of(text: &str, at: usize) -> Position {
         let mut line = 1usize;
         let mut column = 1usize;
@@ -70,7 +71,7 @@ impl<'a> Source<'a> {
 
     /// Returns the grammar and the sentence of a job on standard input. The caller has split the
     /// job at the line `%%`: `grammar` ends with the line break before this line, or is empty, and
-    /// `sentence` comes after this line.
+    /// `sentence` begins in the line after this line.
     pub fn of_job(grammar: &'a [u8], sentence: &'a [u8]) -> (Source<'a>, Source<'a>) {
         let breaks = grammar.iter().filter(|byte| **byte == b'\n').count();
         let grammar = Source::new(STANDARD_INPUT, grammar);
@@ -87,8 +88,9 @@ impl<'a> Source<'a> {
         utf8_prefix(self.bytes)
     }
 
-    /// Returns the position of an offset in bytes, with the line in the file. If the offset is
-    /// beyond the longest prefix that is UTF-8, this is the position of the prefix's end.
+    /// Returns the position of an offset in bytes from the beginning of the text, with the line in
+    /// the file. If the offset is beyond the longest prefix that is UTF-8, this is the position of
+    /// the prefix's end.
     pub fn position(&self, at: usize) -> Position {
         let position = Position::of(self.text(), at);
         Position {
@@ -99,7 +101,8 @@ impl<'a> Source<'a> {
         }
     }
 
-    /// Returns the place of an offset in bytes, which prints with the name of the file.
+    /// Returns the place of an offset in bytes from the beginning of the text. A place prints with
+    /// the name of the file.
     pub fn place(&self, at: usize) -> Place<'a> {
         Place {
             name: self.name,

@@ -110,8 +110,8 @@ fn further_fault(
 
 /// Returns the number of the first symbol that is not productive (N4), if there is one. `clauses`
 /// has the clause of each production: its left side is productive if each symbol of its right side
-/// is. The grammar must have none of N1 to N3. So all these symbols are declared, and their numbers
-/// are below the count of symbols.
+/// is. The grammar must have none of N1 to N3. So each symbol of a production is declared, and its
+/// number is below the count of declared symbols.
 fn unproductive(
     alloc: Global,
     raw: &RawGrammar,
@@ -189,7 +189,8 @@ fn first_fault(alloc: Global, raw: &RawGrammar) -> Result<Option<Found>, NoMemor
 }
 
 /// Returns the number of the start symbol, and the numbered productions. Moves the expressions of
-/// rules into them. Each expression lists its occurrences, and has no unbound name (`listed`).
+/// rules into these productions. Each expression lists its occurrences, and has no unbound name
+/// (`listed`).
 fn number_productions(
     alloc: Global,
     symbols: &[RawSymbol],

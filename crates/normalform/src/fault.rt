@@ -30,8 +30,8 @@ pub enum LimitKind {
 /// this is the order of the text); for N4 and N5 the first declared symbol; for N6 the first by
 /// production, place and attribute; for N10 the first limit. Offsets are in bytes from the
 /// beginning of the text. Place 0 of a production is its left side. The symbols and classes of the
-/// right side have the places from 1 on. The target of a rule is the attribute that it defines, and
-/// its arguments are the attributes that its expression uses.
+/// right side have the places 1, 2 and so on, from left to right. The target of a rule is the
+/// attribute that it defines, and its arguments are the attributes that its expression uses.
 #[derive(Debug, Drop)]
 pub enum NormalFault {
     /// N1: at this offset a production has a symbol that is not declared, or a rule has a target or

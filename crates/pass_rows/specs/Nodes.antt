@@ -1,8 +1,9 @@
--- An open node before and after its instructions. All definitions are this project's.
+-- An open node before and after its instructions. Letters: p is a number, x an open node, and j a place. All definitions are
+-- this project's.
 use Rattle.std.specs.Prelude.{ℕ, ◌+◌}
 use Rattle.pass_rows.specs.declared.open_node.OpenNode.{OpenNode}
 
--- A node of a production whose record was just read, with its row at an index.
+-- A node of the production with number p at its first instruction. Its row begins at index `base`.
 abbrev pub first_at : (production base : ℕ) → OpenNode
 first_at p base = record { production = p; child = 0; place = 0; at = 0; base = base }
 

@@ -1,7 +1,7 @@
 -- The remaining instructions of a node, the visited items of a right side, and the values of a node and of
 -- its children. Letters: c is a setting, q a production, x an item (in `rest_of` an open node), xs are items, j is a place, a an
--- attribute, s a symbol, d a class or a direction, e a table, and f the values of a node. In `stored` and `AgreesSoFar` s is a
--- table too. All definitions are this project's.
+-- attribute, s a symbol, d a class or a direction, e a table, f the values of a node, and k and p are passes. In
+-- `stored` and `AgreesSoFar` s is a table too. All definitions are this project's.
 use Rattle.std.specs.Prelude.{ℕ, suc, ◌≡◌, ◌+◌, ◌-◌, ◌<◌, ◌≤◌, ◌⊎◌, List, [], ◌∷◌, ◌++◌, Some, slice_get, length, take, drop}
 use Rattle.std.specs.List.{flat_map}
 use Rattle.ag_value.specs.declared.value.Value.{Value}
@@ -34,7 +34,7 @@ abbrev pub leftmost : Direction → ℕ → ℕ → ℕ
 leftmost LeftToRight n i = 0
 leftmost RightToLeft n i = n - i
 
--- The values at a node, by place and attribute. Place 0 is the node itself, place j + 1 its child j.
+-- The values at a node, by place and attribute. Place 0 is the node itself, place j + 1 its child j, counted from 0.
 abbrev pub Table : Type 0
 Table = ℕ → ℕ → Value
 
@@ -78,7 +78,7 @@ AgreesSoFar c q n e s = (j a p : ℕ) (x : Item) → slice_get (stored_items q.i
     → slice_get (copied_passes c x) a ≡ Some p → p ≤ c.write → (p < c.write) ⊎ IsReached c q n (suc j) → s (suc j) a ≡ e (suc j) a
 
 -- The valuations of the trees of the first i visited children (of n) give their roots the values in the table. `ws b` is that of
--- the b-th of these children from the left, from 0 on.
+-- the b-th of these children from the left, counted from 0.
 abbrev pub Roots : Direction → ℕ → ℕ → (ℕ → Valuation) → Table → Type 0
 Roots d n i ws e = (b a : ℕ) → b < i → ws b [] a ≡ e (suc (leftmost d n i + b)) a
 

@@ -9,16 +9,16 @@
 //! - *Level*: 1 for the root; a child's level is one more than its parent's.
 //! - *Place*: 0 for the left side of a production, and 1, 2, .. for the children, which are the
 //!   symbols and classes of its right side.
-//! - *Known*: the values that the file of pass k - 1 has, so those of attributes of passes before
-//!   k.
+//! - *Known*: the values that the file of pass k - 1 has: those of attributes of passes before k.
 //! - *Row* of a node, with values of attributes of passes up to k: its own values (synthesized ones
 //!   first), and then the *copies* of its children: the values of their synthesized attributes, or
 //!   a token's text. The row of a token is its text.
 //! - *Slot*: the index of a value, counted from the beginning of a node's row. The row of the child
-//!   whose record was read last comes directly after, so its values have slots too.
-//! - *Layout* of a production: its instructions in pass k, and where the values of its rules are.
-//!   It is a `ProductionRow`, with a `PlaceRow` for each place; the type `Layout` has those of all
-//!   productions, and the hints. These rows are not rows of values.
+//!   whose record was read last comes directly after, so the child's values have slots too.
+//! - *Layout* of a production: its instructions in pass k, the number of values in the row of a
+//!   node and their passes, its places, and the slots of its rules. It is a `ProductionRow`, with a
+//!   `PlaceRow` for each place. These two types are not rows of values. The type `Layout` has the
+//!   layouts of all productions, and the hints.
 //! - *Hint*: the slot of a stored value that may be equal to one that is to be read.
 //! - *Open* node: one that the pass has entered, and whose instructions are not finished.
 #![tactic(auto)]

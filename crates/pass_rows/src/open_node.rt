@@ -20,14 +20,14 @@ pub struct OpenNode {
 }
 
 impl OpenNode {
-    /// Returns the node of a production whose record was just read. Its row begins at index 0.
+    /// Returns a node of this production at its first instruction. Its row begins at index 0.
     pub fn first(production: u16) -> OpenNode
         ensures { result ≡ first_at production 0 }
     {
         OpenNode::begun(production, 0)
     }
 
-    /// Returns the node of a production whose record was just read. Its row begins at index `base`.
+    /// Returns a node of this production at its first instruction. Its row begins at index `base`.
     pub fn begun(production: u16, base: usize) -> OpenNode
         ensures { result ≡ first_at production base }
     {
@@ -40,8 +40,8 @@ impl OpenNode {
         }
     }
 
-    /// Returns the node after its next instruction, which does not enter a child. `child` becomes
-    /// the field of this name.
+    /// Returns the node after its next instruction, which does not enter a child. `child` is the
+    /// new value of the field `child`.
     pub fn after_step(self, child: u16) -> OpenNode
         requires { self.at + 1 < 2 ^ 64 }
         ensures { result ≡ after_step self child }
@@ -55,8 +55,7 @@ impl OpenNode {
         }
     }
 
-    /// Returns the node after its next instruction, by which the pass leaves it for the child at a
-    /// place.
+    /// Returns the node after its next instruction, which enters the child at this place.
     pub fn left_at(self, place: u16) -> OpenNode
         requires { self.at + 1 < 2 ^ 64 }
         ensures { result ≡ left_at self place }

@@ -12,14 +12,15 @@ use treefile::{DeviceFault, FrameFault};
 /// documents what its devices contain after a failure.
 #[derive(Clone, Copy, Debug, PartialEq, Eq)]
 pub enum RunFault {
-    /// R1: the file that was to be read is the file of no tree of the grammar. For pass k, and for all
-    /// passes from k on, that would be a file of pass k - 1; for `upgrade`, a file of version 1 and
-    /// pass 0. The offset in bytes is 0 if the content does not begin as a tree file of the version that
-    /// is read, and 4 if it is the file of another pass. Otherwise it is the end of the frame that shows
-    /// the damage, or the offset at which a frame should end.
+    /// R1: the content that is read is not the file of a tree of the grammar. The expected file is
+    /// one of pass k - 1 if pass k failed, or a run of all passes that begins with pass k. For
+    /// `upgrade` it is one of version 1 and pass 0. The offset in bytes is 0 if the content does
+    /// not begin as a tree file of the expected version, and 4 if it is the file of another pass.
+    /// Otherwise it is the end of the frame that shows the damage, or the offset at which a frame
+    /// should end.
     Damaged(u64),
     /// P2: the file encodes no tree of at most `MAX_DEPTH` levels (`MAX_REVERSED_LEVELS` for
-    /// `upgrade`): the node of the next record would be one level below the limit.
+    /// `upgrade`): the node of the next record would have a greater level.
     TooDeep,
     /// P3: the file encodes no tree of at most `MAX_NODES` nodes (`MAX_REVERSED_RECORDS` for
     /// `upgrade`): that many records were read, and another one is expected.

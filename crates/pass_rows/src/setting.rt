@@ -3,8 +3,8 @@
 use ag_grammar::Grammar;
 use planchecker::Plan;
 
-/// The setting of a pass. Most contracts see it through `pass_setting` (`specs/Settings.antt`), as the
-/// record `Setting` of `passcode`.
+/// The setting of a pass. Contracts use its fields, or convert it with `pass_setting`
+/// (`specs/Settings.antt`) to the record `Setting` of `passcode`.
 #[derive(Clone, Copy)]
 pub struct Setting<'a> {
     pub grammar: &'a Grammar,

@@ -37,7 +37,8 @@ impl<'a> Explanation<'a> {
         source: Source<'a>,
         grammar: &'a Grammar,
     ) -> Result<Explanation<'a>, NoMemory> {
-        // The text of a grammar can be read again, so only refused memory can be the cause.
+        // If the text is that of `grammar`, it can be read, so only refused memory can be the
+        // cause.
         let Ok(raw) = read_grammar(alloc, source.bytes) else {
             return Err(NoMemory::NoMemory);
         };

@@ -5,9 +5,9 @@
 //! an argument of this rule that is the reason. A link is a strike with these parts looked up in
 //! the grammar.
 //!
-//! Each function that writes a text allocates, and fails if memory is refused. Control characters,
-//! white space other than the plain space, and some invisible characters of names are written as
-//! escapes, such as `\u{1b}`.
+//! Each function that writes a text allocates, and fails if memory is refused. In names,
+//! control characters, white space other than the plain space, and some invisible characters are
+//! written as escapes, such as `\u{1b}`.
 #![tactic(auto)]
 
 mod attributes;

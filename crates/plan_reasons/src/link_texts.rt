@@ -1,5 +1,5 @@
-//! The line of a link: what its rule computes, where the rule is, what it uses, and why a pass
-//! can't evaluate it.
+//! The line of a link: the target of the link's rule, the rule's position, the argument, and why a
+//! pass can't evaluate the rule.
 
 use crate::attributes::OccurrenceName;
 use crate::explanation::{Explanation, MAX_LINES, write_others};

@@ -152,9 +152,9 @@ fn append_obstacle(
     Ok(())
 }
 
-/// Returns the links of strikes that are obstacles in passes of a direction, in the order of the
-/// strikes. A link is an obstacle if its argument is at the target's child or at a child that is
-/// visited later, so that its strike waits for no other strike. Fails if memory is refused.
+/// Returns the obstacles in passes of a direction among the links of some strikes, in the order of
+/// the strikes. A link is an obstacle if its argument is at the target's child or at a child that
+/// is visited later, so that its strike waits for no other strike. Fails if memory is refused.
 pub fn obstacles_of(
     alloc: Global,
     grammar: &Grammar,

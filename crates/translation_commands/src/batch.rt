@@ -14,12 +14,13 @@ use std::process::ExitCode;
 use std::rt::{Clock, Files};
 
 /// Translates each sentence, and writes its translation to a file of its own. The grammar is read
-/// once, before the sentences. If a sentence fails, prints a message and continues with the next
-/// one. Returns the status of the first sentence that failed; 0 if none did.
+/// once, before the sentences. If a sentence can't be read or translated, or its translation can't
+/// be written, prints a message and continues with the next sentence. Returns the status of the
+/// first sentence that failed in one of these ways; 0 if none did.
 ///
 /// Fails only before a sentence is read:
 /// - if a translation's file is one of the inputs;
-/// - with `--work`, if an input or a translation's file is one of the tree files there;
+/// - if an input or a translation's file is one of the tree files of `--work`;
 /// - if the folder for the translations is missing or not a folder (F1);
 /// - if the grammar can't be read or is refused;
 /// - if memory is refused.
@@ -94,8 +95,8 @@ fn output_paths(alloc: Global, paths: &BatchPaths<'_>) -> Result<Vec<String>, Al
     Ok(outputs)
 }
 
-/// Fails if one of the translations' files is the grammar or a sentence. With `--work` also fails
-/// if an input or a translation's file is one of the tree files there. Fails if memory is refused.
+/// Fails if one of the translations' files is the grammar or a sentence, if an input or a
+/// translation's file is one of the tree files of `--work`, and if memory is refused.
 fn check_overlaps<R: Files>(
     rt: &R,
     alloc: Global,
@@ -131,7 +132,8 @@ fn check_work<R: Files>(
     Ok(())
 }
 
-/// Fails with F1 if `path` is not a folder, and if memory is refused.
+/// Fails with F1 if `path` is not a folder or can't be examined, and with NoMemory if memory is
+/// refused.
 fn check_folder<R: Files>(rt: &R, alloc: Global, path: &str) -> Result<(), FaultReport> {
     let fault = match fs::metadata(rt, path) {
         Ok(found) if found.is_dir() => return Ok(()),
@@ -169,7 +171,7 @@ fn with_sentence(alloc: Global, mut report: FaultReport, path: &str) -> FaultRep
         return report.with_file(alloc, path);
     }
     if matches!(report.fault, Fault::File | Fault::Device | Fault::Write) {
-        // only for the path, which `with_file` escapes if it has control characters
+        // this report is made only since `with_file` escapes control characters in the path
         let named = FaultReport::new(alloc, Fault::File).with_file(alloc, path);
         if let Some(name) = &named.file {
             let written = write!(report.parts.found, "for the sentence {}", name.as_str());

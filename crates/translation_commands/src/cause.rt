@@ -19,10 +19,11 @@ pub(crate) struct CauseFinder<'a> {
 }
 
 impl CauseFinder<'_> {
-    /// Returns what the message of O1 says of the cause, if the root's `out` is an error. The
-    /// translation's last tree file has to be on `b` if the number of passes is odd, and on `a` if
-    /// it is even. Returns `None` for other faults, and if the cause is not found, the file can't
-    /// be read, or memory is refused.
+    /// Returns what the message of O1 says of the cause, if `fault` is O1 and the root's `out` is
+    /// an error. The translation's last tree file has to be on the device `b` if the number of
+    /// passes is odd, and on the device `a` if it is even. Returns `None` if there is no such
+    /// error, if its cause is not found, if the tree file is damaged, exceeds a limit or can't be
+    /// read, and if memory is refused.
     pub(crate) fn cause_of<D: Device>(
         self,
         alloc: Global,

@@ -144,8 +144,8 @@ impl<R: Files + Input + Print + Eprint + Clock> EvaluationRun<'_, R> {
     }
 
     /// Translates the tree on a device with the tree files of the passes in a folder, without
-    /// showing the progress, and writes the translation. Fails with F1 if a tree file can't be
-    /// opened.
+    /// showing the progress, and writes the translation. Fails as `WorkFiles::open` and
+    /// `WorkFiles::evaluate` do.
     fn run_in<T: Device, W: Write>(
         &self,
         folder: &str,
@@ -199,8 +199,8 @@ impl<R: Files + Input + Print + Eprint + Clock> EvaluationRun<'_, R> {
     }
 
     /// Translates the tree on a device to `text` with the tree files of the passes in a folder, and
-    /// shows the progress. Fails with F1 if a tree file can't be opened, and as `finish` does,
-    /// whether the translation succeeded or not.
+    /// shows the progress. Fails as `WorkFiles::open`, `finish` and `evaluate_on` do. If both
+    /// `finish` and `evaluate_on` fail, fails with the fault of `finish`.
     fn run_shown_in<T: Device>(
         &self,
         folder: &str,
@@ -232,10 +232,10 @@ impl<R: Files + Input + Print + Eprint + Clock> EvaluationRun<'_, R> {
         )
     }
 
-    /// Returns the report of a fault. With `--work` the report names the folder in two cases. One
-    /// is F1: the file of `tree` was opened before, so a tree file in the folder failed. The other
-    /// is D1, if `tree` can still return its length. In all other cases it is the report of
-    /// `FaultReport::of_tree`, which names the file of `tree` after D1, R1, P2 and P3.
+    /// Returns the report of a fault. With `--work` the report names the folder after F1, since the
+    /// file of `tree` was opened before, and after D1 if `tree` can still return its length. In all
+    /// other cases, and without `--work`, returns the report of `FaultReport::of_tree`, which names
+    /// the file of `tree` after D1, R1, P2 and P3.
     fn report_of<T: Device>(&self, fault: Fault, tree: &mut T) -> FaultReport {
         let is_of_folder = match fault {
             Fault::File => true,
@@ -252,8 +252,8 @@ impl<R: Files + Input + Print + Eprint + Clock> EvaluationRun<'_, R> {
     }
 
     /// Returns what the message says of the cause, if the fault is O1 and the root's `out` is an
-    /// error. Finding the cause needs the file of the last pass, and the device with this file has
-    /// been dropped. So this translates the tree once more, with the tree files in memory.
+    /// error. Finding the cause needs the file of the last pass, but the two devices of the passes
+    /// have been dropped. So this translates the tree once more, with the tree files in memory.
     /// Returns `None` if no cause is found.
     fn cause_of<T: Device>(&self, fault: &Fault, tree: &mut T) -> Option<String> {
         if !matches!(fault, Fault::NoText(Value::Fault(_))) {

@@ -94,7 +94,7 @@ fn translate_job<R: Files + Print + Eprint + Clock>(
     translating.run(sentence, &mut io::writer(rt))
 }
 
-/// What a run of a translator needs besides the sentence.
+/// What a run of a translator needs besides the sentence and the output.
 #[derive(Drop)]
 pub struct TranslationRun<'a, R> {
     /// The runtime.
@@ -181,8 +181,8 @@ impl<R: Files + Print + Eprint + Clock> TranslationRun<'_, R> {
         }
     }
 
-    /// Returns the report of a fault. After F1 and D1 with `--work` it names the folder of the tree
-    /// files. Otherwise it is the report of `report_of_sentence`.
+    /// Returns the report of a fault. With `--work`, the report names the folder of the tree files
+    /// after F1 and D1. In all other cases returns the report of `report_of_sentence`.
     fn report_of(&self, fault: Fault, sentence: Source<'_>) -> FaultReport {
         match (fault, self.work) {
             (fault @ (Fault::File | Fault::Device), Some(folder)) => {
@@ -244,7 +244,8 @@ impl<R: Files + Print + Eprint + Clock> TranslationRun<'_, R> {
     }
 
     /// Translates a sentence with the tree files in a folder, without showing the progress, and
-    /// writes the translation to `out`. The fault is F1 if a tree file can't be opened.
+    /// writes the translation to `out`. The fault, if there is one, is that of `WorkFiles::open` or
+    /// of `WorkFiles::translate`.
     fn run_in<W: Write>(&self, folder: &str, sentence: Source<'_>, out: &mut W) -> Outcome {
         match self.open_work(folder) {
             Ok(mut files) => {
@@ -280,7 +281,8 @@ impl<R: Files + Print + Eprint + Clock> TranslationRun<'_, R> {
     }
 
     /// Translates a sentence to `text` with the tree files in a folder, and shows the progress.
-    /// The fault is F1 if a tree file can't be opened. It is the one of `finish` if that fails.
+    /// The fault, if there is one, is that of `WorkFiles::open`, of `finish` or of `translate_on`.
+    /// If both `finish` and `translate_on` fail, it is that of `finish`.
     fn run_shown_in(
         &self,
         folder: &str,
@@ -328,8 +330,9 @@ pub fn finish<F: io::Read + Write + io::Seek + OpenFile + Drop>(
 
 /// Writes a translation that was made in memory. `translated` is the result of making it, and
 /// `text` is the translation. Fails with O2 if a write to `out` fails, or accepts none of the
-/// bytes. If `translated` is a failure, writes nothing and fails with its fault, or with NoMemory
-/// if that is O2: a write to a buffer in memory fails only if memory is refused.
+/// bytes. If `translated` is a failure, writes nothing, and fails with the fault of `translated`.
+/// If this fault is O2, fails with NoMemory instead: a write to a buffer in memory fails only if
+/// memory is refused.
 pub fn write_translation<W: Write>(
     translated: Result<(), Fault>,
     text: &[u8],

@@ -29,8 +29,8 @@ pub fn parse_file<R: Files + Input + Print>(
 }
 
 /// Reads the sentence, writes its tree file with a translator, and prints the number of nodes.
-/// Fails as `parse_file` does after it has read the grammar. After F1 and D1 of the tree file the
-/// report names it.
+/// Fails as `parse_file` does after it has read the grammar. If the tree file can't be opened or
+/// created (F1), or written (D1), the report names it.
 fn parse_file_with<R: Files + Input + Print>(
     rt: &R,
     alloc: Global,
@@ -68,7 +68,7 @@ fn write_tree<R: Files + Print>(
 
 /// Converts a tree file of version 1 to version 2, and prints the number of nodes. Reads the
 /// grammar, then opens the old file, and then creates the new one. Both may be one file: all of the
-/// old content is read before the new one is written.
+/// old content is read before the new content is written.
 ///
 /// Fails before the grammar is read if the new file is the grammar. Fails if the grammar can't be
 /// read or is refused, if the old file is refused, if a file or the output fails, and if memory is

@@ -20,7 +20,8 @@ use tree_text::ShowFault;
 use treefile::{Device, FileDevice};
 use value_reasons::{ExplainedTree, NodeRequest, write_errors};
 
-/// The greatest number of characters that are printed of a value that is not a number.
+/// The greatest number of characters that are printed of the text of a value. Numbers are printed
+/// whole.
 const WIDTH: usize = 60;
 
 /// Prints the values of a node of a tree file with the rules that computed them. With `--errors`
@@ -97,7 +98,8 @@ struct ExplanationRun<'a> {
     translator: &'a Translator,
     /// The name and the text of the grammar.
     source: Source<'a>,
-    /// The bytes of the sentence; empty if no line and column of it name the node.
+    /// The bytes of the sentence; empty if the command line does not name the node by line and
+    /// column.
     sentence: &'a [u8],
     /// The path of the tree file.
     path: &'a str,
@@ -169,8 +171,8 @@ impl<'a> ExplanationRun<'a> {
         tree.node_at(alloc, position, device)
     }
 
-    /// Fails if `--errors` is given and the file is not of the last pass. Otherwise fails if the
-    /// node lacks an attribute that the command line names, and if memory is refused.
+    /// Fails if `--errors` is given and the file is not of the last pass, and if the node lacks an
+    /// attribute that the command line names.
     fn check(
         self,
         alloc: Global,

@@ -1,4 +1,4 @@
-//! Tree files that are read with an index, for `show` and `explain`, and reports of their failures.
+//! Reads tree files and makes their indexes, for `show` and `explain`. Makes reports of failures.
 
 use ag_grammar::limits::MAX_ATTRIBUTES;
 use ag_grammar::{Grammar, Item};
@@ -31,8 +31,8 @@ pub fn read_index<D: Device>(
     }
 }
 
-/// Returns the report of a fault of reading the tree file at `path`, or of printing. It names the
-/// file after R1, P2, P3 and D1.
+/// Returns the report of a fault of reading the tree file at `path`, or of printing. The report
+/// names the file after R1, P2, P3 and D1.
 pub fn report_of_tree(alloc: Global, fault: ShowFault, path: &str) -> FaultReport {
     let fault = match fault {
         ShowFault::Tree(fault) => fault_of(fault),
@@ -61,9 +61,9 @@ pub fn no_memory(alloc: Global) -> FaultReport {
     FaultReport::new(alloc, Fault::NoMemory)
 }
 
-/// Returns the child numbers, from 1, of the path that a text such as `/2/1` writes, from the root
-/// on. Returns no numbers, which is the path of the root, if `path` is `None`. Fails if the text is
-/// not a path, and if memory is refused.
+/// Parses a path from the root, such as `/2/1`, and returns its child numbers, from 1. Returns no
+/// numbers, which is the path of the root, if `path` is `None`. Fails if the text is not a path,
+/// and if memory is refused.
 pub fn places_of(alloc: Global, path: Option<&str>) -> Result<Vec<u16>, FaultReport> {
     let Some(text) = path else {
         return Ok(Vec::new(alloc));
@@ -86,16 +86,16 @@ fn not_a_path(alloc: Global, text: &str) -> FaultReport {
     report.or_bare(written)
 }
 
-/// Returns the report of a path that leads to no node. It names the last node on the path that the
-/// tree has, and the number of its children.
+/// Returns the report of a path that leads to no node. The report names the last node on the path
+/// that is in the tree, and the number of this node's children.
 pub fn no_node(alloc: Global, grammar: &Grammar, index: &TreeIndex, places: &[u16]) -> FaultReport {
     let mut report = FaultReport::new(alloc, Fault::Usage);
     let written = describe_missing(alloc, &mut report.parts.found, grammar, index, places);
     report.or_bare(written)
 }
 
-/// Writes the last node on a path that the tree has, and the number of its children. Writes
-/// nothing if memory for the path is refused. Fails if memory for the text is refused.
+/// Writes the last node on a path that is in the tree, and the number of this node's children.
+/// Writes nothing if memory for the node's path is refused. Fails if memory for `out` is refused.
 fn describe_missing(
     alloc: Global,
     out: &mut String,
@@ -125,8 +125,8 @@ fn describe_missing(
     }
 }
 
-/// Returns the report that the tree file is of pass `pass`, and `--errors` needs one of the last
-/// pass, `last`.
+/// Returns the report that the tree file is of pass `pass`, and `--errors` needs a tree file of the
+/// last pass, `last`.
 pub fn not_last_pass(alloc: Global, pass: u16, last: u16) -> FaultReport {
     let mut report = FaultReport::new(alloc, Fault::Usage);
     let written = write!(
@@ -137,7 +137,7 @@ pub fn not_last_pass(alloc: Global, pass: u16, last: u16) -> FaultReport {
 }
 
 /// Returns the report that an item, a symbol or a class of tokens, has no attribute of this name.
-/// The report lists the names of its attributes.
+/// The report lists the names of the item's attributes.
 pub fn no_attribute(alloc: Global, format: &FileFormat<'_>, item: Item, name: &str) -> FaultReport {
     let mut report = FaultReport::new(alloc, Fault::Usage);
     let written = describe_attributes(&mut report.parts.found, format, item, name);

@@ -19,7 +19,8 @@ use treefile::Device;
 /// What to do about a tree that is not that of the sentence.
 const OTHER_SENTENCE: &str = "name the sentence that the tree was made from";
 
-/// A tree file with its index, and the sentence that the command line names as the tree's.
+/// A tree file with its index, and the sentence that the command line names. `check_tokens` checks
+/// whether the tree has the tokens of the sentence.
 #[derive(Clone, Copy)]
 pub struct TreeSentence<'a> {
     /// The translator.
@@ -88,8 +89,8 @@ impl TreeSentence<'_> {
     }
 
     /// Returns the path, as child numbers from 1, from the root to the innermost node of a symbol
-    /// that has all tokens of a range. Returns no numbers, the path of the root, if `range` is
-    /// `None`. Fails if memory is refused.
+    /// whose tokens include all tokens of a range. Returns no numbers, the path of the root, if
+    /// `range` is `None`. Fails if memory is refused.
     fn find_node(self, alloc: Global, range: Option<TokenRange>) -> Result<Vec<u16>, NoMemory> {
         let Some(range) = range else {
             return Ok(Vec::new(alloc));
@@ -199,8 +200,8 @@ impl TreeSentence<'_> {
         report.or_bare(written)
     }
 
-    /// Returns the report that a token of the sentence, or its end, is not the next token of the
-    /// tree.
+    /// Returns the report that the next token of the sentence is not that of the tree. `None` means
+    /// that the sentence, or the tree, has no more tokens.
     fn other_token(
         self,
         alloc: Global,
@@ -254,8 +255,8 @@ fn write_other_token(
     }
 }
 
-/// Writes a token as it is written in a sentence, a TEXT with its quotes, and after its kind if
-/// `is_named`.
+/// Writes a token as it is written in a sentence: a TEXT with its quotes. If `is_named`, writes the
+/// token's kind first.
 fn write_token(
     out: &mut String,
     kind: Terminal,
@@ -272,7 +273,7 @@ fn write_token(
     }
 }
 
-/// Writes the kind of a token, before its text.
+/// Writes the kind of a token, and a space.
 fn write_kind(out: &mut String, kind: Terminal) -> Result<(), AllocError> {
     match kind {
         Terminal::Class(number) => write!(out, "the {} ", class_name(number)),
@@ -280,8 +281,8 @@ fn write_kind(out: &mut String, kind: Terminal) -> Result<(), AllocError> {
     }
 }
 
-/// Writes that a text does not have a position. Writes too where the position's line ends or, if
-/// the text has fewer lines, where the text ends. Lines and columns count from 1, columns in
+/// Writes that a text does not have a position, and where the position's line ends. If the text has
+/// fewer lines, writes where the text ends instead. Lines and columns count from 1, columns in
 /// characters.
 fn write_no_place(out: &mut String, text: &str, position: Position) -> Result<(), AllocError> {
     let Position { line, column } = position;
@@ -297,8 +298,8 @@ fn write_no_place(out: &mut String, text: &str, position: Position) -> Result<()
     )
 }
 
-/// Returns the column after the last character of a line of a text. Lines and columns count from 1,
-/// columns in characters.
+/// Returns the column after the last character of a line of a text, which has at least this many
+/// lines. Lines and columns count from 1, columns in characters. The LF is not counted.
 fn column_of_end(text: &str, line: usize) -> usize {
     let mut number = 1usize;
     let mut column = 1usize;
@@ -381,7 +382,8 @@ fn skip_token(tokens: &mut Tokens<'_>) {
     }
 }
 
-/// Returns whether a token of the sentence and one of the tree have the same kind and text.
+/// Returns whether a token of the sentence and one of the tree have the same kind and text. Returns
+/// `false` if either is `None`.
 fn is_same(of_sentence: Option<Token<'_>>, of_tree: &Option<TokenText>) -> bool {
     match (of_sentence, of_tree) {
         (Some(token), Some(other)) => token.kind == other.kind && token.lex == other.text.as_str(),
@@ -389,8 +391,8 @@ fn is_same(of_sentence: Option<Token<'_>>, of_tree: &Option<TokenText>) -> bool 
     }
 }
 
-/// Returns whether a token of the sentence and one of the tree have the same text. The text of a
-/// TEXT is without its quotes.
+/// Returns whether a token of the sentence and one of the tree have the same text, for a TEXT the
+/// text without its quotes. Returns `false` if either is `None`.
 fn has_same_text(of_sentence: Option<Token<'_>>, of_tree: &Option<TokenText>) -> bool {
     match (of_sentence, of_tree) {
         (Some(token), Some(other)) => token.lex == other.text.as_str(),

@@ -1,5 +1,5 @@
-//! Writes a tree file as text, as `aggen show` prints it: in the order of the sentence, an indented
-//! line or a JSON object for each node.
+//! Writes a tree file as text, as `aggen show` prints it: an indented line or a JSON object for
+//! each printed node, each node before its children, and children from left to right.
 //!
 //! In lines, control characters, white space other than the plain space, and some invisible
 //! characters are written as escapes, such as `\u{1b}`; in the text of a value, LF, tab and CR are

@@ -10,7 +10,7 @@ use std::alloc::Global;
 use tree_index::NodePath;
 
 /// The greatest number of levels by which a line is indented, two spaces each. The lines of deeper
-/// nodes are indented by as many spaces as those of this level.
+/// nodes are indented by this number of levels too.
 const MAX_INDENTED: u32 = 24;
 
 impl TreeText<'_> {

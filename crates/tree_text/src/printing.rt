@@ -124,9 +124,9 @@ impl TreeText<'_> {
 /// index `text.index`. The call sets the walk's greatest level to `text.depth`.
 ///
 /// Fails with R1 if a record is damaged. (`TreeIndex::read` refuses a file with such a record, but
-/// `read_shape` does not read the values, and the file may have changed since.) Fails with D1 if a
-/// call of the device fails, with O2 if the output fails, and if memory is refused. A part of the
-/// text may have been printed before a failure.
+/// `read_shape` does not read the values, and the file may have changed after the index was read.)
+/// Fails with D1 if a call of the device fails, with O2 if the output fails, and if memory is
+/// refused. A part of the text may have been printed before a failure.
 pub fn write_tree<D: Device, W: Write>(
     alloc: Global,
     text: &TreeText<'_>,

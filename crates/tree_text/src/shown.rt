@@ -6,10 +6,10 @@ use message_parts::display::PlainText;
 use std::alloc::Global;
 
 /// Writes the first `width` characters of a value as text, and `..` after them if there are more.
-/// Writes the whole text if `width` is 0 or the value is a number. The characters are
-/// counted in the text that `show` returns: its quotes count, and an LF counts as two, since it is
-/// `\n` there. A character that is written as an escape such as `\u{1b}` counts as one. Fails if
-/// memory is refused.
+/// Writes the whole text if `width` is 0 or the value is a number. The characters are counted in
+/// the text that `show` returns: its quotes count, and an LF counts as two, since `show` writes
+/// `\n`. A character that is written as an escape such as `\u{1b}` counts as one. Fails if memory
+/// is refused.
 pub fn write_value(
     alloc: Global,
     out: &mut String,
@@ -41,8 +41,8 @@ fn write_flat(
 }
 
 /// Writes a text value as `write_value` does. Unless `width` is 0, converts only the first
-/// `width + 1` characters of the text. With the quotes these are more than `width`, so `..` is
-/// written as for the whole text.
+/// `width + 1` characters of the text. If the text has more, `..` is written as for the whole text,
+/// since these and the quotes are more than `width` characters.
 fn write_text(alloc: Global, out: &mut String, text: &str, width: usize) -> Result<(), NoMemory> {
     let needed = if width == 0 {
         // the length in bytes, which is at least the number of characters

@@ -1,7 +1,7 @@
 -- The faults of a raw grammar, kind by kind, and their order (this project's). Without N4 and N5 each symbol is productive and
--- reached (the textbook), and without N6 to N8 the productions are complete (Knuth, 1968). Each kind but N4 and N5 is a list of
--- checks. Those of N6 are by production, place and attribute, those of N10 in the order of `LimitKind`, and those of other kinds
--- in the order of the raw grammar's lists. N4 and N5 name the first wrong symbol.
+-- reached (the textbook), without N6 to N8 the productions are complete (Knuth, 1968), and without N9 they are normal (Bochmann,
+-- 1976). Each kind but N4 and N5 is a list of checks. The checks of N6 are ordered by production, place and attribute, those of
+-- N10 as the variants of `LimitKind`, and those of other kinds as the raw grammar's lists. N4 and N5 name the first wrong symbol.
 -- In this file, `ss` are the declared symbols, `names` their names, `qs` productions, `q` one of them and `p` its number, `items`
 -- the items at its places, `r` a rule, `o` an occurrence, and `ts` targets of rules.
 use Rattle.std.specs.Prelude.{All, ℕ, zero, suc, cond, fold, ◌⊎◌, ◌+◌, ◌≡◌, ◌<◌, ◌≤◌, nat_eq, nat_le, not, Bool, true, false}
@@ -85,7 +85,7 @@ new_check seen name = (fault.DoubledName name.at, not (list_any (bytes_eq name.n
 abbrev pub with_name : List (List ℕ) → Named → List (List ℕ)
 with_name seen name = with_text seen name.name
 
--- N2. The checks of a list of names; `seen` are those before the list.
+-- N2. The checks of a list of names. `seen` has the names that precede the list.
 abbrev pub doubled_names : List (List ℕ) → List Named → List Check
 doubled_names seen names = checks_along new_check with_name seen names
 
@@ -190,7 +190,7 @@ is_kind Inherited (Some Inherited) = true
 abbrev pub has_kind : List Symbol → List Item → Target → Kind → Bool
 has_kind ss items t k = is_kind k (slice_get (item_kinds (declared ss) (slice_get items t.place)) t.attr)
 
--- N8. The check of a rule's target: the rules of the production define attributes of its kind at its place.
+-- N8. The check of a rule's target: it exists, and is synthesized at place 0, or inherited at a later place.
 abbrev pub defined_check : List Symbol → List Item → RawRule → Check
 defined_check ss items r = let t = target_of ss items r.target in
     (fault.NotDefinedHere r.target.at, has_kind ss items t (defined_kind t.place))
@@ -203,7 +203,7 @@ not_defined_in ss q = map (defined_check ss (placed ss q)) q.rules
 abbrev pub not_defined_here : List Symbol → List RawProduction → List Check
 not_defined_here ss qs = flat_map (not_defined_in ss) qs
 
--- N9. The check of an occurrence: the rules of the production may use attributes of its kind at its place.
+-- N9. The check of an occurrence in an expression: it exists, and is inherited at place 0, or synthesized at a later place.
 abbrev pub used_check : List Symbol → List Item → Occ → Check
 used_check ss items o = let t = target_of ss items o in (fault.NotNormal o.at, has_kind ss items t (used_kind t.place))
 
@@ -288,15 +288,14 @@ pub record HasNoFault (raw : RawGrammar) : Type 0 where
   pub reached : AreAll (IsReached (numbered raw)) raw
   pub rules : first_wrong (further_checks raw) ≡ None
 
--- A literal or a class as it comes from a text: the literal is not empty and has no separator, or the class is
--- known. A name is always readable.
+-- A readable item: a literal that is not empty and has no separator, a class that is NAME, NUMBER or TEXT, or any name of a
+-- symbol.
 abbrev pub IsReadableItem : RawItem → Type 0
 IsReadableItem (raw_item.Name name) = Unit {0}
 IsReadableItem (raw_item.Literal text) = (1 ≤ length text) × Each (λ b. IsSeparator b → ⊥) text
 IsReadableItem (raw_item.Class c) = c < class_count
 
--- the literals of a raw grammar are not empty and have no separators, and its classes are known; this holds of each raw grammar
--- that was read from a text
+-- The items of a raw grammar are readable. This holds of each raw grammar that was read from a text.
 abbrev pub IsReadable : RawGrammar → Type 0
 IsReadable raw = Each (λ q. Each IsReadableItem q.items) raw.productions
 

@@ -1,4 +1,5 @@
--- `IsReadable` of `Faults` as a test: whether the literals and classes of a raw grammar could come from the text of a grammar.
+-- `IsReadable` of `Faults` as a test: no literal of a raw grammar is empty or has a separator, and each class is one of the
+-- three.
 use Rattle.std.specs.Prelude.{ℕ, Bool, true, ◌&&◌, not, nat_eq, nat_le, nat_lt, List, length, ◌||◌}
 use Rattle.std.specs.List.{list_all}
 use Rattle.ag_grammar.specs.grammars.Accepted.{class_count}

@@ -1,5 +1,5 @@
--- Texts in order, as the keys of an index set. A key is a text with an integer: 0 at the first appearance of the text, and at a
--- later one the index of the key.
+-- Texts in the order in which they were appended, as the keys of an index set. A key is a text with an integer: 0 at the first
+-- appearance of the text, and at a later one the index of the key.
 use Rattle.std.specs.Prelude.{ℕ, ◌≡◌, ◌<◌, ◌⊎◌, ◌&&◌, Bool, List, Some, bytes_eq, length, map, nat_eq, position, slice_get}
 use Rattle.std.specs.Borrow.{Bor}
 

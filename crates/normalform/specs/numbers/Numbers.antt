@@ -65,7 +65,7 @@ is_class c (raw_item.Literal text) = false
 abbrev pub classes_of : List RawProduction → List ℕ
 classes_of qs = filter (λ c. list_any (λ q. list_any (is_class c) q.items) qs) (0 ∷ 1 ∷ 2 ∷ [])
 
--- an item, by the names of the symbols and the texts of the literals
+-- an item with numbers in place of names and literals: `names` are the symbols' names, `literals` the different literals
 abbrev pub item_of : List (List ℕ) → List (List ℕ) → RawItem → Item
 item_of names literals (raw_item.Name name) = item.Symbol (number_in names name.name)
 item_of names literals (raw_item.Literal text) = item.Terminal (Literal (number_in literals text))
@@ -75,7 +75,7 @@ item_of names literals (raw_item.Class c) = item.Terminal (Class c)
 abbrev pub stored_of : List (List ℕ) → List RawItem → List Item
 stored_of names xs = map (item_of names []) (raw_stored xs)
 
--- the items at the places of a production, from the left side on
+-- the items at the places of a production, the left side first
 abbrev pub placed : List Symbol → RawProduction → List Item
 placed ss q = item.Symbol (number_in (declared_names ss) q.left.name) ∷ stored_of (declared_names ss) q.items
 

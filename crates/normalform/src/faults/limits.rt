@@ -19,7 +19,7 @@ use ag_grammar::{RawItem, RawProduction, RawSymbol};
 use ag_value::NoMemory;
 use std::alloc::Global;
 
-/// Adds the literals of a right side that are not listed yet.
+/// Appends to `texts` each literal of a right side that is not there yet.
 fn list_literals<'t>(texts: &mut Names<'t>, items: &'t [RawItem]) -> Result<(), NoMemory>
     ensures { OnOk result (texts.new ≡ fold with_item texts.old items.now) }
 {
@@ -122,7 +122,7 @@ fn all_are_short(texts: &Names<'_>) -> bool
     true
 }
 
-/// Returns the first limit that the symbols exceed.
+/// Returns N10 with the first limit that the symbols exceed, if there is one.
 fn symbol_limit(symbols: &[RawSymbol]) -> Option<NormalFault>
     ensures { result ≡ first_wrong (symbol_limits (map symbol_of symbols.now)) }
 {
@@ -135,7 +135,7 @@ fn symbol_limit(symbols: &[RawSymbol]) -> Option<NormalFault>
     None
 }
 
-/// Returns the first limit that the productions exceed.
+/// Returns N10 with the first limit that the productions exceed, if there is one.
 fn production_limit(
     alloc: Global,
     declared: &Declared<'_>,
@@ -156,7 +156,7 @@ fn production_limit(
     Ok(None)
 }
 
-/// Returns the first limit that the literals exceed.
+/// Returns N10 with the first limit that the literals exceed, if there is one.
 fn literal_limit(literals: &Names<'_>) -> Option<NormalFault>
     ensures { result ≡ first_wrong (literal_limits literals.now) }
 {

@@ -84,7 +84,7 @@ pub fn first_unknown(
     Ok(None)
 }
 
-/// Returns N2 if a name is one of the earlier names, which are `seen`. Adds the name to them.
+/// Returns N2 if a name is one of the earlier names, which are `seen`. Otherwise adds it to `seen`.
 fn doubled_name<'t>(seen: &mut Names<'t>, name: &'t Named) -> Result<Option<NormalFault>, NoMemory>
     ensures fault { IfOk result (λ f. f ≡ first_wrong (new_check seen.old name.now)) }
     ensures seen { OnOk result (seen.new ≡ with_text seen.old name.now.name) }
@@ -126,7 +126,7 @@ fn doubled_attributes(alloc: Global, symbol: &RawSymbol) -> Result<Option<Normal
 }
 
 /// Returns the first fault N2 of a symbol. `seen` has the names of the symbols before it. Adds the
-/// symbol's name to them.
+/// symbol's name to `seen`, unless it is there already.
 fn doubled_in_symbol<'t>(
     alloc: Global,
     seen: &mut Names<'t>,

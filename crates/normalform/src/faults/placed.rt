@@ -1,6 +1,6 @@
-//! The items at the places of a production: place 0 is the left side, and each symbol and class of
-//! the right side has the next place; a literal has none. The limits are not checked yet, so the
-//! number of a symbol may have more than 16 bits.
+//! The items at the places of a production. Place 0 is the left side. The symbols and classes of
+//! the right side have the places 1, 2 and so on, and a literal has none. The limits are not
+//! checked yet, so the number of a symbol may have more than 16 bits.
 ghost use Rattle.std.specs.Prelude.{◌≡◌, ◌++◌, ◌∷◌, [], map, IfOk, OnOk};
 ghost use Rattle.normalform.specs.numbers.Numbers.{stored_of, declared_names};
 ghost use Rattle.normalform.specs.numbers.Numbers.{placed};
@@ -37,7 +37,7 @@ fn place_item(
     Ok(())
 }
 
-/// Returns the items at the places of a production, from the left side on. Fails with `NoMemory` if
+/// Returns the items at the places of a production, the left side first. Fails with `NoMemory` if
 /// memory is refused.
 pub fn places_of(
     alloc: Global,

@@ -1,4 +1,5 @@
-//! Tests whether the literals and classes of a raw grammar could come from the text of a grammar.
+//! Tests whether a raw grammar is readable: no literal is empty or has a separator, and each class
+//! is NAME, NUMBER or TEXT.
 ghost use Rattle.std.specs.Prelude.{◌≡◌, ◌↔◌, IsTrue, not};
 ghost use Rattle.std.specs.List.{list_all};
 ghost use Rattle.normalform.specs.faults.Faults.{IsReadable};
@@ -66,9 +67,10 @@ fn are_readable(productions: &[RawProduction]) -> bool
     true
 }
 
-/// Returns whether the classes of a raw grammar are 0 to 2, and no literal is empty or has a space,
-/// tab, CR or LF. This holds for every grammar that is parsed from a text. If a program makes a raw
-/// grammar in another way, this function tests what `check` requires. Takes no memory.
+/// Returns whether each class of a raw grammar is NAME, NUMBER or TEXT (0 to 2), and no literal is
+/// empty or has a space, tab, CR or LF. This holds for every grammar that is parsed from a text. If
+/// a program makes a raw grammar in another way, this function tests what `check` requires. Takes
+/// no memory.
 pub fn is_readable(raw: &RawGrammar) -> bool
     ensures { IsTrue result ↔ IsReadable raw.now }
 {

@@ -13,8 +13,8 @@ use std::alloc::Global;
 
 /// A check of the attributes that the rules of a production name. The target of a rule is the
 /// attribute that it defines; its arguments are the attributes that its expression uses. Both are
-/// occurrences (`Occ`): a place, the name of an attribute, and an offset. Each variant says what has
-/// to hold, and which fault is reported otherwise.
+/// occurrences (`Occ`): a place, the name of an attribute, and an offset. Each variant says what
+/// has to hold, and which fault is reported otherwise.
 #[derive(Clone, Copy, PartialEq, Eq)]
 pub enum RuleCheck {
     /// N1: targets and arguments exist.
@@ -78,7 +78,7 @@ fn first_among(
     None
 }
 
-/// Returns the fault of the first occurrence in a rule that fails the check, if there is one. N1 is
+/// Returns the fault of a rule's first occurrence that fails the check, if there is one. N1 is
 /// checked of the rule's target and then of its arguments, N8 of the target alone, and N9 of the
 /// arguments alone.
 fn first_in_rule(
@@ -102,8 +102,8 @@ fn first_in_rule(
     }
 }
 
-/// Returns the fault of the first occurrence in the rules of a production that fails the check, if
-/// there is one. Fails with `NoMemory` if memory is refused.
+/// Checks the rules of a production, and returns the fault of the first occurrence that fails the
+/// check, if there is one. Fails with `NoMemory` if memory is refused.
 pub fn first_in_production(
     alloc: Global,
     rule_check: RuleCheck,
@@ -122,8 +122,8 @@ pub fn first_in_production(
     Ok(None)
 }
 
-/// Returns the fault of the first occurrence in the rules of productions that fails the check, if
-/// there is one. Fails with `NoMemory` if memory is refused.
+/// Checks the rules of productions, and returns the fault of the first occurrence that fails the
+/// check, if there is one. Fails with `NoMemory` if memory is refused.
 pub fn first_in_productions(
     alloc: Global,
     rule_check: RuleCheck,

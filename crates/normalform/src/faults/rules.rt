@@ -17,8 +17,8 @@ use ag_grammar::{RawProduction, RawRule};
 use ag_value::NoMemory;
 use std::alloc::Global;
 
-/// Adds the target of a rule. Returns whether it is new. Here and below, `items` has the item at
-/// each place of the rule's production.
+/// Adds the target of a rule to `targets`, unless it is there already. Returns whether it was
+/// added. Here and below, `items` has the item at each place of the rule's production.
 fn add_target(
     targets: &mut Targets,
     declared: &Declared<'_>,
@@ -53,7 +53,7 @@ fn targets_of(
 
 /// Returns N6 for the first attribute, at one place of a production, that needs a rule and has
 /// none. `production` is the production's number, `item` the item at the place, and `targets` has
-/// the targets of all its rules. The attribute of a token needs no rule.
+/// the targets of all rules of the production. The attribute of a token needs no rule.
 fn missing_at(
     declared: &Declared<'_>,
     targets: &Targets,
@@ -76,7 +76,8 @@ fn missing_at(
     None
 }
 
-/// Returns N6 for the first attribute, by place, that needs a rule of a production and has none.
+/// Returns the first fault N6 of a production, by place and then by attribute. `production` is the
+/// production's number.
 fn missing_among(
     declared: &Declared<'_>,
     targets: &Targets,
@@ -94,8 +95,8 @@ fn missing_among(
     None
 }
 
-/// Returns N6 for the first attribute that needs a rule of a production and has none. `number` is
-/// the production's number.
+/// Returns the first fault N6 of a production: an attribute that needs a rule and has none.
+/// `number` is the production's number.
 fn missing_in(
     alloc: Global,
     declared: &Declared<'_>,
@@ -132,7 +133,8 @@ pub fn first_missing(
     Ok(None)
 }
 
-/// Returns N7 if the target of a rule is in `targets`, those of the earlier rules. Adds it to them.
+/// Returns N7 if the target of a rule is in `targets`, which has the targets of the earlier rules
+/// of the production. Otherwise adds the target to `targets`.
 fn doubled_rule(
     targets: &mut Targets,
     declared: &Declared<'_>,

@@ -35,7 +35,7 @@ impl Targets {
         }
     }
 
-    /// Adds a target, unless it is there already. Returns whether it was added.
+    /// Adds a target to the set, unless it is there already. Returns whether it was added.
     pub fn add(&mut self, place: usize, attr: usize) -> Result<bool, NoMemory>
         ensures added { OnOk result (self.new
             ≡ with_target self.old (record { place = place; attr = attr })) }
@@ -46,7 +46,7 @@ impl Targets {
         Ok(fresh)
     }
 
-    /// Returns whether a target is there.
+    /// Returns whether a target is in the set.
     pub fn has(&self, place: usize, attr: usize) -> bool
         ensures { result
             ≡ list_any (same_target (record { place = place; attr = attr })) self.now }

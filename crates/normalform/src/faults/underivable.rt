@@ -1,5 +1,6 @@
 //! Finds the first symbol, by number, that is not productive or not reached: the first number that
-//! does not follow from clauses and seeds. `Follows` of the crate `closure` defines this.
+//! does not follow from clauses and seeds. `Follows` of the crate `closure` defines this. There are
+//! no seeds for N4. For N5 the seed is the start symbol.
 ghost use Rattle.std.specs.Prelude.{◌≡◌, ◌<◌, ℕ, true, length, All, None, IfOk, IfSome};
 ghost use Rattle.closure.specs.Following.{is_marked, Follows};
 ghost use Rattle.normalform.specs.faults.Underivable.{IsFirstUnmarked, IsFirstUnderivable};

@@ -91,7 +91,8 @@ impl<'t> Model for Declared<'t> {
         × (d.attributes.items ≡ map attribute_names (map symbol_of d.symbols.now)) };
 }
 
-/// Returns the number of an attribute of a token: 0 for `lex`, and 1 for every other name.
+/// Returns the number of a token's attribute: 0 for `lex`, the only one, and 1, the count of a
+/// token's attributes, for every other name.
 fn lex_number(name: &str) -> usize
     ensures { result ≡ number_in (lex_name ∷ []) name.now }
 {
@@ -233,8 +234,8 @@ impl<'t> Declared<'t> {
         }
     }
 
-    /// Returns whether the rules of its production define an occurrence's attribute: it is
-    /// synthesized at place 0, or inherited at a later place.
+    /// Returns whether the attribute that an occurrence names is one that the rules of a production
+    /// define: it exists, and is synthesized at place 0, or inherited at a later place.
     pub fn is_defined_here(&self, items: &[PlacedItem], occurrence: &Occ) -> bool
         ensures { let t = target_of self.now (map item_placed items.now) occurrence.now in
             result ≡ has_kind self.now (map item_placed items.now) t (defined_kind t.place) }
@@ -248,8 +249,8 @@ impl<'t> Declared<'t> {
         }
     }
 
-    /// Returns whether the rules of its production may use an occurrence's attribute: it is
-    /// inherited at place 0, or synthesized at a later place.
+    /// Returns whether the attribute that an occurrence names is one that the rules of a production
+    /// may use: it exists, and is inherited at place 0, or synthesized at a later place.
     pub fn is_used_here(&self, items: &[PlacedItem], occurrence: &Occ) -> bool
         ensures { let t = target_of self.now (map item_placed items.now) occurrence.now in
             result ≡ has_kind self.now (map item_placed items.now) t (used_kind t.place) }
@@ -264,8 +265,8 @@ impl<'t> Declared<'t> {
     }
 
     /// Returns the range of the numbers (the end is exclusive) of the attributes that the rules of
-    /// a production define at a place with the symbol of number `symbol`; an empty one if no symbol
-    /// has the number.
+    /// a production define at a place with the symbol of number `symbol`. The range is empty if no
+    /// symbol has the number.
     pub fn defined_here(&self, place: usize, symbol: usize) -> (usize, usize)
         ensures ordered { result.0 ≤ result.1 }
         ensures numbers { range_with_len result.0 (result.1 - result.0)

@@ -230,7 +230,7 @@ fn uses_class(productions: &[RawProduction], class: u16) -> bool
     productions.iter().any(|q| has_class(q, class))
 }
 
-/// Returns those classes of `known` that are in use.
+/// Returns those classes of `known` that a right side of the productions has.
 fn classes_among(
     alloc: Global,
     productions: &[RawProduction],
@@ -248,7 +248,8 @@ fn classes_among(
     Ok(Items::from_vec(classes))
 }
 
-/// Returns the classes in use, ascending: 0 is NAME, 1 is NUMBER, 2 is TEXT.
+/// Returns the classes on the right sides of productions, ascending: 0 is NAME, 1 is NUMBER, 2 is
+/// TEXT.
 pub fn classes_of(alloc: Global, productions: &[RawProduction]) -> Result<Items<u16>, NoMemory>
     ensures { IfOk result (λ classes. classes ≡ spec.classes_of productions.now) }
 {

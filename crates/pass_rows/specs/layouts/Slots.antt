@@ -1,6 +1,6 @@
--- The slots of a node's values, counted from the first value of its row. Letters: c is a setting, q a production, x an item, j a
--- place (in `copied_before` a number of items), a an attribute, and ps are passes of attributes. All definitions are this
--- project's.
+-- The slots of a node's values, counted from the first value of the node's row. Letters: c is a setting, q a production, x an
+-- item, j a place (in `copied_before` a number of items), a an attribute, and ps are passes of attributes. All definitions are
+-- this project's.
 use Rattle.std.specs.Prelude.{ℕ, zero, suc, ◌+◌, nat_le, List, [], ◌∷◌, if◌then◌else◌}
 use Rattle.ag_grammar.specs.declared.grammar.Item.{Item}
 use Rattle.ag_grammar.specs.declared.grammar.Production.{Production}
@@ -43,7 +43,8 @@ copied_all c (x ∷ xs) = copied_width c x + copied_all c xs
 abbrev pub stored_width : Setting → Production → ℕ
 stored_width c q = own_width c q + copied_all c (stored_items q.items)
 
--- The index at which the copies of the values at a place begin.
+-- The index at which the values at a place begin in the node's row: the node's own values for the left side, and copies for
+-- a child.
 abbrev pub copy_start : Setting → Production → ℕ → ℕ
 copy_start c q zero = 0
 copy_start c q (suc j) = own_width c q + copied_before c (stored_items q.items) j

@@ -1,4 +1,5 @@
--- Bounds of the numbers of values in rows. All definitions are this project's.
+-- Bounds of the numbers of values in rows. Letters: m are the passes of the attributes of each symbol, s is a symbol, and j a
+-- place. All definitions are this project's.
 use Rattle.std.specs.Prelude.{ℕ, ◌+◌, ◌*◌, ◌≤◌, List, length}
 use Rattle.ag_grammar.specs.grammars.Accepted.{max_attributes, max_children}
 use Rattle.ag_grammar.specs.grammars.Passes.{Passes}
@@ -13,6 +14,6 @@ AreSmall m = (s : ℕ) → length (m s) ≤ max_attributes
 abbrev pub max_width : ℕ
 max_width = max_attributes * (max_children + 1)
 
--- The copies of each place begin at an index up to this bound.
+-- The copies of each place begin at an index of at most `max_width`.
 abbrev pub AreLow : List PlaceRow → Type 0
 AreLow rows = (j : ℕ) → start_in rows j ≤ max_width

@@ -27,7 +27,7 @@ abbrev pub PrependsTo : (old new : List Value) → Type 0
 PrependsTo old new = (more : List Value) × (new ≡ old ++ more)
 
 -- A value was taken for an attribute of a pass: from the bytes if the pass is at most `read`. It was appended to the
--- row if the pass is at most `write`; if it was not read, it can be any value. `only`: the bytes determine the rest.
+-- row if the pass is at most `write`; if it was not read, it can be any well value. `only`: the bytes determine the rest.
 pub record IsTaken (read write pass : ℕ) (bytes rest : List ℕ) (old new : List Value) : Type 0 where
   pub value : Value
   pub well : IsWell value
@@ -60,7 +60,8 @@ AreUntaken read passes bytes = (h : ℕ → Value) (others : List ℕ) → ((a :
 abbrev pub AllWell : Table → Type 0
 AllWell e = (j a : ℕ) → IsWell (e j a)
 
--- The bytes are not the encodings of the values of those attributes, among these passes, that have a pass up to `read`.
+-- The bytes are not the encodings of well values of those attributes, among the ones with these passes, that have a pass up to
+-- `read`.
 abbrev pub IsNoRow : ℕ → List ℕ → List ℕ → Type 0
 IsNoRow read passes bytes = (h : ℕ → Value) → ((a : ℕ) → IsWell (h a)) → bytes ≡ flat_map spelling_of (values_up_to read passes h)
     → ⊥
@@ -81,7 +82,7 @@ pub record IsBodyOf (g : Grammar) (s p : ℕ) (spellings body : List ℕ) : Type
   pub same : body ≡ body_from Node p spellings
 
 -- A body is the record of a node of symbol s and of production p, and its row was read. `values` are the node's own values, and
--- `table` has those of its children. Of attributes of the pass itself they can be any well values.
+-- `table` has those of its children. The values of attributes of the pass itself can be any well ones.
 pub record IsNodeRead (c : Setting) (s p : ℕ) (body : List ℕ) (old new : List Value) : Type 0 where
   pub production : Production
   pub there : IsProduction c.grammar p production

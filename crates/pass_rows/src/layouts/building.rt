@@ -245,8 +245,8 @@ fn row_of_production(
 ///
 /// Fails with `NoMemory` if memory cannot be allocated. The time: for each place of a production,
 /// it reads the at most 16 attributes of the symbol there a few times, and for each target and
-/// argument of the rules once. For the hints, it reads at most the whole expression of each rule of
-/// an earlier pass, and the slots of one row.
+/// argument of the rules once. For the hints, it reads for each rule of an earlier pass at most
+/// the whole expression, and the slots of one row.
 pub fn build_layout(alloc: Global, setting: &Setting<'_>) -> Result<Layout, NoMemory>
     requires plan { IsPlan setting.now.grammar.now setting.now.plan.now.0 setting.now.plan.now.1 }
     requires first { 1 ≤ setting.now.pass }

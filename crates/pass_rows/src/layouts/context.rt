@@ -90,7 +90,7 @@ impl PassContext<'_> {
     }
 
     /// Returns the passes of the values at an item that are copied to the parent's row, including
-    /// passes after k, whose values have no copies yet.
+    /// passes after that of the setting, whose values have no copies yet.
     pub fn copied_passes(&self, item: Item) -> &[u16]
         ensures { result.now ≡ copied_passes (setting self.now) item }
     {

@@ -1,11 +1,12 @@
 //! Hints for reading: where the value that a pass reads next may be stored already.
 //!
 //! Most values that a pass reads are equal to others that it has read before. The row of a node has
-//! the values of the node's own attributes, the synthesized ones first, and after them copies of
-//! its children's synthesized attributes. While the record of the child at place j is read, the row
-//! of its parent is stored, and so are the values of the child's row before the one that is read
-//! next. Rules and places are those of the parent's production in the first two rows of the table,
-//! and those of the child's own production in the others:
+//! the values of the node's own attributes, synthesized ones before inherited ones, and then copies
+//! of its children's synthesized attributes. While the record of the child at place j is read, the
+//! row of its parent is stored, and so are the values of the child's row before the one that is
+//! read next. In this table a to d are attributes, and i and m are places. Rules and places are
+//! those of the parent's production in the first two lines, and of the child's own production in
+//! the others:
 //!
 //! | Value | Candidate | Equal |
 //! |---|---|---|
@@ -13,17 +14,17 @@
 //! | own inherited `a` | in the parent's row: `$i.b`, if the rule of `$j.a` is `$i.b` | always |
 //! | other own inherited `a` | in its own row: `b`, if a rule is `$0.b = $0.a` | always |
 //! | copy of `$i.b` | in its own row: `a`, if a rule is `$0.a = $i.b` | always |
-//! | other copy of `$i.b` | in its own row: earlier `$m.d`, if a rule is `$i.c = $m.d` | maybe |
+//! | other copy of `$i.b` | before it in its own row: `$m.d`, if a rule is `$i.c = $m.d` | maybe |
 //!
 //! "Always" means in each file that the earlier passes wrote. In a damaged file the values may
-//! differ. "Maybe" means if rules below `$i` copy `c` to `b`. A rule also counts as `$i.b` if its
-//! expression is a `let`, an `if` or an `orelse` that may return that occurrence. Then the values
-//! are equal if it does return it. Only rules of passes before k count: their values are in the
-//! file.
+//! differ. "Maybe" means if rules in the subtree of `$i` copy `c` to `b`. A rule also counts as
+//! `$i.b` if its expression is a `let`, an `if` or an `orelse` that may return that occurrence.
+//! Then the values are equal if the expression does return it. Only rules of passes before k count:
+//! their values are in the file.
 //!
 //! No contract mentions hints. `Carried::read_beside` compares the candidate with the bytes that
 //! are read: a wrong hint costs a comparison and changes nothing. Numbers and errors are read
-//! without one.
+//! without hints.
 
 use crate::layouts::building::{PlaceRow, ProductionRow, RuleSlots};
 use crate::layouts::rows::{passes_at, row_length};
@@ -75,7 +76,8 @@ impl RowHints {
         Ok(hints)
     }
 
-    /// Adds the hints of a rule of an earlier pass, if its value may be that of an occurrence.
+    /// Adds the hints of a rule of an earlier pass, if the rule's value may be that of an
+    /// occurrence.
     fn add_rule(&mut self, rule: &Rule, slots: &RuleSlots, row: &ProductionRow) {
         let Some(place) = row.places.as_slice().get(rule.target.place as usize) else {
             return;
@@ -118,7 +120,7 @@ impl RowHints {
     }
 }
 
-/// The hints for the records of all nodes, by the number of their production.
+/// The hints for the records of all nodes, by the number of the node's production.
 #[derive(Drop)]
 pub struct Hints {
     rows: Vec<RowHints>,
@@ -233,8 +235,8 @@ fn set(hints: &mut Vec<Option<usize>>, slot: usize, hint: usize) {
 }
 
 /// Where a record is read: at a place of an open node of a production. The root has no parent, and
-/// no row is stored before its own. Its location is place 0 of production 0, since no slot of place
-/// 0 has a hint.
+/// no row is stored before its own. The root's location is place 0 of production 0, since no slot
+/// of place 0 has a hint.
 #[derive(Clone, Copy, Default)]
 pub struct ChildLocation {
     pub production: u16,
@@ -243,7 +245,7 @@ pub struct ChildLocation {
 
 /// The row into which a pass reads the record of a node. `production` is the number of the node's
 /// production, and `parent` the location at which the record is read. The row begins at index
-/// `start` of all stored values. The row of the parent, if it is stored, comes directly before.
+/// `start` of all stored values. The row of the parent, if it is stored, comes directly before it.
 #[derive(Clone, Copy)]
 pub struct RowLocation<'a> {
     /// The hints. This is a reference to a reference, so that it costs a load only where a hint is

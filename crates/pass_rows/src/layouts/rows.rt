@@ -1,5 +1,5 @@
-//! The rows of values of nodes: which attributes have a value there, and at which index. Attributes
-//! are represented by the list of their passes, in the order of their numbers.
+//! The rows of values of nodes: which attributes have a value in a row, and at which index. A list
+//! of passes represents attributes: it has the pass of each, in the order of their numbers.
 
 ghost use Rattle.std.specs.Prelude.{◌≡◌, ◌≤◌, IfOk, Some, length};
 ghost use Rattle.ag_grammar.specs.grammars.Accepted.{max_attributes};
@@ -18,7 +18,7 @@ use ag_value::{Items, NoMemory};
 use planchecker::Plan;
 use std::alloc::Global;
 
-/// Returns the passes of a symbol's attributes; empty if the plan has no row for the symbol.
+/// Returns the passes of a symbol's attributes; empty if the plan does not have the symbol.
 pub fn passes_at(plan: &Plan, symbol: u16) -> &[u16]
     ensures { result.now ≡ passes_of plan.now.0 symbol }
 {
@@ -31,7 +31,7 @@ pub fn passes_at(plan: &Plan, symbol: u16) -> &[u16]
 }
 
 /// Returns the passes of a symbol's synthesized attributes, which come before its inherited ones;
-/// empty if the grammar does not have the symbol, or the plan has no row for it.
+/// empty if the grammar or the plan does not have the symbol.
 pub fn synthesized_at<'a>(grammar: &Grammar, plan: &'a Plan, symbol: u16) -> &'a [u16]
     ensures { result.now ≡ synthesized_passes grammar.now (passes_of plan.now.0) symbol }
 {
@@ -62,8 +62,8 @@ pub fn row_length(passes: &[u16], k: u16) -> usize
     }
 }
 
-/// Returns the index of the value of attribute `attr` among the values of these attributes in a row of
-/// pass k: the number of attributes before it that have a value there.
+/// Returns the index of the value of attribute `attr` among the values that attributes with these
+/// passes have in a row of pass k: the number of values of the attributes before `attr`.
 #[tactic(auto, using(crate::proofs::places::Ranks::rank_counted, crate::proofs::places::Ranks::rank_passed))]
 fn rank(passes: &[u16], k: u16, attr: u16) -> u16
     requires few { length passes.now ≤ max_attributes }
@@ -85,9 +85,9 @@ fn rank(passes: &[u16], k: u16, attr: u16) -> u16
     }
 }
 
-/// Returns the passes of the values at an item that are copied to the parent's row: of a symbol's
-/// synthesized attributes, and of a token's text. Includes passes after that of the setting. A
-/// literal has no copies.
+/// Returns the passes of the values at an item that are copied to the parent's row: those of a
+/// symbol's synthesized attributes, or pass 0 for a token's text. Includes passes after that of the
+/// setting. A literal has no copies.
 pub fn copied_passes<'r>(setting: &'r Setting<'_>, item: Item) -> &'r [u16]
     ensures { result.now ≡ copied_passes (pass_setting setting.now) item }
 {
@@ -116,7 +116,8 @@ pub fn row_passes(
     Ok(Items::from_vec(passes))
 }
 
-/// Returns the number of copies of the values at an item in the parent's row, in the setting's pass.
+/// Returns the number of copies that the parent's row has of the values at an item, in the
+/// setting's pass.
 pub fn copied_width(setting: &Setting<'_>, item: Item) -> usize
     ensures width { result ≡ copied_width (pass_setting setting.now) item }
     ensures room { AreSmall (passes_of setting.now.plan.now.0) → result ≤ max_attributes }
@@ -134,8 +135,8 @@ pub fn known_width(setting: &Setting<'_>, item: Item) -> usize
     row_length(copied_passes(setting, item), setting.pass - 1)
 }
 
-/// Returns the index of an attribute's value in the row of an item's node or token, in the setting's
-/// pass.
+/// Returns the index of an attribute's value in the row of an item's node or token, in the
+/// setting's pass.
 pub fn rank_of(setting: &Setting<'_>, item: Item, attr: u16) -> u16
     requires small { AreSmall (passes_of setting.now.plan.now.0) }
     ensures rank { result ≡ rank setting.now.pass

@@ -48,8 +48,9 @@ fn take_value<'b>(
     Ok(Some(rest))
 }
 
-/// Takes the values of a row, of attributes with these passes, as `take_value` does. Returns whether
-/// all of them were taken and no bytes of the body are left; if not, some may have been appended.
+/// Takes the values of a row, of attributes with these passes, as `take_value` does. Returns
+/// whether all of them were taken and no bytes of the body are left; if not, some may have been
+/// appended.
 /// Fails with `NoMemory` if memory cannot be allocated.
 fn take_row(
     alloc: Global,
@@ -73,8 +74,9 @@ fn take_row(
     Ok(rest.len() == 0)
 }
 
-/// Returns the number of the production of a symbol's node in a body, and the rest of the body after
-/// it. Returns `None` if the body does not begin so, or if its first bytes cannot be lent as a slice.
+/// Returns the number of the production of a symbol's node in a body, and the rest of the body
+/// after the number. Returns `None` if the body does not begin with the kind of a node and the
+/// number of a production of the symbol, or if these bytes cannot be lent as a slice.
 fn node_of<'b>(grammar: &Grammar, symbol: u16, body: Body<'b>) -> Option<(u16, Body<'b>)>
     ensures { IfSome result (λ found. IsBodyOf grammar.now symbol found.0 found.1 body.entry) }
 {
@@ -137,8 +139,8 @@ fn read_copy(
     read_record(context, item, location, bytes.as_slice(), values)
 }
 
-/// Reads the body of a node of a symbol in which values are shared, as `read_record` does, and fails
-/// as it does.
+/// Reads the body of a node of a symbol in which values are shared, as `read_record` does, and
+/// fails as it does.
 fn read_shared_node(
     context: &PassContext<'_>,
     symbol: u16,

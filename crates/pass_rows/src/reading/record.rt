@@ -66,7 +66,8 @@ fn number_in(bytes: &[u8]) -> Option<(i64, &[u8])>
 
 /// Reads a value as `Carried::read` does, fails as it does, and returns the value with the length
 /// of its encoding in bytes. The candidate is a stored value that may be equal to the one that is
-/// read. If it is, and it can have several owners, the result shares it and nothing is decoded.
+/// read. If the candidate is equal and can have several owners, the result shares it, and nothing
+/// is decoded.
 fn read_beside(
     alloc: Global,
     candidate: Option<&Carried>,
@@ -273,9 +274,9 @@ pub fn node_in<'b>(grammar: &Grammar, symbol: u16, body: &'b [u8]) -> Option<(u1
 /// For each attribute of pass k, the row has 0 as a placeholder. Returns the number of the node's
 /// production.
 ///
-/// Fails with `Damaged` if the body is not the record of a node of the symbol in the file of that
-/// pass. Such a record has a production of the symbol, a well value for each own attribute and each
-/// copy of a pass before k, and no bytes after them. Fails with `NoMemory` if memory cannot be
+/// Fails with `Damaged` if the body is not the record of a node of the symbol in a file of pass
+/// k - 1. Such a record has a production of the symbol, a well value for each own attribute and
+/// each copy of a pass before k, and no bytes after them. Fails with `NoMemory` if memory cannot be
 /// allocated. After a failure the old values are unchanged, and others may follow them. Allocates
 /// memory for the values read, and for the passes of the production's values.
 pub fn read_node(
