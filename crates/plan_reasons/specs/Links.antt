@@ -1,6 +1,6 @@
 -- Links of chains: a strike with the parts that it names, and where its argument is, seen from the target of its rule. In this
--- file x is a strike, l a link, d a direction of passes, q a production, u a rule of q, and o a target: a place of q with the
--- number of an attribute there, and s the number of a symbol. `Names g x q u o` says that x names q, u and the argument o.
+-- file x is a strike, l a link, d a direction of passes, q a production, u a rule of q, s the number of a symbol, and o a target:
+-- a place of q with the number of an attribute there. `Names g x q u o` says that x names q, u and the argument o.
 use Rattle.std.specs.Prelude.{ℕ, ◌≡◌, List, [], ◌∷◌, ◌++◌, Option, Some, None}
 use Rattle.ag_grammar.specs.Lists.{AreRelated, Has}
 use Rattle.ag_grammar.specs.declared.direction.Direction.{Direction}

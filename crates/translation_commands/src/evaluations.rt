@@ -177,8 +177,8 @@ impl<R: Files + Input + Print + Eprint + Clock> EvaluationRun<'_, R> {
     }
 
     /// Translates the tree on a device into memory, and shows the progress. Then erases the line of
-    /// progress, and writes the translation. Nothing is shown in pass 1: it reads `tree`, which is
-    /// not a `ShownDevice`.
+    /// progress, and writes the translation. Nothing is shown while pass 1 runs: it reads `tree`,
+    /// which is not a `ShownDevice`.
     fn run_shown<T: Device, W: Write>(
         &self,
         tree: &mut T,

@@ -169,7 +169,7 @@ impl<R: Files + Print + Eprint + Clock> TranslationRun<'_, R> {
     }
 
     /// Translates a sentence, and writes the translation to `out`. On failure returns a report
-    /// (`report_of`). The first tree file, which the parser writes, is that of pass 0.
+    /// (`report_of`). The progress begins with pass 0, whose file the parser writes.
     fn run<W: Write>(&self, sentence: Source<'_>, out: &mut W) -> Result<(), FaultReport> {
         let Outcome { result, cause } = match self.screen.progress(self.rt, self.translator, 0) {
             Some(progress) => self.run_shown(sentence, &progress, out),

@@ -69,7 +69,7 @@ pub fn explain_tree<R: Files + Input + Print>(
 }
 
 /// Returns the bytes of the sentence, if the command line names the node by line and column, and
-/// otherwise no bytes. Fails if the sentence can't be read.
+/// otherwise no bytes. Fails if the sentence can't be read, and if memory is refused.
 fn read_sentence<R: Files + Input>(
     rt: &R,
     alloc: Global,
