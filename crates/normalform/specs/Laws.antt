@@ -12,8 +12,8 @@ use Rattle.normalform.specs.declared.fault.NormalFault.{NormalFault}
 use Rattle.normalform.specs.faults.Faults.{IsFirstFault, HasNoFault, IsReadable, AreListedIn}
 use Rattle.normalform.specs.numbers.Numbers.{numbered}
 
--- The numbered grammar of a raw grammar is accepted, if the raw one has no fault and is readable, and if each numbered expression
--- lists its occurrences and has no unbound name.
+-- The numbered grammar of a raw grammar is accepted, if the raw one has no fault and is readable, and if each expression of the
+-- numbered grammar's rules lists its occurrences and has no unbound name.
 abbrev pub AcceptedWithoutFault : Type 0
 AcceptedWithoutFault = (raw : RawGrammar) → IsReadable raw → All AreListedIn (numbered raw).productions → HasNoFault raw
     → IsAccepted (numbered raw)

@@ -1,7 +1,8 @@
 -- The remaining instructions of a node, the visited items of a right side, and the values of a node and of
--- its children. Letters: c is a setting, q a production, x an item (in `rest_of` an open node), xs are items, j is a place, a an
--- attribute, s a symbol, d a class or a direction, e a table, f the values of a node, and k and p are passes. In
--- `stored` and `AgreesSoFar` s is a table too. All definitions are this project's.
+-- its children. Letters: c is a setting, q a production, x an item (in `rest_of` an open node), xs are items, j is a place (in
+-- `in_children` and `AgreesSoFar` a child, counted from 0), a an attribute, s a symbol, d a class or a direction, e a table, f
+-- the values of a node, and k and p are passes. In `stored` and `AgreesSoFar` s is a table too. All definitions are this
+-- project's.
 use Rattle.std.specs.Prelude.{ℕ, suc, ◌≡◌, ◌+◌, ◌-◌, ◌<◌, ◌≤◌, ◌⊎◌, List, [], ◌∷◌, ◌++◌, Some, slice_get, length, take, drop}
 use Rattle.std.specs.List.{flat_map}
 use Rattle.ag_value.specs.declared.value.Value.{Value}
@@ -34,7 +35,8 @@ abbrev pub leftmost : Direction → ℕ → ℕ → ℕ
 leftmost LeftToRight n i = 0
 leftmost RightToLeft n i = n - i
 
--- The values at a node, by place and attribute. Place 0 is the node itself, place j + 1 its child j, counted from 0.
+-- The values at a node, by place and attribute. Place 0 is the node itself, place j + 1 its child j, counted from 0. Some tables
+-- have only the values of the children, by child and attribute (`in_children`).
 abbrev pub Table : Type 0
 Table = ℕ → ℕ → Value
 

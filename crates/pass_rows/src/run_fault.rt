@@ -12,9 +12,9 @@ use treefile::{DeviceFault, FrameFault};
 /// documents what its devices contain after a failure.
 #[derive(Clone, Copy, Debug, PartialEq, Eq)]
 pub enum RunFault {
-    /// R1: the content that is read is not the file of a tree of the grammar. The expected file is
-    /// one of pass k - 1 if pass k failed, or a run of all passes that begins with pass k. For
-    /// `upgrade` it is one of version 1 and pass 0. The offset in bytes is 0 if the content does
+    /// R1: the content that is read is not the file of a tree of the grammar. A pass k, and a run of
+    /// all passes from k on, expects a file of pass k - 1. `upgrade` expects one of version 1 and
+    /// pass 0. The offset in bytes is 0 if the content does
     /// not begin as a tree file of the expected version, and 4 if it is the file of another pass.
     /// Otherwise it is the end of the frame that shows the damage, or the offset at which a frame
     /// should end.

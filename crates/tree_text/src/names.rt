@@ -5,8 +5,8 @@ use message_parts::classes::class_name;
 use message_parts::display::{PlainText, QuotedText};
 use std::fmt;
 
-/// A symbol, class or literal, which prints as in the grammar: a symbol or class by its name, a
-/// literal in quotes. Prints nothing if the grammar does not have it.
+/// A symbol, class or literal. A symbol or class prints as its name, and a literal in quotes, as
+/// `QuotedText` does. A symbol or literal that the grammar does not have prints nothing.
 #[derive(Clone, Copy)]
 pub struct ItemName<'a> {
     pub grammar: &'a Grammar,

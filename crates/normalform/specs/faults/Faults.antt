@@ -2,8 +2,9 @@
 -- reached (the textbook), without N6 to N8 the productions are complete (Knuth, 1968), and without N9 they are normal (Bochmann,
 -- 1976). Each kind but N4 and N5 is a list of checks. The checks of N6 are ordered by production, place and attribute, those of
 -- N10 as the variants of `LimitKind`, and those of other kinds as the raw grammar's lists. N4 and N5 name the first wrong symbol.
--- In this file, `ss` are the declared symbols, `names` their names, `qs` productions, `q` one of them and `p` its number, `items`
--- the items at its places, `r` a rule, `o` an occurrence, and `ts` targets of rules.
+-- In this file, `ss` are the declared symbols, `names` the names of symbols (in `doubled_names` also those of attributes), `qs`
+-- productions, `q` one of them and `p` its number, `items` the items at its places, `r` a rule, `o` an occurrence, and `ts`
+-- targets of rules.
 use Rattle.std.specs.Prelude.{All, ℕ, zero, suc, cond, fold, ◌⊎◌, ◌+◌, ◌≡◌, ◌<◌, ◌≤◌, nat_eq, nat_le, not, Bool, true, false}
 use Rattle.std.specs.Prelude.{◌&&◌, List, [], ◌∷◌, ◌++◌, length, map, flat_map, find, Option, Some, None, bytes_eq, slice_get}
 use Rattle.std.specs.List.{list_any, list_all, range_with_len}
@@ -154,7 +155,7 @@ missing_check ts p place a = (fault.RuleMissing p place a, list_any (same_target
 abbrev pub missing_at : List Symbol → List Target → ℕ → ℕ → Item → List Check
 missing_at ss ts p place x = map (missing_check ts p place) (defined_at ss place x)
 
--- the update of the state of `checks_along` where the state is the index of the element
+-- the third argument of `checks_along` if its state is the index of an element: the next index
 abbrev pub next_index : {X : Type 0} → ℕ → X → ℕ
 next_index n x = n + 1
 

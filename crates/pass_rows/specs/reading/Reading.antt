@@ -60,8 +60,8 @@ AreUntaken read passes bytes = (h : ℕ → Value) (others : List ℕ) → ((a :
 abbrev pub AllWell : Table → Type 0
 AllWell e = (j a : ℕ) → IsWell (e j a)
 
--- The bytes are not the encodings of well values of those attributes, among the ones with these passes, that have a pass up to
--- `read`.
+-- Take the attributes whose passes are the list `passes`, and of these the ones of a pass up to `read`. The bytes are not the
+-- encodings of any well values of them.
 abbrev pub IsNoRow : ℕ → List ℕ → List ℕ → Type 0
 IsNoRow read passes bytes = (h : ℕ → Value) → ((a : ℕ) → IsWell (h a)) → bytes ≡ flat_map spelling_of (values_up_to read passes h)
     → ⊥

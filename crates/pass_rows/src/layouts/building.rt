@@ -243,10 +243,10 @@ fn row_of_production(
 
 /// Returns the layout of each production of a grammar in a pass of a plan, and the hints.
 ///
-/// Fails with `NoMemory` if memory cannot be allocated. The time: for each place of a production,
-/// it reads the at most 16 attributes of the symbol there a few times, and for each target and
-/// argument of the rules once. For the hints, it reads for each rule of an earlier pass at most
-/// the whole expression, and the slots of one row.
+/// Fails with `NoMemory` if memory cannot be allocated. It reads the attributes of a symbol (at most
+/// 16) a few times for each place of a production, and once for each target and each argument of a
+/// rule. For the hints, it reads for each rule of an earlier pass at most the whole expression, and
+/// the slots of one row.
 pub fn build_layout(alloc: Global, setting: &Setting<'_>) -> Result<Layout, NoMemory>
     requires plan { IsPlan setting.now.grammar.now setting.now.plan.now.0 setting.now.plan.now.1 }
     requires first { 1 ≤ setting.now.pass }

@@ -14,7 +14,7 @@
 //! | own inherited `a` | in the parent's row: `$i.b`, if the rule of `$j.a` is `$i.b` | always |
 //! | other own inherited `a` | in its own row: `b`, if a rule is `$0.b = $0.a` | always |
 //! | copy of `$i.b` | in its own row: `a`, if a rule is `$0.a = $i.b` | always |
-//! | other copy of `$i.b` | before it in its own row: `$m.d`, if a rule is `$i.c = $m.d` | maybe |
+//! | other copy of `$i.b` | in its own row, at a lower index: `$m.d`, if a rule is `$i.c = $m.d` | maybe |
 //!
 //! "Always" means in each file that the earlier passes wrote. In a damaged file the values may
 //! differ. "Maybe" means if rules in the subtree of `$i` copy `c` to `b`. A rule also counts as
@@ -248,8 +248,8 @@ pub struct ChildLocation {
 /// `start` of all stored values. The row of the parent, if it is stored, comes directly before it.
 #[derive(Clone, Copy)]
 pub struct RowLocation<'a> {
-    /// The hints. This is a reference to a reference, so that it costs a load only where a hint is
-    /// looked up.
+    /// The hints. This is a reference to a field with the hints' address, so that the address is
+    /// read only where a hint is looked up.
     pub hints: &'a &'a Hints,
     /// The number of the pass.
     pub pass: u16,
