@@ -85,7 +85,7 @@ complete -c aggen -n '__aggen_is_at parse 0' -k -a '(__fish_complete_suffix .ag)
 complete -c aggen -n '__aggen_is_at parse 1' -F
 complete -c aggen -n '__aggen_is_at parse 2' -F
 complete -c aggen -n "__aggen_is_at 'show'" -l color -x -a 'auto always never' -d 'Marks the number and the place in messages; without it, on a terminal only'
-complete -c aggen -n "__aggen_is_at 'show'" -l depth -x -d 'Prints only N levels; a node whose children are left out gets their number'
+complete -c aggen -n "__aggen_is_at 'show'" -l depth -x -d 'Prints only N levels; a node whose children are left out gets the number of nodes below it'
 complete -c aggen -n "__aggen_is_at 'show'" -l node -x -d 'The node at this path: `/2/1` is the first child of the root\'s second child, `/1*9` nine times the first'
 complete -c aggen -n "__aggen_is_at 'show'" -s q -l quiet -d 'Shows no progress, and prints no refusal but those of the command line'
 complete -c aggen -n "__aggen_is_at 'show'" -l only -x -d 'Prints only this attribute, and only nodes that have it; can be repeated'

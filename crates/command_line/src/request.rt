@@ -320,8 +320,8 @@ fn output_of<'a>(matches: &ArgMatches<'a>) -> Option<&'a str> {
 }
 
 /// Returns the value of an argument, or the empty text if it is missing. Clap accepts no command
-/// line without a required argument. Only `request_of` reads an argument that a command doesn't
-/// have (G for `value`), and it doesn't use the empty text then.
+/// line in which a required argument is missing. But `request_of` reads G before it looks at the
+/// command, and `value` has no G. It doesn't use the empty text then.
 fn value_of<'a>(matches: &ArgMatches<'a>, name: &str) -> &'a str {
     matches.get_str(name).unwrap_or("")
 }

@@ -34,7 +34,7 @@ pub const ATTRIBUTES: &str = "ATTRIBUTE";
 /// Returns the option that limits the levels that are printed.
 pub fn depth<'a>(alloc: Global) -> Arg<'a> {
     Arg::new(alloc, DEPTH).long(DEPTH).value_name("N").help(
-        "Prints only N levels; a node whose children are left out gets their number",
+        "Prints only N levels; a node whose children are left out gets the number of nodes below it",
     )
 }
 

@@ -1,5 +1,6 @@
 //! Binary fractions: their grammar, and a sentence with its tree. Also functions that build a
-//! translator, translate, evaluate and parse, over devices that the caller chooses.
+//! translator, that translate and evaluate over given devices, and that parse on a device of which
+//! a given call fails.
 
 use crate::endings::Ending;
 use aggen::Translator;

@@ -5,8 +5,8 @@
 --   f: the values of a node by attribute. e: the table of the values at a node and its children, by place and attribute
 --   t, ts: a tree, trees. w, ws: their values. x, xs: an open node, open nodes
 --   old, new: a transcript before and after. under: the values in memory before the row of a node
--- The phases (of `passcode`) of a node are: Between, before the `Get` of a child, or after the last child; Got, from the `Get` of a
--- child that is a node to its `Go`; Gone, from that `Go`, or from the `Get` of a token, to the `Put`; Ended, after `End`.
+-- The phases (of `passcode`) of a node are: Between, before the `Get` of a child, or after the last child; Got, from the `Get` of
+-- a child that is a node to its `Go`; Gone, from that `Go`, or from the `Get` of a token, to the `Put`; Ended, after `End`.
 use Rattle.std.specs.Prelude.{ℕ, suc, ◌≡◌, ◌+◌, ◌<◌, ◌≤◌, List, [], ◌∷◌, ◌++◌, Some, slice_get, length}
 use Rattle.std.specs.List.{count_by}
 use Rattle.ag_value.specs.declared.value.Value.{Value}
@@ -174,9 +174,9 @@ rules_left c x = count_by is_computation (rest_of c x)
 
 -- An open node x waits for its child, a node of production p and symbol s. s', f', under' and `old` belong to x; s, f and `under`
 -- belong to the child. `new` is the transcript before the record of the child was read. `evals` rules were evaluated before the
--- child was entered, `evals_before` of them before x was. After the child's tree, the rest of x's list of instructions runs to its end. The fields:
--- i children of x are complete, with the trees `trees` and their values `values`; the rules `done` were run at x; `table` has the
--- values at x and its children, and `copied` the copies in x's row.
+-- child was entered, `evals_before` of them before x was. After the child's tree, the rest of x's list of instructions runs to
+-- its end. The fields: i children of x are complete, with the trees `trees` and their values `values`; the rules `done` were run
+-- at x; `table` has the values at x and its children, and `copied` the copies in x's row.
 pub record Suspended (c : Setting) (s' : ℕ) (f' : ℕ → Value) (level : ℕ) (x : OpenNode) (under' : List Value) (old : Transcript)
     (evals_before : ℕ) (others : Pending) (s p : ℕ) (f : ℕ → Value) (under : List Value) (new : Transcript) (evals : ℕ)
     (todo : Pending) : Type 0 where
