@@ -98,7 +98,7 @@ int aggen_build(const void *grammar, size_t grammar_length, aggen_handle *handle
  * the whole translation. If that is above `capacity`, call again with more room. Returns AGGEN_OK, also if
  * there is not enough room; AGGEN_SENTENCE or AGGEN_NO_TEXT if the sentence or its translation is
  * rejected; AGGEN_NO_MEMORY; AGGEN_NO_TRANSLATOR; AGGEN_MISUSE. After a refusal `out` is as before, and
- * `*length` is 0; after AGGEN_MISUSE it is as before too.
+ * `*length` is 0. After AGGEN_MISUSE `*length` is as before too.
  *
  * `message` and `refusal` are as in aggen_build. */
 int aggen_translate(aggen_handle *handle, const void *sentence, size_t sentence_length,
