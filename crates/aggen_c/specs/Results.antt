@@ -22,7 +22,7 @@ use Rattle.ag_fault.specs.declared.fault.Fault.TheVariants as fault
 
 -- There is exactly one tree with the property `IsTree`, and it is within the limits. The values meet every equation of the
 -- grammar at every node of this tree, no other values do, and the text is the value of the root's `out`. `IsTheSolution` speaks
--- only of attributes that `assignment` gives a pass: this is a least plan's assignment, and gives one to every attribute.
+-- only of attributes to which `assignment` gives a pass. As the assignment of a least plan, it gives a pass to every attribute.
 pub record HasTranslation (IsTree : Tree → Type 0) (g : Grammar) (text : List ℕ) : Type 0 where
   pub tree : Tree
   pub one : IsOneTree IsTree tree

@@ -1,4 +1,4 @@
--- How a report is printed: one line, which begins with the number of the fault. This project's.
+-- How a report is printed: one line, which begins with the number of the fault, or with `usage` or `NoMemory`. This project's.
 use Rattle.std.specs.Prelude.{ℕ, List, [], ◌++◌, ◌==◌, Option, Some, None, String, if◌then◌else◌, codes, decimal, length}
 use Rattle.std.specs.Prelude.{string_bytes}
 use Rattle.std.specs.declared.alloc.Global.{Global}

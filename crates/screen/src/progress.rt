@@ -18,9 +18,9 @@ const INTERVAL: u64 = 200;
 /// The number of calls that append for each reading of the clock, while a sentence is parsed.
 const APPENDS: u32 = 256;
 
-/// The progress of a translation. Once the translation has taken two seconds, a line on standard
-/// error shows that the sentence is parsed or, in a pass, the number of the pass and the percentage
-/// of its input file that has been read. Failed writes of the line are ignored.
+/// The progress of a translation. After two seconds, calls of the devices show a line on standard
+/// error, which says that the sentence is parsed or, in a pass, the number of the pass and the
+/// percentage of its input file that has been read. Failed writes of the line are ignored.
 #[derive(Drop)]
 pub struct Progress<'a, R> {
     rt: &'a R,

@@ -257,7 +257,8 @@ impl<R: Files + Print + Eprint + Clock> TranslationRun<'_, R> {
     }
 
     /// Translates a sentence into memory, and shows the progress. Then erases the line of progress,
-    /// and writes the translation to `out`.
+    /// and writes the translation to `out`. The cause of an error is looked for in the inner
+    /// devices, so no progress is shown meanwhile.
     fn run_shown<W: Write>(
         &self,
         sentence: Source<'_>,
@@ -270,7 +271,10 @@ impl<R: Files + Print + Eprint + Clock> TranslationRun<'_, R> {
             None => {
                 let mut a = ShownDevice::new(SharedDevice::new(self.alloc), &*progress);
                 let mut b = ShownDevice::new(SharedDevice::new(self.alloc), &*progress);
-                self.translate_on(sentence, &mut a, &mut b, &mut text)
+                let bytes = sentence.bytes;
+                let translated = self.translator.translate(bytes, &mut a, &mut b, &mut text);
+                let (mut a, mut b) = (a.into_inner(), b.into_inner());
+                self.outcome_of(translated, sentence, &mut a, &mut b)
             }
         };
         progress.erase();
@@ -281,8 +285,8 @@ impl<R: Files + Print + Eprint + Clock> TranslationRun<'_, R> {
     }
 
     /// Translates a sentence to `text` with the tree files in a folder, and shows the progress.
-    /// The fault, if there is one, is that of `WorkFiles::open`, of `finish` or of `translate_on`.
-    /// If both `finish` and `translate_on` fail, it is that of `finish`.
+    /// The fault, if there is one, is that of `WorkFiles::open`, of `finish` or of the translation.
+    /// If both `finish` and the translation fail, it is that of `finish`.
     fn run_shown_in(
         &self,
         folder: &str,
@@ -296,8 +300,10 @@ impl<R: Files + Print + Eprint + Clock> TranslationRun<'_, R> {
         };
         let mut a = ShownDevice::new(a, progress);
         let mut b = ShownDevice::new(b, progress);
-        let outcome = self.translate_on(sentence, &mut a, &mut b, text);
-        match finish(a.into_inner(), b.into_inner()) {
+        let translated = self.translator.translate(sentence.bytes, &mut a, &mut b, text);
+        let (mut a, mut b) = (a.into_inner(), b.into_inner());
+        let outcome = self.outcome_of(translated, sentence, &mut a, &mut b);
+        match finish(a, b) {
             Ok(()) => outcome,
             Err(fault) => Outcome::failure(fault),
         }
