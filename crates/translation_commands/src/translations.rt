@@ -300,7 +300,9 @@ impl<R: Files + Print + Eprint + Clock> TranslationRun<'_, R> {
         };
         let mut a = ShownDevice::new(a, progress);
         let mut b = ShownDevice::new(b, progress);
-        let translated = self.translator.translate(sentence.bytes, &mut a, &mut b, text);
+        let translated = self
+            .translator
+            .translate(sentence.bytes, &mut a, &mut b, text);
         let (mut a, mut b) = (a.into_inner(), b.into_inner());
         let outcome = self.outcome_of(translated, sentence, &mut a, &mut b);
         match finish(a, b) {
