@@ -1,6 +1,6 @@
 //! Texts that are joined without a copy of their bytes.
 
-ghost use Rattle.std.specs.Prelude.{◌≡◌, ◌++◌, ◌↔◌, ◌+◌, ◌^◌, ◌<◌, ◌≤◌, drop, length, slice_index, take};
+ghost use Rattle.std.specs.Prelude.{◌≡◌, ◌++◌, ◌↔◌, ◌+◌, ◌<◌, ◌≤◌, drop, length, slice_index, take};
 ghost use Rattle.std.specs.Prelude.{IfNone, IfOk, IfSome, IsTrue, OnErr, OnOk, ℕ};
 ghost use Rattle.ag_value.specs.Measure.{max_weight, weight_of};
 ghost use Rattle.ag_value.specs.Spelling.{spelling_of};

@@ -1,14 +1,14 @@
 //! Values that are available without making an operand: literals, occurrences, bound names, and
 //! chains of these with scalar values.
 
-ghost use Rattle.std.specs.Prelude.{ℕ, ℤ, ◌≡◌, ◌+◌, ◌-◌, ◌^◌, ◌<◌, length, map, true, [], IfOk, IfSome};
+ghost use Rattle.std.specs.Prelude.{ℕ, ℤ, ◌≡◌, ◌+◌, ◌-◌, ◌^◌, ◌<◌, length, true, IfOk, IfSome};
 ghost use Rattle.std.specs.Prelude.{MatchOption, None};
 ghost use Rattle.ag_value.specs.Well.{IsWell, is_item};
 ghost use Rattle.ag_value.specs.declared.value.Value.{Value as AttributeValue};
 ghost use Rattle.ag_value.specs.declared.value.Value.TheVariants as value;
-ghost use Rattle.ag_grammar.specs.expressions.Evaluation.{chain_value, value_in, value_of};
+ghost use Rattle.ag_grammar.specs.expressions.Evaluation.{value_in, value_of};
 ghost use Rattle.ag_grammar.specs.declared.syntax.node.Node.TheVariants as node;
-ghost use Rattle.ag_grammar.specs.expressions.Trees.{all_below, is_within};
+ghost use Rattle.ag_grammar.specs.expressions.Trees.{is_within};
 ghost use Rattle.ag_value.specs.operations.Fitting.{fit};
 ghost use Rattle.ag_grammar.specs.values.Operators.{operation_result};
 ghost use Rattle.ag_eval.specs.Operands.{IsIn, held_value, operand_value, scalar_value};

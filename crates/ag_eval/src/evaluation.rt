@@ -1,7 +1,7 @@
 //! The value of an expression. A function that returns a `Result` with `NoMemory` fails only if
 //! memory is refused, or if a shared value has 2^64 - 1 owners.
 
-ghost use Rattle.std.specs.Prelude.{◌≡◌, ◌+◌, ◌-◌, ◌^◌, ◌<◌, ◌≤◌, length, map, suc, true, IfOk};
+ghost use Rattle.std.specs.Prelude.{◌≡◌, ◌+◌, ◌-◌, ◌^◌, ◌<◌, ◌≤◌, length, map, true, IfOk};
 ghost use Rattle.std.specs.Prelude.{IfSome, IsTrue, MatchResult, OnOk, List, [], ◌∷◌, ◌++◌};
 ghost use Rattle.std.specs.Prelude.{cond};
 ghost use Rattle.ag_value.specs.Well.{IsWell};

@@ -1,6 +1,6 @@
 //! How the program's faults are printed.
 
-ghost use Rattle.std.specs.Prelude.{◌++◌, flat_map};
+ghost use Rattle.std.specs.Prelude.{flat_map};
 ghost use Rattle.std.specs.Fmt.{WritesOnOk};
 ghost use Rattle.ag_fault.specs.Printed.{attribute_text, qualified_name};
 

@@ -1,7 +1,7 @@
 //! Laws of the values of expressions, each a function with an empty body whose contract is the
 //! fact, and worked examples.
 
-ghost use Rattle.std.specs.Prelude.{◌≡◌, ◌∷◌, [], ℕ, neg_ℤ, negsuc, pos, codes};
+ghost use Rattle.std.specs.Prelude.{◌≡◌, ◌∷◌, [], ℕ, negsuc, codes};
 ghost use Rattle.ag_value.specs.declared.value.ErrorCode.TheVariants as code;
 ghost use Rattle.ag_value.specs.declared.value.Value.{Value as AttributeValue};
 ghost use Rattle.ag_value.specs.declared.value.Value.TheVariants as value;
@@ -16,7 +16,7 @@ ghost use Rattle.ag_grammar.specs.values.Laws.{BigComesNext, DeepComesFirst, Wha
 ghost use Rattle.ag_grammar.specs.values.Laws.{GetIsWell, KeysAreWell, SameIsOne};
 ghost use Rattle.ag_value.specs.operations.Lists.{listed};
 ghost use Rattle.ag_grammar.specs.values.Operators.{operation_result};
-ghost use Rattle.ag_value.specs.operations.Tables.{put_result, with_pair};
+ghost use Rattle.ag_value.specs.operations.Tables.{with_pair};
 ghost use Rattle.ag_grammar.specs.values.Worked.{bound_error, least, number, other_branch, two_keys};
 
 /// States that `fit` (of `ag_value`) turns a value that is too deep into the error `deep`, another

@@ -3,7 +3,6 @@
 ghost use Rattle.std.specs.Prelude.{◌≡◌, ℕ, chars, drop, option_map};
 ghost use Rattle.std.specs.Str.{IsCharBoundary};
 ghost use Rattle.ag_tokens.specs.Lexing.{token_of};
-ghost use Rattle.ag_tokens.specs.Parsing as parsing;
 ghost use Rattle.ag_tokens.specs.Remaining.{ending_by};
 ghost use Rattle.ag_tokens.specs.Parsing.{ending_fault, fault_of, next_token, is_end, next, offset};
 ghost use Rattle.ag_tokens.specs.Tokens.{Lexes};

@@ -1,8 +1,8 @@
 //! The lexer: reads the first token of a text.
 
-ghost use Rattle.std.specs.Prelude.{◌≡◌, ◌++◌, ◌∷◌, [], None, pos, true, false, length, chars, is_some};
+ghost use Rattle.std.specs.Prelude.{◌≡◌, ◌∷◌, [], None, pos, true, false, length, chars, is_some};
 ghost use Rattle.std.specs.Prelude.{option_map};
-ghost use Rattle.std.specs.Prelude.{IfOk, IfSome, MatchOption, encode_utf8, encode_utf8_all};
+ghost use Rattle.std.specs.Prelude.{IfOk, IfSome, MatchOption, encode_utf8_all};
 ghost use Rattle.std.specs.Char.{is_ascii_digit};
 ghost use Rattle.std.specs.Str.Parse.{digits_value};
 ghost use Rattle.ag_tokens.specs.Remaining.{after_separators};

@@ -1,7 +1,7 @@
 //! The commands over one tree file: writing the file of a sentence's tree, translating the tree in
 //! a file, and converting a file of version 1.
 
-ghost use Rattle.std.specs.Prelude.{◌≡◌, ◌≢◌, [], true, Err, IfErr, IfOk, IsErrOf, OnErr, OnOk};
+ghost use Rattle.std.specs.Prelude.{◌≡◌, ◌≢◌, [], Err, IfErr, IfOk, IsErrOf, OnErr, OnOk};
 ghost use Rattle.std.specs.Io.KnownBytes.{Appends};
 ghost use Rattle.ag_grammar.specs.grammars.Tree.{IsWithinLimits, Tree, node_count};
 ghost use Rattle.ag_grammar.specs.grammars.Tree.{max_depth, max_nodes};

@@ -6,7 +6,7 @@ ghost use Rattle.std.specs.Io.KnownBytes.{Appends};
 ghost use Rattle.ag_value.specs.Shown.{separated};
 ghost use Rattle.passcode.specs.Rows.{row_of};
 ghost use Rattle.planchecker.specs.Plans.{IsPlan};
-ghost use Rattle.agoutput.specs.Listings.{attribute_name as name_at, code_line, code_text};
+ghost use Rattle.agoutput.specs.Listings.{code_line, code_text};
 ghost use Rattle.agoutput.specs.Listings.{instruction_text, production_text};
 ghost use Rattle.agoutput.specs.Writing.{AppendsBeginning};
 

@@ -1,6 +1,6 @@
 //! Writes the listing of a plan's passes.
 
-ghost use Rattle.std.specs.Prelude.{◌≡◌, ◌++◌, IfOk, IsErrOf, OnOk, decimal, string_bytes};
+ghost use Rattle.std.specs.Prelude.{◌≡◌, ◌++◌, IfOk, IsErrOf, OnOk, string_bytes};
 ghost use Rattle.std.specs.List.{flat_map, zip};
 ghost use Rattle.passassign.specs.Rows.{numbers_of};
 ghost use Rattle.planchecker.specs.Plans.{IsPlan};

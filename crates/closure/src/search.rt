@@ -8,7 +8,6 @@ ghost use Rattle.std.specs.Prelude.{◌≡◌, ◌<◌, ◌≤◌, ◌⊎◌, �
 ghost use Rattle.std.specs.Prelude.{Contains, IfOk, OnOk, slice_index_or};
 ghost use Rattle.std.specs.List.{list_all};
 ghost use Rattle.closure.specs.Additions.{IsAdded, IsReason, AreInOrder};
-ghost use Rattle.closure.specs.Clauses.{IsClauseBelow};
 ghost use Rattle.closure.specs.Following.{is_marked, AreClosure};
 ghost use Rattle.closure.specs.Search.{IsSearch, IsSettled, Grows};
 ghost use Rattle.closure.specs.Waiting.{rows, AreWaiting};

@@ -1,6 +1,6 @@
 //! Laws about look-ahead and trees, each the contract of a function that does nothing.
 
-ghost use Rattle.std.specs.Prelude.{◌≡◌, ◌∷◌, [], Some, None};
+ghost use Rattle.std.specs.Prelude.{◌≡◌, Some, None};
 ghost use Rattle.ag_grammar.specs.declared.grammar.Terminal.TheVariants.{Class, Literal};
 ghost use Rattle.ag_grammar.specs.grammars.Sample.{sample};
 ghost use Rattle.llparse.specs.Ahead.{HasNoConflict, IsConflict};

@@ -1,6 +1,6 @@
 //! Attributes of symbols, by their names.
 
-ghost use Rattle.std.specs.Prelude.{◌≡◌, ◌≤◌, ◌↔◌, IfOk, IfSome, IsTrue, Some, length, slice_get};
+ghost use Rattle.std.specs.Prelude.{◌≡◌, ◌≤◌, IfOk, IfSome, IsTrue, Some, length, slice_get};
 ghost use Rattle.ag_grammar.specs.grammars.Accepted.{max_symbols};
 ghost use Rattle.ag_grammar.specs.grammars.AttributeGrammar.{attribute_names};
 ghost use Rattle.message_parts.specs.Names.{IsAttributeNamed, IsSymbolNamed};

@@ -4,7 +4,7 @@
 //! nothing. One clause says what the file itself received: `taken` of `append`, where a contract
 //! can name the file's bytes. No other clause can say that an operation was performed as recorded:
 //! a reviewer has to compare the operation and the entry in each body.
-ghost use Rattle.std.specs.Prelude.{◌≡◌, ◌∷◌, true, false, is_ok, length, IfOk, MatchResult, OnOk};
+ghost use Rattle.std.specs.Prelude.{◌≡◌, ◌∷◌, true, false, is_ok, IfOk, MatchResult, OnOk};
 ghost use Rattle.std.specs.Io.KnownBytes.{Appends};
 ghost use Rattle.noted_file.specs.Calls.{append_event, length_event, open_event, read_event};
 ghost use Rattle.noted_file.specs.Calls.{truncate_event};

@@ -1,5 +1,5 @@
 //! The record of the calls on a file, which only contracts can read.
-ghost use Rattle.std.specs.Prelude.{◌≡◌, List, [], ◌∷◌};
+ghost use Rattle.std.specs.Prelude.{◌≡◌, List, ◌∷◌};
 ghost use Rattle.std.specs.Borrow.{ftrue};
 ghost use Rattle.noted_file.specs.Calls.{Event, IsFresh, event_of};
 

@@ -3,7 +3,6 @@
 ghost use Rattle.std.specs.Prelude.{◌≡◌, ◌+◌, ◌-◌, ◌^◌, ◌<◌, IfOk, Some, length, true};
 ghost use Rattle.ag_grammar.specs.Lists.{Each};
 ghost use Rattle.ag_grammar.specs.declared.grammar.Rule.{Rule as TheRule};
-ghost use Rattle.ag_grammar.specs.declared.syntax.node.Node.TheVariants as node;
 ghost use Rattle.ag_grammar.specs.expressions.Evaluation.{value_of};
 ghost use Rattle.ag_value.specs.operations.Arguments.{fault_of, has_fault};
 ghost use Rattle.origins.specs.Arising.{arising_count, environment, exchanged, is_arising};

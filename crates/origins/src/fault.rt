@@ -2,7 +2,6 @@
 
 ghost use Rattle.std.specs.Prelude.{◌≡◌};
 ghost use Rattle.origins.specs.Faults.{record_fault_of, walk_fault_of};
-ghost use Rattle.origins.specs.declared.fault.DecodeFault.TheVariants as record_fault;
 ghost use Rattle.origins.specs.declared.fault.WalkFault.TheVariants as walk_fault;
 
 use ag_value::{NoMemory, ValueFault};

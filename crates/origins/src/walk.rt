@@ -1,6 +1,6 @@
 //! A walk over a tree file of the last pass, from its end, that finds where errors arise.
 
-ghost use Rattle.std.specs.Prelude.{◌≡◌, ◌+◌, ◌^◌, ◌≤◌, ◌<◌, IfSome, ◌∷◌, ◌++◌, [], All, IfOk, IsErrOf, None, OnOk, Some};
+ghost use Rattle.std.specs.Prelude.{◌≡◌, ◌+◌, ◌^◌, ◌<◌, IfSome, ◌∷◌, All, IfOk, IsErrOf, None, OnOk, Some};
 ghost use Rattle.std.specs.Prelude.{length, map, reverse, slice_get};
 ghost use Rattle.ag_value.specs.Well.{IsWell};
 ghost use Rattle.ag_grammar.specs.declared.grammar.Production.{Production as TheProduction};

@@ -1,7 +1,7 @@
 //! The attributes that a pass can't compute: they are struck one after the other, until no other
 //! can be.
 
-ghost use Rattle.std.specs.Prelude.{ℕ, ◌≡◌, ◌*◌, ◌↔◌, Some, IfOk, IsTrue, OnOk, length, map};
+ghost use Rattle.std.specs.Prelude.{◌≡◌, ◌*◌, ◌↔◌, Some, IfOk, IsTrue, OnOk, length, map};
 ghost use Rattle.ag_grammar.specs.Lists.{Each};
 ghost use Rattle.ag_grammar.specs.grammars.Accepted.{IsAccepted, max_attributes};
 ghost use Rattle.ag_grammar.specs.grammars.AttributeGrammar.{Grammar as Plain};

@@ -1,7 +1,7 @@
 //! What the rules of a grammar do with an attribute: whether one of them uses it, and whether the
 //! rules for it are only copies.
 
-ghost use Rattle.std.specs.Prelude.{ℕ, ◌≡◌, ◌↔◌, IsTrue, Some};
+ghost use Rattle.std.specs.Prelude.{◌≡◌, ◌↔◌, IsTrue, Some};
 ghost use Rattle.ag_grammar.specs.declared.grammar.Item.TheVariants as item;
 ghost use Rattle.ag_grammar.specs.grammars.AttributeGrammar.{item_at};
 ghost use Rattle.plan_reasons.specs.Hints.{IsAttributeAt, IsCopied, IsCopiedBy, IsCopiedIn, IsCopy};

@@ -1,13 +1,12 @@
 //! Runs a list of instructions through the states of a node (`Course.antt` of `passcode`), and
 //! finds the first instruction that may not come next.
 
-ghost use Rattle.std.specs.Prelude.{ℕ, ◌≡◌, ◌<◌, ◌≤◌, ◌↔◌, IsTrue, Some, length, slice_get};
+ghost use Rattle.std.specs.Prelude.{ℕ, ◌≡◌, ◌<◌, ◌≤◌, ◌↔◌, IsTrue, Some, length};
 ghost use Rattle.ag_grammar.specs.Lists.{Has};
 ghost use Rattle.ag_grammar.specs.declared.grammar.Target.{Target as TheTarget};
-ghost use Rattle.ag_grammar.specs.grammars.Accepted.{max_passes, max_rules};
+ghost use Rattle.ag_grammar.specs.grammars.Accepted.{max_passes};
 ghost use Rattle.ag_grammar.specs.grammars.Passes.{HasPass};
 ghost use Rattle.passassign.specs.Rows.{passes_of};
-ghost use Rattle.passcode.specs.Agreement.{IsRuleAt};
 ghost use Rattle.passcode.specs.Course.{AreDone, IsAvailable, IsTurnOf, IsVisited, MayCompute};
 ghost use Rattle.passcode.specs.Course.{MayRun, after, arity, place_of, run_count};
 ghost use Rattle.passcode.specs.Limits.{IsPlanned};

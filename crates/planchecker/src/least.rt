@@ -1,7 +1,6 @@
 //! The check of the certificate that an assignment is the least one.
 
 ghost use Rattle.std.specs.Prelude.{ℕ, ◌≡◌, ◌+◌, ◌^◌, ◌<◌, ◌≤◌, ◌↔◌, IsTrue, Some, length};
-ghost use Rattle.std.specs.Prelude.{slice_get};
 ghost use Rattle.ag_grammar.specs.grammars.Passes.{IsLegal, Passes, direction_of};
 ghost use Rattle.passassign.proofs.making.NoEarlier.{later_from};
 ghost use Rattle.passassign.specs.Least.{partial_of};

@@ -1,6 +1,6 @@
 //! Tests of reading a file from its end, on devices that fail or return wrong bytes.
 
-ghost use Rattle.std.specs.Prelude.{◌≡◌, [], false, IfOk, length, map};
+ghost use Rattle.std.specs.Prelude.{[], false, IfOk, length, map};
 ghost use Rattle.treefile.specs.framing.Backward.{ReadsBack};
 ghost use Rattle.treefile.specs.devices.Device.{WhenHonest};
 ghost use Rattle.treefile.specs.records.TreeFile.{version_two};

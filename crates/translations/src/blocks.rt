@@ -1,7 +1,7 @@
 //! Tests of what no contract states: a pass reads by blocks, and writes while it reads. To read by
 //! blocks means that one read of the device returns many records.
 
-ghost use Rattle.std.specs.Prelude.{◌≡◌, IfOk};
+ghost use Rattle.std.specs.Prelude.{IfOk};
 ghost use Rattle.planchecker.specs.Plans.{IsPlan};
 
 use crate::counting::CountingDevice;

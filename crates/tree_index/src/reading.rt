@@ -2,7 +2,6 @@
 
 ghost use Rattle.std.specs.Prelude.{◌≡◌, ◌∷◌, IfOk, IfSome, IsErrOf, OnOk, Some, reverse, slice_get};
 ghost use Rattle.ag_grammar.specs.declared.grammar.Production.{Production as TheProduction};
-ghost use Rattle.ag_grammar.specs.grammars.Accepted.{IsAccepted};
 ghost use Rattle.ag_grammar.specs.grammars.AttributeGrammar.{IsProduction, stored_items};
 ghost use Rattle.ag_grammar.specs.grammars.Passes.{nth};
 ghost use Rattle.treefile.specs.devices.Device.{LeavesContent, Persists, WhenHonest};

@@ -1,12 +1,10 @@
 //! Converts a tree file of version 1 to version 2.
 
-ghost use Rattle.std.specs.Prelude.{◌≡◌, ◌+◌, ◌-◌, ◌<◌, ◌≤◌, ◌^◌, All, false, length, Bool, IfErr, IfOk};
-ghost use Rattle.std.specs.Prelude.{IfSome, IsErrOf, List, OnErr, OnOk, [], ◌∷◌, ◌++◌, ℕ};
+ghost use Rattle.std.specs.Prelude.{◌≡◌, ◌+◌, ◌-◌, ◌<◌, ◌≤◌, ◌^◌, All, false, length, IfErr, IfOk};
+ghost use Rattle.std.specs.Prelude.{IfSome, IsErrOf, OnOk, [], ◌∷◌, ◌++◌};
 ghost use Rattle.ag_value.specs.Well.{IsWell};
 ghost use Rattle.ag_grammar.specs.grammars.Accepted.{IsAccepted};
 ghost use Rattle.ag_grammar.specs.grammars.AttributeGrammar.{stored_items};
-ghost use Rattle.backreader.specs.turning.Turning.{max_reversed_records};
-ghost use Rattle.pass_rows.specs.Faults.{run_fault_of_turn};
 ghost use Rattle.passrun.specs.passing.Ahead.{IsResourceFault};
 ghost use Rattle.passrun.specs.passing.Putting.{AddsFrames, HasPut, LeavesFrames};
 ghost use Rattle.tree_upgrade.specs.upgrading.Upgrading.{Converted, HasTaken, IsConverted, IsUpgrading, IsUnconverted};

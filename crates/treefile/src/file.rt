@@ -2,10 +2,10 @@
 
 ghost use Rattle.std.specs.Prelude.{◌≡◌, ◌<◌, ◌≤◌, ◌+◌, ◌^◌, ◌++◌, ◌⊎◌, [], length, slice_range};
 ghost use Rattle.std.specs.Prelude.{Ok, Err, IfErr, IfOk, IsErrOf, OnErr, OnOk};
-ghost use Rattle.std.specs.Io.KnownBytes.{Appends, Keeps};
+ghost use Rattle.std.specs.Io.KnownBytes.{Keeps};
 ghost use Rattle.treefile.specs.devices.Appending.{AppendsToFile};
 ghost use Rattle.treefile.specs.devices.Device.{Appends as DeviceAppends, Clears, HasRisen, LeavesContent};
-ghost use Rattle.treefile.specs.devices.Device.{Persists, TakesNoMemory, WhenHonest, max_failures};
+ghost use Rattle.treefile.specs.devices.Device.{TakesNoMemory, WhenHonest, max_failures};
 ghost use Rattle.treefile.specs.devices.Files.{FilePersists, IsNew, StaysBroken, content_of, is_honest_of, taken};
 
 use crate::device::{Device, DeviceFault};

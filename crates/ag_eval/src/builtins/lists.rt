@@ -5,7 +5,6 @@ ghost use Rattle.std.specs.Prelude.{false, true, IfOk, None};
 ghost use Rattle.ag_value.specs.Measure.{depth_of, max_weight, weight_of};
 ghost use Rattle.ag_value.specs.Well.{IsWell};
 ghost use Rattle.ag_value.specs.declared.value.Value.TheVariants as value;
-ghost use Rattle.ag_value.specs.declared.value.Value.{Value as AttributeValue};
 ghost use Rattle.ag_value.specs.operations.Arguments.{fault_of};
 ghost use Rattle.ag_value.specs.operations.Fitting.{fit};
 ghost use Rattle.ag_value.specs.operations.Texts.{is_text};

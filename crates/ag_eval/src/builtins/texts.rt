@@ -1,8 +1,7 @@
 //! Operations on texts.
 
 ghost use Rattle.std.specs.Prelude.{◌≡◌, ◌++◌, ◌-◌, ◌^◌, length, min, string_bytes, IfOk};
-ghost use Rattle.std.specs.List.{flat_map, join_by, list_all};
-ghost use Rattle.ag_value.specs.Well.{IsWell};
+ghost use Rattle.std.specs.List.{join_by, list_all};
 ghost use Rattle.ag_value.specs.operations.Fitting.{fit};
 ghost use Rattle.ag_value.specs.operations.Lists.{concatenation};
 ghost use Rattle.ag_value.specs.operations.Texts.{bytes_of, is_text, join_result, joined_texts};

@@ -1,6 +1,6 @@
 //! Encoding a value in bytes. The first byte is the kind: 0 for a number, 1 for a text, 2 for a
 //! list, 3 for a table, 4 for an error.
-ghost use Rattle.std.specs.Prelude.{◌≡◌, ◌++◌, ◌∷◌, ◌+◌, ◌<◌, ◌^◌, [], length, map, sum};
+ghost use Rattle.std.specs.Prelude.{◌≡◌, ◌++◌, ◌∷◌, ◌+◌, ◌<◌, ◌^◌, length, map, sum};
 ghost use Rattle.std.specs.Prelude.{OnOk, OnErr};
 ghost use Rattle.std.specs.Int.{w32, w64, to_be_bytes, cast_unsigned};
 ghost use Rattle.ag_value.specs.Measure.{weight_of, weight_of_pair};

@@ -1,5 +1,5 @@
 //! The weight and the depth of a value.
-ghost use Rattle.std.specs.Prelude.{◌≡◌, ◌+◌, ◌-◌, ◌^◌, map, min, sum, length};
+ghost use Rattle.std.specs.Prelude.{◌≡◌, ◌-◌, ◌^◌, map, min, sum};
 ghost use Rattle.ag_value.specs.Measure.{depth_of, greatest, weight_of, weight_of_pair};
 
 use crate::text::Text;

@@ -1,5 +1,5 @@
 //! The test of well values: those that `encode` requires and `decode` returns.
-ghost use Rattle.std.specs.Prelude.{◌≡◌, ◌↔◌, ◌&&◌, ◌∷◌, IsTrue, map};
+ghost use Rattle.std.specs.Prelude.{◌≡◌, ◌↔◌, ◌&&◌, IsTrue, map};
 ghost use Rattle.ag_value.specs.Well.{IsWell, all_true, are_keys, is_item, is_item_pair, key_of};
 
 use crate::limits::{MAX_VALUE_DEPTH, MAX_WEIGHT};

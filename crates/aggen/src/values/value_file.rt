@@ -1,6 +1,6 @@
 //! The tree file with one record for a value.
 
-ghost use Rattle.std.specs.Prelude.{◌≡◌, ◌+◌, ◌∷◌, ℕ, [], true, Ok, length, IfErr};
+ghost use Rattle.std.specs.Prelude.{◌≡◌, ◌∷◌, ℕ, [], Ok, length, IfErr};
 ghost use Rattle.std.specs.Prelude.{IfOk, IsErrOf, MatchResult, OnOk};
 ghost use Rattle.ag_value.specs.Well.{IsWell};
 ghost use Rattle.ag_value.specs.declared.value.Value.{Value as AttributeValue};

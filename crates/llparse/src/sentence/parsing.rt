@@ -1,7 +1,7 @@
 //! Parsing a sentence: the parser reads the tokens once, from left to right, and writes the records
 //! of their one tree. It has one token of look-ahead, and a stack of open nodes instead of
 //! recursion.
-ghost use Rattle.std.specs.Prelude.{◌≡◌, ◌+◌, ℕ, false, Err, IfErr, IfOk, IsErrOf, OnOk};
+ghost use Rattle.std.specs.Prelude.{◌≡◌, ℕ, false, Err, IfErr, IfOk, IsErrOf, OnOk};
 ghost use Rattle.ag_grammar.specs.grammars.Tree.{node_count, IsWithinLimits, Tree};
 ghost use Rattle.ag_grammar.specs.grammars.Tree.{max_depth, max_nodes};
 ghost use Rattle.ag_scan.specs.TokenReader.{offset_at};
@@ -11,7 +11,6 @@ ghost use Rattle.treefile.specs.records.FirstFile.{IsFirstFile};
 ghost use Rattle.treefile.specs.framing.Beginning.{AddsFrames, BeginsFile};
 ghost use Rattle.treefile.specs.devices.Device.{WhenHonest};
 ghost use Rattle.treefile.specs.records.TreeFile.{header, version_two};
-ghost use Rattle.treefile.specs.framing.Writing.{Progress};
 ghost use Rattle.llparse.specs.sentence.Parsing.{task_of, IsParsed, IsRefused};
 ghost use Rattle.llparse.specs.sentence.Refusals.{BreaksWriter};
 ghost use Rattle.llparse.specs.sentence.Sentences.{words_of, IsTreeWith};

@@ -1,5 +1,5 @@
 //! Checks the limits of a grammar (N10).
-ghost use Rattle.std.specs.Prelude.{◌≡◌, ◌++◌, ◌+◌, ◌≤◌, nat_le, length, fold, map, IfOk, OnOk};
+ghost use Rattle.std.specs.Prelude.{◌≡◌, ◌+◌, fold, map, IfOk, OnOk};
 ghost use Rattle.std.specs.List.{list_all};
 ghost use Rattle.normalform.specs.faults.Faults.{first_wrong, limit_checks, few_attributes, few_items};
 ghost use Rattle.normalform.specs.faults.Faults.{few_children, is_short, symbol_limits};

@@ -1,6 +1,6 @@
 //! Tests whether a raw grammar is readable: no literal is empty or has a separator, and each class
 //! is NAME, NUMBER or TEXT.
-ghost use Rattle.std.specs.Prelude.{◌≡◌, ◌↔◌, IsTrue, not};
+ghost use Rattle.std.specs.Prelude.{◌≡◌, ◌↔◌, IsTrue};
 ghost use Rattle.std.specs.List.{list_all};
 ghost use Rattle.normalform.specs.faults.Faults.{IsReadable};
 ghost use Rattle.normalform.specs.faults.Readable.{is_separator, readable_text, readable_item};

@@ -1,5 +1,5 @@
 //! A walk along the rules of productions, with a check of the attributes that they name.
-ghost use Rattle.std.specs.Prelude.{◌≡◌, ◌∷◌, [], map, flat_map, IfOk};
+ghost use Rattle.std.specs.Prelude.{◌≡◌, ◌∷◌, [], map, IfOk};
 ghost use Rattle.normalform.specs.faults.ReferenceChecks.{check_of_occurrence, checks_of_rule, checks_of_production, checks_of};
 ghost use Rattle.normalform.specs.faults.Faults.{first_wrong};
 ghost use Rattle.normalform.specs.faults.PlacedItem.{item_placed};

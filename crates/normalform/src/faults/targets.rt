@@ -1,7 +1,6 @@
 //! The different targets of a production's rules, looked up by hash.
 ghost use Rattle.std.specs.Prelude.{◌≡◌, [], not, IfOk, OnOk};
 ghost use Rattle.std.specs.List.{list_any};
-ghost use Rattle.ag_grammar.specs.declared.grammar.Target.{Target as Pair};
 ghost use Rattle.normalform.specs.faults.Faults.{same_target, with_target};
 
 use ag_value::NoMemory;

@@ -1,6 +1,6 @@
 //! The declared symbols. Their names, and the names of their attributes, are looked up by hash.
 ghost use Rattle.std.specs.Prelude.{◌≡◌, ◌++◌, map, bytes_eq, IfOk, OnOk, IfSome};
-ghost use Rattle.std.specs.Prelude.{ℕ, List, Some, None};
+ghost use Rattle.std.specs.Prelude.{List, Some, None};
 ghost use Rattle.std.specs.Prelude.{slice_get, [], ◌∷◌, ◌≤◌, ◌-◌};
 ghost use Rattle.std.specs.List.{list_any, range_with_len};
 ghost use Rattle.ag_grammar.specs.declared.grammar.Item.TheVariants as Item;

@@ -1,5 +1,5 @@
 //! Texts with their numbers, looked up by hash.
-ghost use Rattle.std.specs.Prelude.{◌≡◌, ◌++◌, ◌∷◌, [], length, map, bytes_eq, IfOk, OnOk, not};
+ghost use Rattle.std.specs.Prelude.{◌≡◌, ◌++◌, ◌∷◌, [], length, bytes_eq, IfOk, OnOk, not};
 ghost use Rattle.std.specs.List.{list_any};
 ghost use Rattle.normalform.specs.numbers.Names.{texts_of_keys};
 ghost use Rattle.normalform.specs.numbers.Numbers.{number_in, with_text};

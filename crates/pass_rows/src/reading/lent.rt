@@ -1,6 +1,6 @@
 //! Reads a record from a body that a device lends, in which large values may be shared.
 
-ghost use Rattle.std.specs.Prelude.{◌≡◌, ◌<◌, ◌≤◌, ◌-◌, [], IfOk, IfSome, IsErrOf, IsTrue, length, take};
+ghost use Rattle.std.specs.Prelude.{◌<◌, ◌≤◌, ◌-◌, [], IfOk, IfSome, IsErrOf, IsTrue, take};
 ghost use Rattle.ag_grammar.specs.declared.grammar.Item.TheVariants as item;
 ghost use Rattle.pass_rows.specs.layouts.Contexts.{CanRun, setting};
 ghost use Rattle.pass_rows.specs.reading.Reading.{AreTaken, IsBodyOf, IsNodeRead, IsNoRecord, IsRead, IsTaken};

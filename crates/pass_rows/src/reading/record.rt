@@ -6,7 +6,7 @@ ghost use Rattle.ag_value.specs.Spelling.{spelling_of};
 ghost use Rattle.ag_value.specs.Well.{IsWell};
 ghost use Rattle.ag_value.specs.declared.value.Value.{Value as AttributeValue, Num};
 ghost use Rattle.pass_rows.specs.layouts.Contexts.{CanRun, setting};
-ghost use Rattle.pass_rows.specs.reading.Reading.{AreTaken, AreUntaken, IsNoNodeBody, IsNoRow, IsNodeBody};
+ghost use Rattle.pass_rows.specs.reading.Reading.{AreTaken, IsNoNodeBody, IsNoRow, IsNodeBody};
 ghost use Rattle.pass_rows.specs.reading.Reading.{IsTaken, IsUntaken, IsNodeRead, IsNoNode, PrependsTo};
 ghost use Rattle.pass_rows.specs.reading.Reading.{IsTextOf, IsTokenRead, IsNoToken, IsRead, IsNoRecord};
 ghost use Rattle.pass_rows.specs.Faults.{record_fault_of};

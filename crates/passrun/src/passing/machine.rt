@@ -5,7 +5,7 @@
 //! falls, and the clauses `most` that it doesn't rise.
 
 ghost use Rattle.std.specs.Prelude.{◌≡◌, ◌+◌, ◌^◌, ◌<◌, ◌≤◌, ◌∷◌, ◌++◌, [], Some, IfErr, IfOk};
-ghost use Rattle.std.specs.Prelude.{IsErrOf, OnOk, length, reverse, slice_get};
+ghost use Rattle.std.specs.Prelude.{IsErrOf, OnOk, reverse, slice_get};
 ghost use Rattle.passcode.specs.declared.instr.Instr.TheVariants as instr;
 ghost use Rattle.passrun.specs.passing.RunInvariant.{IsConsistent, ContinuesAs};
 ghost use Rattle.passrun.specs.passing.Ahead.{IsRunFault, IsResourceFault};

@@ -1,6 +1,6 @@
 //! Reads the next record of the file, which a pass reads backward, as that of an expected item.
 
-ghost use Rattle.std.specs.Prelude.{◌≡◌, ◌<◌, ◌≤◌, None, IfErr, IfOk, IsErrOf};
+ghost use Rattle.std.specs.Prelude.{◌≡◌, ◌<◌, None, IfErr, IfOk, IsErrOf};
 ghost use Rattle.ag_grammar.specs.grammars.Tree.{max_depth, max_nodes};
 ghost use Rattle.backreader.specs.BackState.{IsOver};
 ghost use Rattle.passrun.specs.reading.Fetching.{HasFetched, IsUnfetched};
