@@ -34,7 +34,7 @@ well_short_text bytes utf8 short = well_text bytes (record {
   short = omega (arith, short);
 })
 
--- one text after another is UTF-8
+-- two texts joined are UTF-8, if each one is
 pub joined_utf8 : (a b : List ℕ) → is_utf8 a ≡ true → is_utf8 b ≡ true → is_utf8 (a ++ b) ≡ true
 joined_utf8 a b f g = is_utf8-from_IsUtf8 (a ++ b) (IsUtf8-append a b (IsUtf8-from_is_utf8 a f) (IsUtf8-from_is_utf8 b g))
 
@@ -48,7 +48,7 @@ header_is text len e = spelling-Text text ∙ rw e refl
 pub length-encoding : (text : List ℕ) → length (spelling_of (v.Text text)) ≡ 5 + length text
 length-encoding text = length-spelling (v.Text text) ∙ weight-Text text
 
--- bytes after bytes are bytes
+-- each element of two joined lists is below 256, if each element of either is
 pub bytes_append : (a b : List ℕ) → ((i : ℕ) → slice_index a i < 256) → ((i : ℕ) → slice_index b i < 256)
     → (i : ℕ) → slice_index (a ++ b) i < 256
 bytes_append [] b f g i = g i

@@ -27,8 +27,8 @@ use table_tree::TableTree;
 /// takes one more allocation, for its encoding.
 const MAX_SMALL_WEIGHT: u64 = 24;
 
-/// The greatest length in bytes of a text that is stored without being weighed. Its weight is its
-/// length plus five, so at most 21, and the text is small.
+/// The greatest length in bytes of a text that is stored without being weighed. The weight of such
+/// a text is its length plus five, so at most 21.
 const MAX_SMALL_TEXT: usize = 16;
 
 /// How a value is stored.
@@ -38,7 +38,8 @@ enum Form {
     Number(i64),
     /// An error.
     Fault(ErrorCode),
-    /// A small value that is neither a number nor an error.
+    /// A small value: it weighs at most `MAX_SMALL_WEIGHT`, and is neither a number nor an error.
+    /// No invariant says so.
     Small(Rc<Value>),
     /// A large value beside its encoding.
     Spelled(Rc<Spelled>),
@@ -76,8 +77,8 @@ impl Model for Carried {
     ghost view = { λ c. form_value c.form };
 }
 
-/// Returns whether a value is small and need not be weighed: a number, an error, a text of at most
-/// `MAX_SMALL_TEXT` bytes, an empty list or table.
+/// Returns whether a value need not be weighed, since it surely weighs at most `MAX_SMALL_WEIGHT`:
+/// a number, an error, a text of at most `MAX_SMALL_TEXT` bytes, an empty list or table.
 fn is_light(value: &Value) -> bool {
     match value {
         Value::Num(_) => true,
@@ -108,8 +109,8 @@ fn fault_in(value: &Value) -> Option<ErrorCode>
     }
 }
 
-/// Stores a small value: a number or an error inline, and another one in shared memory. Fails with
-/// NoMemory.
+/// Stores a value without its encoding: a number or an error inline, and another value in shared
+/// memory. Fails with NoMemory.
 #[inline(always)]
 fn small_value(alloc: Global, value: Value) -> Result<Carried, NoMemory>
     ensures { IfOk result (λ c. c ≡ value) }
@@ -306,8 +307,8 @@ impl Carried {
         }
     }
 
-    /// Returns the number, as `as_number` does. A function of its own, so that `as_number`, which is
-    /// inlined, is short.
+    /// Returns the number, as `as_number` does. A function of its own, so that `as_number`, which
+    /// is inlined, is short.
     #[inline(never)]
     fn number_in_value(&self) -> Option<i64>
         ensures { MatchOption result ((n : ℤ) → self.now ≡ Num n → ⊥) (λ n. self.now ≡ Num n) }
@@ -552,8 +553,8 @@ impl Carried {
     }
 
     /// Reads the value whose encoding is a prefix of the input, and returns it with the length of
-    /// that prefix in bytes. A large value keeps a copy of these bytes. Fails with Malformed (V1) if
-    /// no prefix is the encoding of a well value, and with NoMemory.
+    /// that prefix in bytes. A large value keeps a copy of these bytes. Fails with Malformed (V1)
+    /// if no prefix is the encoding of a well value, and with NoMemory.
     #[inline(always)]
     pub fn read(alloc: Global, input: &[u8]) -> Result<(Carried, usize), ValueFault>
         ensures well { IfOk result (λ found. IsWell found.0) }
@@ -607,8 +608,8 @@ impl Carried {
 
 /// Returns the length in bytes of the encoding of a value, if it is a text of at most
 /// `MAX_FLAT_TEXT` bytes and the input begins with its encoding, and otherwise `None`. Takes no
-/// memory. A small text has at most 19 bytes, but no invariant says so. `IsPrefix` says that the
-/// text is well, and this is proved from the limit.
+/// memory. A small text has at most 19 bytes, but no invariant says so. The limit is here for the
+/// proof: the contract says that the text is well.
 fn prefix_of_small(value: &Value, input: &[u8]) -> Option<usize>
     ensures { IfSome result (IsPrefix value.now input.now) }
 {

@@ -193,8 +193,8 @@ impl Encoded {
     }
 }
 
-/// Returns the number of bytes. It is a function for its clause `bytes`, which says that each of
-/// them is below 256: contracts see bytes as numbers, and the clause `bytes` of `len` needs this.
+/// Returns the number of bytes. A function of its own for the sake of the clause `bytes`: contracts
+/// see bytes as numbers, and the clause `bytes` of `Encoded::len` needs that each is below 256.
 #[inline(always)]
 pub(crate) fn byte_count(bytes: &[u8]) -> usize
     ensures len { result ≡ length bytes.now }

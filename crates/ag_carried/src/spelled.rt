@@ -1,4 +1,4 @@
-//! A value beside its spelling, the bytes that encode it.
+//! A value beside its encoding, which is also called its spelling.
 
 ghost use Rattle.std.specs.Prelude.{◌≡◌, ◌↔◌, IfOk, IfSome, IsTrue};
 ghost use Rattle.ag_value.specs.Spelling.{spelling_of};

@@ -8,13 +8,13 @@ ghost use Rattle.ag_carried.specs.Prefixes.{IsPrefix};
 use list_tree::ListTree;
 use table_tree::TableTree;
 
-/// The greatest number of pairs of a flat table (a `Value`) from which `put`, the function of
-/// expressions, makes another flat one. From a larger flat table it makes a tree. The pairs are
-/// counted before the new pair is put in. `ag_eval` keeps to this limit; no contract says so.
+/// The greatest number of pairs in the table argument of `put`, the function of expressions, for
+/// which the result is a flat table (a `Value`). From a larger flat table `put` makes a tree. The
+/// pair that is put in is not counted. `ag_eval` keeps to this limit; no contract says so.
 pub const MAX_FLAT_TABLE: usize = 16;
 
 /// The greatest number of items of a flat list (a `Value`) that `append` or `++` of expressions
-/// makes. A longer list they make as a tree. `ag_eval` keeps to this limit; no contract says so.
+/// makes. Both make a longer list as a tree. `ag_eval` keeps to this limit; no contract says so.
 pub const MAX_FLAT_LIST: usize = 16;
 
 /// Returns the length in bytes of a table's encoding, if the input begins with this encoding, and

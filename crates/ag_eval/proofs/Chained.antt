@@ -14,8 +14,8 @@ module _ (others : List (Operator × Node)) (i : ℕ) (x : Operator × Node) (lt
   left : drop i others ≡ get_or others i x ∷ drop (i + 1) others
   left = drop_more others i x lt
 
-  -- The rest of a chain has the same value for the value so far as the rest after the operand for the next
-  -- value.
+  -- `old` is the value of the first operands of a chain, and `new` that with one more operand. The chain's value is the same from
+  -- `old` on with the operands left, and from `new` on with one fewer.
   pub chained_more : (env : ℕ → Value) (bound : List Value) (old new right whole : Value) → x ≡ get_or others i x
       → right ≡ value_in x.1 env bound → new ≡ operation_result x.0 old right
       → chain_value env bound old (map (λ (p : Operator × Node). (p.0, value_in p.1)) (drop i others)) ≡ whole

@@ -3,7 +3,7 @@ use Rattle.std.proofs.Common.{Some, ◌≡◌, ◌≢◌, ℕ, zero, suc, ◌<�
 use Rattle.std.proofs.Common.{subst, ◌∙◌, arith}
 use Rattle.std.proofs.lemmas.List.{length-map, map-append}
 
--- the outer bindings are unchanged
+-- without the innermost binding the outer ones have the same numbers
 pub stays : {A : Type 0} (outer : List A) (innermost : A) (k : ℕ) → k < length (outer ++ innermost ∷ []) → k ≢ length outer
     → slice_get outer k ≡ slice_get (outer ++ innermost ∷ []) k
 stays [] innermost zero lt other = absurd (other refl)
@@ -11,12 +11,12 @@ stays [] innermost (suc k) lt other = absurd (omega arith)
 stays (x ∷ xs) innermost zero lt other = refl
 stays (x ∷ xs) innermost (suc k) lt other = stays xs innermost k (omega arith) (λ same. other (ap suc same))
 
--- and the innermost is the last
+-- the innermost binding has as its number, from 0, the count of the outer ones
 pub last : {A : Type 0} (outer : List A) (innermost : A) → slice_get (outer ++ innermost ∷ []) (length outer) ≡ Some innermost
 last [] innermost = refl
 last (x ∷ xs) innermost = last xs innermost
 
--- the same of a view of the bindings
+-- as `stays`, but for the values that contracts see in place of the bindings
 pub seen_stays : {A B : Type 0} (view : A → B) (whole : List B) (all outer : List A) (innermost : A) (k : ℕ)
     → map view all ≡ whole → all ≡ outer ++ innermost ∷ [] → k < length whole → k ≢ length outer
     → slice_get (map view outer) k ≡ slice_get whole k

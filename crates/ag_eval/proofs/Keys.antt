@@ -42,7 +42,7 @@ other_back : (a b : List ℕ) → is_before a b ≡ true → bytes_eq b a ≡ fa
 other_back a b p =
     sym (is_eq-slice_cmp b a) ∙ ap is_eq (nat_list_cmp_total.antisymm b a ∙ ap ordering_reverse (less (order a b) p))
 
--- a key is before all that come after one that is not before it
+-- if a is not before a key, and b is after a, the key is before b
 past : (key a b : List ℕ) → is_before a key ≡ false → is_before a b ≡ true → is_before key b ≡ true
 past key a b n p = go (order a key) refl n
   where
@@ -159,7 +159,7 @@ pub index_is : (key : List ℕ) (pairs : List Pair) (i : ℕ) → is_ascending (
 index_is key pairs i rising le point =
     index_found key pairs i rising le (λ k d lt. point.0 k d (omega arith) lt) (λ k d le lt. point.1 k d le lt)
 
--- keys also rise with one more, or with a key replaced by itself
+-- the keys of a table still rise after a pair was put into it
 rising_pair : (a b : List ℕ) (keys : List (List ℕ)) → is_before a b ≡ true → is_ascending (b ∷ keys) ≡ true
     → is_ascending (a ∷ b ∷ keys) ≡ true
 rising_pair a b keys p q = rw (p, q) refl

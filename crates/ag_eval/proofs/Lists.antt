@@ -1,5 +1,5 @@
 -- Lists within the limits and beyond them.
-use Rattle.std.proofs.Common.{◌≡◌, ◌≤◌, ◌<◌, ◌+◌, ℕ, max, List, [], ◌∷◌, ◌++◌, ap, arith}
+use Rattle.std.proofs.Common.{◌≡◌, ◌≤◌, ◌<◌, ◌+◌, List, [], ◌∷◌, ◌++◌, ap, arith}
 use Rattle.ag_value.specs.Measure.{depth_of, max_value_depth, max_weight, weight_of}
 use Rattle.ag_value.specs.Well.{IsWell}
 use Rattle.ag_value.specs.declared.value.ErrorCode.TheVariants.{Big, Deep}

@@ -99,7 +99,7 @@ fits-inserted pairs growth_result i key x weight depth is well well' short heavy
       let s = greatest_insert (λ (p : Pair). depth_of p.1) pairs i (key, x) in omega arith),
 )
 
--- with another value for a key it can still be an item of a list
+-- a well table with another value at a key can be an item of a list
 keys_set : (pairs : List Pair) (i : ℕ) (p : Pair) (x : Value) → slice_get pairs i ≡ Some p
     → map key_of (set pairs i (p.0, x)) ≡ map key_of pairs
 keys_set [] i p x at = refl
@@ -136,7 +136,7 @@ replaced_is pairs changed i x lt is key index_is here =
     let at : slice_get pairs i ≡ Some p = slice_get-get_or pairs i d lt in
     is p at ∙ sym (replaces key x pairs i p lt index_is at here)
 
--- an index of a pair that has the key is one of the table's
+-- if the pair at an index has the key, the index is within the table
 pub within : (key : List ℕ) (pairs : List Pair) (i : ℕ) → has_key key (slice_get pairs i) ≡ true → i < length pairs
 within key [] i here = let bad : ⊥ = cc in absurd bad
 within key (q ∷ qs) zero here = omega arith

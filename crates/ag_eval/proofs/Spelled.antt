@@ -16,7 +16,7 @@ use Rattle.ag_value.specs.operations.Numbers.{is_digits, signed_number, spelled_
 own : IsNumeralModel (λ ds. list_all is_ascii_digit ds ≡ true) (digits_value 10)
 own = numerals_by_value _ (search rules)
 
--- the result is the number if a fact holds, and else none
+-- the test b decides whether the fact P holds: the result is the number z if b is true, and none if it is false
 answered : {E : Type 0} {P : Type 0} (b : Bool) (z : ℤ) (r : Result ℤ E) → Decides b P → OkIff r P z
     → result_ok r ≡ cond b (Some z) None
 answered b z (Ok x) decides is = rw (decides.1 is.0) (ap Some is.1)

@@ -38,7 +38,7 @@ pub both_texts : (a b : Value) → is_text a ≡ true → is_text b ≡ true
     → concatenation a b ≡ fit (value.Text (bytes_of a ++ bytes_of b))
 both_texts a b p q = both_at (out-Value a) (out-Value b) p q
 
--- a text of more bytes than the limit is the error `big`, and another one is itself
+-- the result for a text whose weight exceeds the limit is the error `big`, and that for any other text is the text
 pub too_heavy : (text : List ℕ) → max_weight < weight_of (value.Text text) → fit (value.Text text) ≡ value.Fault Big
 too_heavy text heavy = big_next (value.Text text) (let d = depth-Text text in omega (arith, d)) heavy
 

@@ -1,4 +1,4 @@
--- The value of a key, as an optional pair has it.
+-- The result of `get`: the value in the pair that was found, or the error `key` if none was found.
 use Rattle.std.proofs.Common.{◌≡◌, ℕ, List, Option, Some, None, refl}
 use Rattle.std.proofs.lemmas.Option.{same_Some}
 use Rattle.std.specs.Option.{option_map}

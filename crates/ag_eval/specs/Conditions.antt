@@ -5,8 +5,8 @@ use Rattle.ag_value.specs.declared.value.ErrorCode.TheVariants.{Kind}
 use Rattle.ag_value.specs.declared.value.Value.{Value, out-Value}
 use Rattle.ag_value.specs.declared.value.Value.TheOpen.{Value-F}
 
--- The decision of a value, from its outermost level. The decision of a number is true unless it is 0. The decision of an error
--- fails with that error, and that of any other value with `kind`.
+-- The decision of a value, from its outermost level. The decision of 0 is false, and that of any other number is true. The
+-- decision of an error is `Err` of that error, and that of a text, a list or a table is `Err` of `kind`.
 abbrev pub decision_at : Value-F Value → Result Bool ErrorCode
 decision_at (Value-F.Num (pos zero)) = Ok false
 decision_at (Value-F.Num (pos (suc n))) = Ok true

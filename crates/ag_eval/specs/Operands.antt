@@ -65,8 +65,8 @@ abbrev pub operand_value : List Value → Operand → Value
 operand_value bound (operand.Held h) = held_value h
 operand_value bound (operand.Bound k) = bound_value (slice_get bound k)
 
--- the value of the operand `result` is that of the function f for the values of the operands `first` and `second`, where `bound`
--- has the values of the bindings
+-- `bound` has the values of the bindings. The value of the operand `result` is the result of the function f for the values of the
+-- operands `first` and `second`.
 abbrev pub Gives : List Value → (Value → Value → Value) → (first second : Operand) → Operand → Type 0
 Gives bound f first second result = operand_value bound result ≡ f (operand_value bound first) (operand_value bound second)
 
@@ -75,8 +75,8 @@ abbrev pub IsIn : List Value → Operand → Type 0
 IsIn bound (operand.Held h) = Unit {0}
 IsIn bound (operand.Bound k) = k < length bound
 
--- `each_within n bound items`, where `bound` is the number of names that are bound around a list, and `items` has its items: in
--- every item, the number of each occurrence is below n. The number of each bound name is below the number of names that are bound
+-- `each_within n bound items`, where `bound` is the number of names that are bound around a list, and `items` has the list's
+-- items: in every item, the number of each occurrence is below n, and each bound name refers to one of the names that are bound
 -- around it.
 abbrev pub each_within : ℕ → ℕ → List Node → Bool
 each_within n bound items = each_holds bound (map (is_within n) items)

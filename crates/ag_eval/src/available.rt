@@ -26,9 +26,9 @@ use ag_value::{ErrorCode, MAX_VALUE_DEPTH, MAX_WEIGHT, NoMemory, Value, copy, de
 use std::alloc::Global;
 
 impl<'e, V: Lender> Evaluation<'e, V> {
-    /// Computes the next step of a chain: the value of the operator in `other`, for the value so
-    /// far and the operand in `other`. Returns `None` unless both are scalars and the second one is
-    /// a literal, an occurrence or a bound name, and for `++` of two numbers.
+    /// Computes the next step of a chain. `other` has an operator and its right operand, and
+    /// `so_far` is the left operand. Returns `None` unless both operands are scalars and the right
+    /// one is a literal, an occurrence or a bound name, and for `++` of two numbers.
     #[inline(always)]
     pub fn next_scalar(
         &self,
@@ -49,9 +49,9 @@ impl<'e, V: Lender> Evaluation<'e, V> {
         Some(Operand::owned(Measured::new(scalar.into_value())))
     }
 
-    /// Computes the value of a literal, an occurrence or a bound name, or of a chain of these and
-    /// of such chains, without making operands. Returns `None` for any other part of an expression,
-    /// if a literal, an occurrence or a bound name in it is not a scalar, and for `++` of two
+    /// Computes the value of a literal, an occurrence or a bound name, or of a chain whose operands
+    /// are these or again such chains, without making an `Operand`. Returns `None` for any other
+    /// part of an expression, if `leaf_scalar` does for one of the operands, and for `++` of two
     /// numbers. Takes no memory.
     #[cycle(scalars)]
     #[inline(always)]
@@ -66,8 +66,7 @@ impl<'e, V: Lender> Evaluation<'e, V> {
         self.leaf_scalar(node, bindings)
     }
 
-    /// Computes the value of a chain whose operands are scalars or such chains themselves. Returns
-    /// `None` for another node, and for `++` of two numbers.
+    /// Computes the value of a chain, as `scalar` does. Returns `None` for another node.
     #[cycle(scalars)]
     #[tactic(auto, using(ag_grammar::proofs::expressions::Trees::parts))]
     fn scalar_of_chain(&self, node: &Node, bindings: &Bindings<'_>) -> Option<Scalar>
@@ -86,7 +85,8 @@ impl<'e, V: Lender> Evaluation<'e, V> {
         Some(so_far)
     }
 
-    /// Returns the value of a literal, an occurrence or a bound name, if it is a scalar.
+    /// Returns the value of a literal, an occurrence or a bound name, if it is a scalar. Returns
+    /// `None` also for a literal beyond the limits, whose value is an error.
     #[inline(always)]
     fn leaf_scalar(&self, node: &Node, bindings: &Bindings<'_>) -> Option<Scalar>
         requires below { is_within (length self.now.expr.now.1) node.now (length bindings.now) ≡ true }
@@ -140,8 +140,8 @@ pub fn eval_number(expr: &Expr, meter: &mut Meter) -> Option<i64>
     Some(*value)
 }
 
-/// Returns a value if it is within the limits. It must be one that a list or table may contain, as
-/// a literal is.
+/// Returns a value if it is within the limits. The value must be one that a list or table may
+/// contain, as a literal is.
 #[inline(always)]
 fn within_limits(item: &Value) -> Option<&Value>
     requires { is_item item.now ≡ true }
@@ -163,8 +163,8 @@ pub fn literal_value<'e>(literal: &'e Literal) -> Held<'e>
     }
 }
 
-/// Returns the error `deep` or `big` for a value beyond the limits, or `None` if it is within them.
-/// It must be one that a list or table may contain, as a literal is.
+/// Returns the error `deep` or `big` for a value beyond the limits, or `None` for one within them.
+/// The value must be one that a list or table may contain, as a literal is.
 #[inline(always)]
 fn limit_error(item: &Value) -> Option<ErrorCode>
     requires { is_item item.now ≡ true }

@@ -1,5 +1,5 @@
-//! Applies operators and calls to operands. The value is lent if possible. The functions that
-//! return a `Result` fail with `NoMemory` if memory is refused.
+//! Applies operators and calls to operands. A value that is a part of a lent operand is lent too.
+//! The functions that return a `Result` fail with `NoMemory` if memory is refused.
 
 ghost use Rattle.std.specs.Prelude.{◌≡◌, ◌≢◌, ◌∷◌, [], IfOk, IfSome, None};
 ghost use Rattle.ag_value.specs.Well.{IsWell};
@@ -120,7 +120,8 @@ fn calculate(operator: Operator, left: &Value, right: &Value) -> Value
 }
 
 /// Computes the value of an operator for two scalars: the leftmost error, if one is an error.
-/// Returns `None` for `++` of two numbers.
+/// Returns `None` for `++` of two numbers: this rare case, whose value is the error `kind`, is left
+/// to `concatenate`.
 #[inline(always)]
 pub fn apply_to_scalars(operator: Operator, left: Scalar, right: Scalar) -> Option<Scalar>
     ensures { IfSome result
@@ -300,9 +301,9 @@ pub fn call_binary<'e>(
     }
 }
 
-/// Computes `append(l, v)`: a tree shares its nodes with the result. A flat list is extended, and
-/// copied first if it is lent or bound; one of `MAX_FLAT_LIST` items or more becomes a tree. The
-/// item is moved, or copied if it is lent, bound, shared or a tree.
+/// Computes `append(l, v)`. A tree shares its nodes with the result. A flat list is extended, or
+/// becomes a tree if it has `MAX_FLAT_LIST` items or more. In both cases it is copied first if it
+/// is lent or bound. The item is moved, or copied if it is lent, bound, shared or a tree.
 #[tactic(auto, using(crate::proofs::Arguments::no_faults))]
 fn call_append<'e>(
     alloc: Global,
@@ -459,9 +460,9 @@ fn or_else<'e>(value: Operand<'e>, other: Operand<'e>, bindings: &Bindings<'e>) 
     }
 }
 
-/// Computes `put(t, k, v)`: a tree shares its nodes with the result. A flat table is extended, and
-/// copied first if it is lent or bound; one of more than `MAX_FLAT_TABLE` pairs becomes a tree. The
-/// value is moved, or copied if it is lent, bound, shared or a tree.
+/// Computes `put(t, k, v)`. A tree shares its nodes with the result. A flat table gets the pair, or
+/// becomes a tree if it has more than `MAX_FLAT_TABLE` pairs. In both cases it is copied first if
+/// it is lent or bound. The value is moved, or copied if it is lent, bound, shared or a tree.
 #[tactic(auto, using(crate::proofs::Arguments::no_faults))]
 pub fn call_put<'e>(
     alloc: Global,

@@ -32,10 +32,10 @@ const MAX_TEXT: usize = MAX_WEIGHT as usize - 5;
 /// beyond the limit of weight.
 ///
 /// A result of at most `MAX_FLAT_TEXT` bytes or `MAX_FLAT_LIST` items is made by extending the left
-/// operand. An operand that is lent, bound, shared or a tree is copied first; but a right text is
-/// copied first only if it is shared. A longer result shares the bytes of operands that are shared
-/// texts, or the nodes of operands that are trees. Any other operand is moved into such a text or
-/// tree, or copied if it is lent or bound.
+/// operand. First each operand that is lent, bound, shared or a tree is copied. The exception is a
+/// right text that is not shared: its bytes are only read. A longer result shares the bytes of
+/// operands that are shared texts, or the nodes of operands that are trees. Any other operand is
+/// moved into such a text or tree, or copied if it is lent or bound.
 pub fn concatenate<'e>(
     alloc: Global,
     left: Operand<'e>,
@@ -60,7 +60,7 @@ pub fn concatenate<'e>(
     }
 }
 
-/// Makes each of two texts a shared one, and joins them, or returns the error `big`.
+/// Makes each of two texts a shared one, and joins them as `joined` does.
 #[tactic(auto, using(crate::proofs::Texts::concatenations))]
 fn shared_text<'e>(
     alloc: Global,
@@ -190,7 +190,7 @@ fn joined_len(left: &Operand<'_>, right: &Operand<'_>, bindings: &Bindings<'_>) 
     Some(first + second)
 }
 
-/// Joins two shared texts, or returns the error `big`.
+/// Joins two shared texts, or returns the error `big` if the result is beyond the limit of weight.
 #[tactic(auto, using(crate::proofs::Texts::limits))]
 fn joined<'e>(alloc: Global, left: SharedText, right: SharedText) -> Result<Held<'e>, NoMemory>
     ensures { IfOk result (λ h. held_value h ≡ fit (value.Text (left ++ right))) }

@@ -106,9 +106,9 @@ impl<'e, V: Lender> Evaluation<'e, V> {
         }
     }
 
-    /// Evaluates a part of the expression, with these bindings around it. The bindings are
-    /// unchanged after a success, and not used any more after a failure. Fails with `NoMemory` if
-    /// memory is refused.
+    /// Evaluates a part of the expression, with these bindings around it. After a success the
+    /// bindings are unchanged. After a failure no caller uses them any more, so the contract claims
+    /// nothing of them. Fails with `NoMemory` if memory is refused.
     #[cycle(evaluating)]
     #[tactic(auto, using(ag_grammar::proofs::expressions::Trees::parts))]
     fn operand_of(
@@ -229,7 +229,8 @@ impl<'e, V: Lender> Evaluation<'e, V> {
         call_put(self.alloc, table, &key, item, &*bindings)
     }
 
-    /// Evaluates a chain from the left, given the value of the operands so far.
+    /// Evaluates the rest of a chain from the left. `so_far` is the value of the chain before this
+    /// rest.
     #[cycle(evaluating)]
     fn chain_of(
         &self,
@@ -282,8 +283,8 @@ impl<'e, V: Lender> Evaluation<'e, V> {
         Ok(Operand::owned(list.into_list()))
     }
 
-    /// Evaluates the expression. Looks first for an expression that is one occurrence or literal,
-    /// and for one of scalars only, since these need no operands.
+    /// Evaluates the expression. Tries two cases first, since they need no `Operand`: the
+    /// expression is one occurrence or literal, or `scalar` computes its value.
     #[inline(never)]
     fn value(&self) -> Result<Value, NoMemory>
         ensures value { IfOk result (λ v. v
@@ -318,9 +319,9 @@ impl<'e, V: Lender> Evaluation<'e, V> {
     }
 }
 
-/// Returns true only if the value of a call is that of its first argument, for any second one.
-/// Then the second argument is not evaluated. Returns true for `orelse` if the first argument is
-/// not an error, and false otherwise.
+/// Returns true only if the value of a call is that of its first argument, whatever the second one
+/// is. The caller then doesn't evaluate the second one. Returns true for `orelse` if the first
+/// argument is not an error, and false otherwise.
 fn is_first_result(call: BinaryCall, first: &Operand<'_>, bindings: &Bindings<'_>) -> bool
     requires { IsIn bindings.now first.now }
     ensures { IsTrue result → (second : AttributeValue)

@@ -1,6 +1,7 @@
-//! Flat expressions: literals, occurrences and chains of these. If each of them is a number or an
-//! error, and no `++` joins two numbers, the value is computed without an operand. (A flat text,
-//! list or table is something else: one that is stored as a `Value`.)
+//! Flat expressions: literals, occurrences and chains of these. If the value of each literal and
+//! occurrence is a number or an error, and no `++` joins two numbers, the value is computed without
+//! making an `Operand`. (A flat text, list or table is something else: one that is stored as a
+//! `Value`.)
 
 ghost use Rattle.std.specs.Prelude.{◌≡◌, length, map, true, [], IfSome};
 ghost use Rattle.ag_eval.specs.Operands.{scalar_value};
@@ -36,7 +37,7 @@ impl<'e, V: Lender> Evaluation<'e, V> {
     }
 
     /// Computes the value of a chain of flat operands. Returns `None` if `flat_operand` does
-    /// for one of them, and for `++` of two numbers.
+    /// for one of them, and for `++` of two numbers, as `apply_to_scalars` does.
     #[inline(always)]
     fn flat_chain(&self, first: &Node, others: &[(Operator, Node)]) -> Option<Scalar>
         requires first { is_within (length self.now.expr.now.1) first.now 0 ≡ true }

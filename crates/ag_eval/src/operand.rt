@@ -21,8 +21,9 @@ use std::alloc::Global;
 use std::marker::Model;
 use table_tree::TableTree;
 
-/// A well value that is lent by the environment or by the expression, with the carried value that
-/// stores it, if there is one.
+/// A well value that is lent, with the carried value that stores it, if there is one. In an operand
+/// of the evaluation, the environment or the expression lends the value. While a call such as `nth`
+/// reads its arguments, the lender may also be an operand.
 #[derive(Drop)]
 pub struct Lent<'e> {
     value: &'e Value,
@@ -225,6 +226,7 @@ impl<'e> Held<'e> {
             held => held,
         };
         let Value::Text(text) = held.into_owned(alloc)?.into_value() else {
+            // the caller has to pass a text
             unreachable!()
         };
         SharedText::new(alloc, text)
@@ -242,6 +244,7 @@ impl<'e> Held<'e> {
             held => held,
         };
         let Value::List(items) = held.into_owned(alloc)?.into_value() else {
+            // the caller has to pass a list
             unreachable!()
         };
         ListTree::from_list(alloc, items)
@@ -334,8 +337,8 @@ impl<'e> Operand<'e> {
         fault_of(self.get(bindings))
     }
 
-    /// Returns the value if the environment or the expression lends it, with the lifetime of that
-    /// loan.
+    /// Returns the value if the environment or the expression lends it, also through a binding,
+    /// with the lifetime of that loan.
     pub fn from_outside(&self, bindings: &Bindings<'e>) -> Option<ValueRef<'e>>
         requires { IsIn bindings.now self.now }
         ensures lends { (held : HeldValue) → self.now ≡ Operand.Held held → is_some result ≡ is_lent held }
@@ -348,8 +351,8 @@ impl<'e> Operand<'e> {
         }
     }
 
-    /// Returns the value as a held one. That of a binding is returned a second time, as
-    /// `Held::again` does.
+    /// Returns the value as a held one. The binding of a bound operand keeps its value, which is
+    /// returned a second time, as by `Held::again`.
     pub fn into_held(self, alloc: Global, bindings: &Bindings<'e>) -> Result<Held<'e>, NoMemory>
         requires { IsIn bindings.now self }
         ensures { IfOk result (λ h. held_value h ≡ operand_value bindings.now self.entry) }

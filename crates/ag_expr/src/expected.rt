@@ -1,5 +1,5 @@
-//! What the parser would accept at the offset where it rejects a text, for messages. This is found
-//! by parsing the text before the offset with one candidate after it, for each candidate.
+//! What the parser would accept at the offset where it rejects a text. Messages list this. To find
+//! it, the text before the offset is parsed once for each candidate, with the candidate after it.
 
 use crate::expression::read_expr;
 use crate::fault::ExprFault;
@@ -30,15 +30,16 @@ pub enum ExpectedPart {
     End,
 }
 
-/// The signs, other than operators, that `gather_signs` tries. (`[` and `{` begin an operand.)
+/// The signs, other than operators, that `gather_signs` tries. `[` and `{` are not among them: they
+/// only begin an operand, and where an operand can follow, the result says so.
 const SIGNS: [&str; 9] = ["=", "(", ")", "]", "}", ",", "in", "then", "else"];
 
 /// Returns what could be at the byte offset `at` instead of the token there, for a text that is
 /// refused there with X2. Tries each candidate after the text before the offset, so this text is
 /// parsed up to 14 times. If an expression at the offset would be of level 65, the result contains
-/// no expression or operand. It can contain a `]` then: after a `[`, a `]` makes the empty list
-/// `[]`. The result is empty if `at` is not a character boundary of the text. Fails with `NoMemory`
-/// if memory runs out.
+/// no expression or operand. It can still contain a `]`, since no expression is needed between `[`
+/// and `]`. The result is empty if `at` is not a character boundary of the text. Fails with
+/// `NoMemory` if memory runs out.
 pub fn expected_at(alloc: Global, text: &str, at: usize) -> Result<Vec<ExpectedPart>, NoMemory> {
     let mut found = Vec::new(alloc);
     if let Some(before) = text.get(..at) {

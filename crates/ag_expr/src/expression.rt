@@ -22,9 +22,9 @@ use std::alloc::Global;
 /// Fails at the first token that cannot be accepted: with X1 if no token begins there; with X3 if
 /// its number or place is above the limit; with X2 if no expression continues with it, or if the
 /// text ends there; with X4 if it begins an expression of level 65. If several of these hold, the
-/// first in this order is returned: X3, and not X2, for a number above the limit at which no
-/// expression continues. Fails with `NoMemory` if memory runs out. With any other fault, the text
-/// is proved not to be an expression.
+/// first in this order is returned: for a number above the limit at an offset where no number may
+/// be, X3 and not X2. Fails with `NoMemory` if memory runs out. Every fault but `NoMemory` means
+/// that the text is not an expression.
 pub fn read_expr(alloc: Global, text: &str) -> Result<Expr, ExprFault>
     ensures exact { IsRead text.now result }
     ensures first { IfErr result (λ e. IsFirstOf text.now e) }
@@ -40,8 +40,8 @@ pub fn read_expr(alloc: Global, text: &str) -> Result<Expr, ExprFault>
 ///
 /// Fails as `read_expr` fails for the part of the text from `from` up to the first `;`. If there is
 /// no `;`, fails as `read_expr` fails for the text from `from` on, or, if that is an expression,
-/// with X2 at the end of the text. With any fault but `NoMemory`, it is proved that no expression
-/// followed by a `;` begins at `from`.
+/// with X2 at the end of the text. Every fault but `NoMemory` means that no expression followed by
+/// a `;` begins at `from`.
 pub fn read_until(alloc: Global, text: &str, from: usize) -> Result<(Expr, usize), ExprFault>
     requires { IsCharBoundary text.now from }
     ensures exact { IsReadUntil text.now from result }
@@ -55,8 +55,8 @@ pub fn read_until(alloc: Global, text: &str, from: usize) -> Result<(Expr, usize
 }
 
 /// Parses the expression at a cursor, advances the cursor past it and past the `;` after it, and
-/// returns the expression with the offset of the `;`. Fails as `read_until` does; the state of the
-/// cursor is then unspecified.
+/// returns the expression with the offset of the `;`. Fails as `read_until` does. The cursor is
+/// moved into a reader, and moved back only on success: after a failure its state is unspecified.
 pub fn read_ended<'t>(alloc: Global, cursor: &mut Cursor<'t>) -> Result<(Expr, usize), ExprFault>
     ensures { IsReadEnded cursor.old result cursor.new }
 {

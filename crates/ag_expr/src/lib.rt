@@ -1,4 +1,4 @@
-//! The expressions of rules: the parser of their texts.
+//! The parser of expressions: those of a grammar's rules, and that of `aggen value`.
 #![tactic(auto)]
 
 mod display;

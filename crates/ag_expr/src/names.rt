@@ -1,4 +1,4 @@
-//! The reserved names, the names of calls, and the names in scope.
+//! The reserved names, among them the names of calls, and the names in scope.
 
 ghost use Rattle.std.specs.Prelude.{◌≡◌, ◌∷◌, ◌++◌, [], None, OnOk, bytes_eq};
 ghost use Rattle.ag_expr.specs.language.Names as names_spec;

@@ -56,7 +56,7 @@ impl<'t> OccurrenceTable<'t> {
 
     /// Appends an occurrence whose `$` is at the byte offset `at`, unless one with the same place
     /// and name is listed already. Returns the index, from 0, of the occurrence with this place and
-    /// name. Fails with `NoMemory` if the table cannot grow; the list is then unchanged.
+    /// name. Fails with `NoMemory` if memory runs out; the list is then unchanged.
     pub fn intern(
         &mut self,
         alloc: Global,

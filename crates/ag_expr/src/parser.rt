@@ -19,9 +19,9 @@ use ag_tokens::{GrammarToken, Punctuation, unescaped};
 use ag_value::{Boxed, Items, NoMemory};
 use std::alloc::Global;
 
-/// A precedence of operators, from the weakest to the strongest. A chain is a list of operands with
-/// operators of one precedence between them. Its operands are chains of the next stronger
-/// precedence, and those of the strongest are atoms.
+/// A precedence of operators. The variants are in order, from the weakest to the strongest. A chain
+/// is a list of operands with operators of one precedence between them. Its operands are chains of
+/// the next stronger precedence. The operands of a chain of the strongest precedence are atoms.
 #[derive(Clone, Copy, PartialEq, Eq)]
 enum Precedence {
     /// `==` and `<`; a chain has at most one of these.
@@ -139,7 +139,8 @@ enum Atom {
     Table,
     /// A call.
     Call,
-    /// A number, a text, a bound name or an occurrence; also any token that begins no atom.
+    /// A number, a text, a bound name or an occurrence. Also the form for a token that begins no
+    /// atom, at which `single_operand` then fails.
     Operand,
 }
 
@@ -342,8 +343,8 @@ impl<'t> Reader<'t> {
 
     /// Parses a chain of any precedence; the parts of its atoms have at most `levels` levels.
     ///
-    /// If no operator follows its first atom, the atom is the chain. This case is handled here only
-    /// for speed, and so is the same case in `operand`.
+    /// If no operator follows the first atom, the atom is the chain. `chain_after` would return it
+    /// too: the test is here only for speed, and so is the similar one in `operand`.
     #[cycle(parsing)]
     #[tactic(auto, using(crate::proofs::language::Chains::atom_alone, crate::proofs::language::Chains::by_atom))]
     fn chain(&mut self, levels: usize) -> Result<Node, ExprFault>

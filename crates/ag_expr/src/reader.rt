@@ -66,7 +66,8 @@ pub fn refusal(cursor: &Cursor<'_>) -> ExprFault
     }
 }
 
-/// Returns the token, or `None` if it is a `;`, which ends the tokens of a statement.
+/// Returns the next token of a statement: `next_token`, or `None` if this is a `;`, which ends the
+/// tokens of a statement.
 fn before_semicolon(next_token: Option<GrammarToken<'_>>) -> Option<GrammarToken<'_>>
     ensures { option_map token_of result ≡ state.before_end true (option_map token_of next_token.entry) }
 {
@@ -76,7 +77,8 @@ fn before_semicolon(next_token: Option<GrammarToken<'_>>) -> Option<GrammarToken
     }
 }
 
-/// Returns whether an expression can begin with the name: `let`, `if`, a call, or a name in scope.
+/// Returns whether an expression can begin with the name: `let`, `if`, the name of a call, or a
+/// name in scope.
 fn begins_with(scope: &Scope<'_>, name: &str) -> bool
     ensures { result ≡ state.begins_here scope.now (tokens.Name name.now) }
 {
@@ -133,7 +135,7 @@ impl<'t> Reader<'t> {
     }
 
     /// Returns the fault for the case that the next token cannot be accepted: that of `refusal` for
-    /// the cursor.
+    /// the cursor. At a `;` that ends the tokens this is X2 at its offset, as at the end of a text.
     #[tactic(auto, using(crate::proofs::language::States::refusal_is))]
     pub fn refusal(&self) -> ExprFault
         ensures { result ≡ reading.refusal (input self.now) }
@@ -156,7 +158,7 @@ impl<'t> Reader<'t> {
     }
 
     /// Advances past the next token, which must be there. Does not add it to the occurrences, even
-    /// if it is one.
+    /// if it is one: `take_occurrence` does that.
     pub fn bump(&mut self)
         requires { is_some (next_token (input self.old)) ≡ true }
         ensures exact { self.new ≡ state.after_token self.old }

@@ -1,4 +1,6 @@
--- The program's fault for each fault of another crate. This project's.
+-- The fault of this crate, a `Fault` or a `BuildFault`, for each fault of another crate, and the `Fault` for each `BuildFault`.
+-- Four types are missing, whose conversions make only one fault: `FileFault`, `TextOutFault`, `NoMemory` and `AllocError`. This
+-- project's.
 use Rattle.ag_expr.specs.declared.fault.ExprFault.{ExprFault}
 use Rattle.ag_expr.specs.declared.fault.ExprFault.TheVariants as expr
 use Rattle.ag_job.specs.declared.fault.JobFault.{JobFault}
@@ -62,9 +64,9 @@ out_fault_of (out.Damaged at) = fault.Damaged at
 out_fault_of out.Device = fault.Device
 out_fault_of out.NoMemory = fault.NoMemory
 
--- The faults of reading a grammar, of checking it, and of its look-ahead tables. (`Translator::build` and `certify_plan` of
--- `aggen` convert those of the assignment of passes.) Refused memory becomes `NoMemory`. The fault `text.Expr` could contain it
--- too, but no call returns such a fault.
+-- The faults of reading a grammar, of checking it, and of its look-ahead tables. (A1 has no definition here: `Translator::build`
+-- and `certify_plan` of `aggen` make `build.Assign`.) Refused memory becomes `NoMemory`. A fault `text.Expr` could contain
+-- `expr.NoMemory`, but no call returns such a fault.
 abbrev pub build_fault_of_text : TextFault → BuildFault
 build_fault_of_text text.NoMemory = build.NoMemory
 build_fault_of_text e = build.Text e

@@ -21,7 +21,8 @@ pub enum BuildFault {
     Normal(NormalFault),
     /// L1: one token of look-ahead doesn't determine the next production.
     Table(TableFault),
-    /// A1: no assignment of passes to the grammar's attributes is legal.
+    /// A1: no assignment of passes to the grammar's attributes is legal. No conversion makes this
+    /// variant: `Translator::build` and `certify_plan` of `aggen` do.
     Assign(StuckGrammar),
     /// A request for memory was refused.
     NoMemory,

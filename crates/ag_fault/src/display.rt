@@ -11,8 +11,8 @@ use std::error::Error;
 use std::fmt;
 
 /// Prints the number of the fault first, as in `D1 reading or writing failed`. A fault without a
-/// number prints `usage` or `NoMemory` in its place. A fault that contains the fault of another
-/// crate is printed as that one.
+/// number prints `usage` or `NoMemory` in place of the number. A fault that contains the fault of
+/// another crate is printed as that one.
 impl fmt::Display for Fault {
     ghost use Rattle.std.specs.Prelude.{Some};
     ghost use Rattle.ag_fault.specs.Printed.{printed};

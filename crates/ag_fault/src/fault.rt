@@ -67,9 +67,9 @@ pub enum Fault {
     NoMemory,
 }
 
-/// Returns the exit status of the program for a fault: 2 for usage, J1 and J3; 3 for X, G,
-/// N, L and A (a letter alone means all its numbers); 4 for S and P of a sentence; 5 for B1, B2,
-/// R1, and P2 and P3 of a tree file; 6 for O1; 7 for NoMemory; 8 for F1, J2, D1 and O2. A fault
+/// Returns the exit status of the program for a fault: 2 for usage, J1 and J3; 3 for X, G, N, L and
+/// A (a letter alone means all its numbers); 4 for S, and for P of a sentence; 5 for B1, B2, R1,
+/// and for P2 and P3 of a tree file; 6 for O1; 7 for NoMemory; 8 for F1, J2, D1 and O2. A fault
 /// that contains NoMemory has 7 too, and one that contains D1 has 8.
 pub fn status(fault: &Fault) -> u8
     ensures { result ≡ status_of fault.now }

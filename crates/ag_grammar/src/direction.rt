@@ -7,7 +7,8 @@ ghost use Rattle.ag_grammar.specs.grammars.Passes.{IsBefore, direction_name, dir
 /// passes go from right to left is this project's choice.
 #[derive(Clone, Copy, PartialEq, Eq)]
 pub enum Direction {
-    /// From left to right: even passes. Pass 0 is the parser, which writes the first file of a tree.
+    /// From left to right: even passes. Pass 0 is the parser, which writes the first file of a
+    /// tree.
     LeftToRight,
     /// From right to left: odd passes.
     RightToLeft,

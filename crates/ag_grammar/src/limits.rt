@@ -54,8 +54,9 @@ pub const MAX_EXPR_LEVELS: usize = 64;
 /// The greatest place that an occurrence in a text may name.
 pub const MAX_PLACE: u16 = 65_535;
 
-/// The maximum number of passes that a grammar with a legal assignment needs: two for each
-/// attribute that it may have.
+/// An upper bound on the number of passes that a grammar with a legal assignment needs: two for
+/// each attribute that it may have. Of two consecutive passes, one in each direction, at least one
+/// computes a new attribute.
 pub const MAX_PASSES: u16 = 8_192;
 
 /// The maximum depth of a tree; the depth of a leaf is 1.
@@ -65,9 +66,11 @@ pub const MAX_DEPTH: usize = 65_536;
 pub const MAX_NODES: u32 = 1_048_576;
 
 /// The maximum depth of a tree whose file is reversed, or converted from version 1. Both operations
-/// recurse over the depth, and fail if the tree is deeper.
+/// recurse over the depth, and fail if the tree is deeper. No program that wrote version 1 wrote a
+/// deeper tree.
 pub const MAX_REVERSED_DEPTH: usize = 256;
 
 /// The maximum number of stored nodes of a tree whose file is reversed, or converted from
-/// version 1.
+/// version 1. Both operations fail if the tree has more. No program that wrote version 1 wrote a
+/// larger tree.
 pub const MAX_REVERSED_NODES: u32 = 65_536;

@@ -47,8 +47,8 @@ fn child_at(items: &[Item], index: usize) -> Option<Item>
 
 impl Production {
     /// Returns the item at a place, or `None` if the place does not exist. At place 0 it is the
-    /// symbol of the left side; from place 1 on, the children from left to right. Reads the right
-    /// side up to the place.
+    /// symbol of the left side; from place 1 on, the children from left to right. The time of a
+    /// call grows with the number of items up to the place.
     pub fn item_at(&self, place: u16) -> Option<Item>
         ensures { result ≡ item_at self.now place }
     {

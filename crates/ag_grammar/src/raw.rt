@@ -100,7 +100,8 @@ pub struct RawProduction {
 
 impl RawProduction {
     /// Returns the child at a place of the right side, from 1 on, or `None` if the place does not
-    /// exist or is 0 (the left side). Reads the right side up to the place.
+    /// exist or is 0 (the left side). The time of a call grows with the number of items up to the
+    /// place.
     pub fn item_at(&self, place: usize) -> Option<&RawItem>
         ensures some { IfSome result (λ item. (0 < place)
             × (slice_get (raw_stored self.now.items) (place - 1) ≡ Some item.now)) }

@@ -102,7 +102,8 @@ pub fn worked_numbers()
 {}
 
 /// States, in examples, that texts are measured and compared in bytes, values of different kinds
-/// are not equal, lists are indexed from 0, and tables are sorted by key.
+/// are not equal, and lists are indexed from 0. Further examples: `get` returns the value at a key,
+/// or the error `key`; tables are sorted by key; and a new value at a key replaces the old one.
 pub fn worked_parts()
     // an `ä` in UTF-8
     ensures bytes { unary_call_result unary.Len (value.Text (195 ∷ 164 ∷ [])) ≡ number 2 }

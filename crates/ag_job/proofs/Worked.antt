@@ -6,7 +6,7 @@ use Rattle.std.proofs.lemmas.List.{length-append}
 use Rattle.ag_job.specs.Jobs.{AreWholeLines, HasNoSeparator, IsCut, IsSeparator}
 use Rattle.ag_job.specs.Worked.{CrAloneIsNone, CrAndLfEnd, LongerIsNone, NothingBefore, SpacedIsNone, TheFirstCuts, TheLastEnds}
 
--- the last byte of a byte followed by a text
+-- the last byte of a text, or `before` if the text is empty
 abbrev last_after : ℕ → List ℕ → ℕ
 last_after before [] = before
 last_after before (byte ∷ bytes) = last_after byte bytes
@@ -15,7 +15,7 @@ joined_ends : (before : ℕ) (prefix : List ℕ) → last_after before (prefix +
 joined_ends before [] = refl
 joined_ends before (byte ∷ bytes) = joined_ends byte bytes
 
--- after LF, a text of whole lines ends with LF
+-- a text of whole lines is empty or ends with LF: its last byte, or LF (10) if it is empty, is LF
 whole_ends : (text : List ℕ) → AreWholeLines text → last_after 10 text ≡ 10
 whole_ends text (inl none) = ap (last_after 10) none
 whole_ends text (inr (prefix, e)) = ap (last_after 10) e ∙ joined_ends 10 prefix
@@ -47,7 +47,7 @@ is_free before bytes zero = true
 is_free before [] (suc n) = true
 is_free before (byte ∷ bytes) (suc n) = not ((before == 10) && separates (byte ∷ bytes)) && is_free byte bytes n
 
--- then a text that is followed by a line `%%` has at least n bytes
+-- if this holds of a text and the bytes after it, and a line `%%` begins after the text, the text has at least n bytes
 after_free : (n before : ℕ) (text rest : List ℕ) → is_free before (text ++ rest) n ≡ true → last_after before text ≡ 10
     → separates rest ≡ true → n ≤ length text
 after_free zero before text rest free ended separated = omega arith

@@ -59,9 +59,9 @@ fn begins_a_line(bytes: &[u8], at: usize) -> bool
     at == 0 || bytes[at - 1] == b'\n'
 }
 
-/// Returns the length in bytes of a line `%%` at the beginning of the bytes, or `None` if they don't
-/// begin with such a line. The length includes the line's end: an LF, or a CR and an LF. The line
-/// may lack its end only if no byte comes after `%%`.
+/// Returns the length in bytes of a line `%%` at the beginning of the bytes, or `None` if they
+/// don't begin with such a line. The length includes the line's end: an LF, or a CR and an LF. The
+/// line may lack its end only if no byte comes after `%%`.
 fn separator_length(bytes: &[u8]) -> Option<usize>
     ensures within { IfSome result (λ n. n ≤ length bytes.now) }
     ensures separator { IfSome result

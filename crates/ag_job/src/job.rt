@@ -39,10 +39,10 @@ impl Job {
     /// the reader's end. A CR directly before the LF of that line is ignored. The last line may be
     /// `%%` without an LF, but not with a CR alone.
     ///
-    /// Reads at most 2,097,157 bytes, one more than a job may have. Fails with J3 `TooLong` if the
-    /// reader contains that many, with J2 `Read` if the reader fails before they are read, with J1
-    /// `NoSeparator` if no line is exactly `%%`, and with `NoMemory` if a request for memory is
-    /// refused, in this call or in the reader.
+    /// Reads up to the reader's end, but at most 2,097,157 bytes: one more than a job may have.
+    /// Fails with J2 `Read` if the reader fails meanwhile, with J3 `TooLong` if it returns all
+    /// 2,097,157 bytes, and with J1 `NoSeparator` if no line is exactly `%%`. Fails with `NoMemory`
+    /// if a request for memory is refused, in this call or in the reader.
     ///
     /// `R.remaining reader` has the bytes that the reader still contains, if a contract can name
     /// them.

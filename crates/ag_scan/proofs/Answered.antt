@@ -26,7 +26,7 @@ use Rattle.ag_scan.proofs.OneToken.{IsWordIn, one_word, token_plain, no_spaces}
 
 -- ---- the tokens of a text up to the first fault
 
--- the first word, if its text is not too long for a token
+-- the word that was read, unless its text is too long for a token
 abbrev short_of : Option LeadingWord → Option LeadingWord
 short_of None = None
 short_of (Some f) = cond (nat_lt max_token_bytes (length f.lex)) None (Some f)
@@ -135,7 +135,7 @@ taken_is v clean (suc n) (word at cs w following lex t ts end rest split is are)
 
 -- ---- the answer
 
--- the answer if the tokens end before these characters, which begin with this word
+-- the answer if the tokens `ts` end at the offset `at`, before these characters; o is the word with which the characters begin
 abbrev ended_by : List ℕ → Option LeadingWord → List Token → ℕ → Result (List Token) ScanFault
 ended_by [] o ts at = Ok ts
 ended_by (c ∷ cs) None ts at = Err (fault.NoToken at)

@@ -116,7 +116,7 @@ pub counted : (v : Vocabulary) (text : List ℕ) (i at : ℕ) (o : Option Leadin
     → (length text ≤ 1048576) × (i ≤ length text)
 counted v text i at o is = let few = few_tokens v text is.has in (is.has.tokens.readable.short, omega (arith, is.within))
 
--- a word of the code is `None` if its specification word is
+-- an option of the code is `None` if the word of the specification that corresponds to it is `None`
 pub none_there : (o : Option code.LeadingWord) → option_map (λ f. leading_word_of f) o ≡ None → o ≡ None
 none_there None e = refl
 none_there (Some f) e = absurd (cc)

@@ -73,12 +73,12 @@ pub record IsLeadingToken (v : Vocabulary) (cs : List ℕ) (f : LeadingWord) : T
   pub split : cs ≡ word ++ f.rest
   pub token : IsToken v f.kind f.lex word f.rest
 
--- the number of the first literal of a list that has this text, if the first literal of the list has the number n
+-- the number of the first literal in a list whose text is `text`, if there is one; the literals of the list are numbered from n
 abbrev pub number_from : ℕ → List (List ℕ) → List ℕ → Option ℕ
 number_from n [] text = None
 number_from n (x ∷ xs) text = cond (pointwise nat_eq x text) (Some n) (number_from (n + 1) xs text)
 
--- the literal that consists of the first n characters, or else `other`
+-- the literal that consists of the first n of the characters cs, if there is one, and otherwise `other`
 abbrev pub literal_or : List (List ℕ) → List ℕ → ℕ → Option LeadingWord → Option LeadingWord
 literal_or literals cs n other =
     elim (number_from 0 literals (encode_utf8_all (take n cs)))
@@ -89,7 +89,7 @@ abbrev pub literal_within : List (List ℕ) → List ℕ → ℕ → Option Lead
 literal_within literals cs zero = literal_or literals cs zero None
 literal_within literals cs (suc n) = literal_or literals cs (suc n) (literal_within literals cs n)
 
--- the longer of two words; the literal if they have the same length
+-- the longer of a literal (the first argument) and a word of a class; the literal if they have the same length
 abbrev pub longer_of : Option LeadingWord → Option LeadingWord → Option LeadingWord
 longer_of None class = class
 longer_of (Some f) None = Some f
@@ -99,7 +99,7 @@ longer_of (Some f) (Some g) = cond (nat_lt (width g.rest) (width f.rest)) (Some 
 abbrev pub word_from : Vocabulary → List ℕ → Option LeadingWord
 word_from v cs = longer_of (literal_within v.literals cs (length cs)) (class_from v.classes cs)
 
--- the first n tokens of the characters, which begin at the offset `at`, or fewer if no word begins after them
+-- the first n tokens of the characters, which begin at the offset `at`; fewer if, after some tokens, no word begins
 abbrev pub tokens_from : Vocabulary → ℕ → ℕ → List ℕ → List Token
 tokens_from v zero at cs = []
 tokens_from v (suc n) at cs =

@@ -78,13 +78,13 @@ pub record IsLongestPrefix (literals : List (List ℕ)) (text : List ℕ) (w : L
 abbrev pub HasNoPrefix : List (List ℕ) → List ℕ → Type 0
 HasNoPrefix literals text = Each (λ x. IsPrefix x text → ⊥) literals
 
--- the entries that begin with a byte, with the entry of this index added
+-- what is stored for a byte, after the entry with this index, which begins with the byte, was added
 abbrev pub with_one : StartingLiterals → ℕ → StartingLiterals
 with_one Nothing index = Sole index
 with_one (Sole other) index = Several
 with_one Several index = Several
 
--- the entry with index k may begin with the byte for which this value is stored; `Several` excludes no entry
+-- what is stored for a byte allows that the entry with index k begins with the byte; `Several` allows it for each entry
 abbrev pub Covers : ℕ → StartingLiterals → Type 0
 Covers k Nothing = ⊥
 Covers k (Sole index) = index ≡ k

@@ -49,8 +49,8 @@ IsNextWordFrom v text following next at =
     (ts : List Token) → AreTokens v (length text - length following) (chars following) ts (length text) []
     → IsLeadingWordOf v (length text) ts next at
 
--- The state of a reader: `taken` tokens of the text have been taken, and `next` is the word of the next
--- token.
+-- The state of a reader: `taken` tokens of the text have been taken, `next` is the word of the next token, and `at` the token's
+-- offset. At the end `next` is `None`, and `at` is the offset of the last token (0 if there is none).
 pub record IsReaderState (v : Vocabulary) (text : List ℕ) (taken : ℕ) (next : Option LeadingWord) (at : ℕ) : Type 0 where
   pub has : IsScannable v text
   pub within : taken ≤ length (tokens_in v text)

@@ -50,8 +50,8 @@ fn is_shorter(text: &str, other: &str) -> bool
 }
 
 /// Returns the longer of a literal and a word of a class, both at the beginning of the same text;
-/// the literal if they have the same length; the only one if the other is `None`. The longer word is
-/// the one with the shorter rest.
+/// the literal if they have the same length; the only one if the other is `None`. The longer word
+/// is the one with the shorter rest.
 #[inline(always)]
 pub(crate) fn longer_of<'t>(
     literal: Option<LeadingWord<'t>>,

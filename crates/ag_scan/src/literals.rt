@@ -58,8 +58,8 @@ fn begins_with(text: &str, word: &str) -> bool
     text.as_bytes().starts_with(word.as_bytes())
 }
 
-/// Returns the number of entries whose texts are not after `text` in the order of texts. The texts of
-/// the other entries are not prefixes of `text`, since a prefix comes first.
+/// Returns the number of entries whose texts are not after `text` in the order of texts. The texts
+/// of the other entries are not prefixes of `text`, since a prefix comes first.
 fn count_not_after(entries: &[LiteralEntry<'_>], text: &str) -> usize
     requires { AreOrdered entries.now }
     ensures within { result ≤ length entries.now }
@@ -69,7 +69,8 @@ fn count_not_after(entries: &[LiteralEntry<'_>], text: &str) -> usize
     entries.partition_point(|word| word.text <= text)
 }
 
-/// Returns the index after this one; 0 for `None`.
+/// Returns the index after this one; 0 for `None`. `last_prefix` goes on with the entries before
+/// the returned index.
 fn index_after(last: Option<u16>) -> usize
     ensures { result ≡ after_last last }
 {

@@ -51,7 +51,8 @@ fn leading_text(text: &str) -> Option<LeadingWord<'_>>
 }
 
 /// Returns the word of one of these classes at the beginning of `text`, or `None` if there is none.
-/// `c` is the first character of `text`, and `following` is the text after that character.
+/// `c` is the first character of `text`, and `following` is the text after that character. Words of
+/// different classes begin with different characters, so only one class can match.
 #[inline(never)]
 #[tactic(auto, unfolding(crate::specs::Cutting::class_from))]
 fn class_begun<'t>(
@@ -82,9 +83,9 @@ fn class_begun<'t>(
     None
 }
 
-/// Returns the word of one of these classes at the beginning of a text, or `None`. Separate from
-/// `leading_class`, so that the stack slot for the result is initialized only if a class is in
-/// use.
+/// Returns the word of one of these classes at the beginning of a text, or `None`. `leading_class`
+/// calls it only if a class is in use. It is a function of its own, so that the stack slot of its
+/// result is initialized only then.
 #[inline(always)]
 #[tactic(auto, unfolding(crate::specs::Cutting::class_from))]
 fn class_among<'t>(classes: &[u16], text: &'t str) -> Option<LeadingWord<'t>>

@@ -18,9 +18,9 @@ use std::alloc::Global;
 use std::marker::Model;
 
 /// A sentence that is known to consist of separators and tokens with texts of at most 65,535 bytes.
-/// It stores the text of the sentence and a table of the literals, but not the tokens. The reader
-/// that `tokens` returns computes them again, one at a time. In contracts a sentence is the list of
-/// its tokens.
+/// It stores the text of the sentence, a table of the literals and the classes in use, but not the
+/// tokens. The reader that `tokens` returns computes them again, one at a time. In contracts a
+/// sentence is the list of its tokens.
 #[derive(Drop)]
 pub struct Sentence<'s> {
     vocabulary: Vocabulary<'s>,

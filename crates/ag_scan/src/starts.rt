@@ -39,8 +39,8 @@ pub fn first_byte(text: &str) -> u8
     text.as_bytes()[0]
 }
 
-/// Returns for each of the 256 bytes the entries that begin with it. (The contract only says that no
-/// such entry is missing.) Fails with `NoMemory` if the list cannot be allocated.
+/// Returns for each of the 256 bytes the entries that begin with it. (The contract only says that
+/// no such entry is missing.) Fails with `NoMemory` if the list cannot be allocated.
 pub fn starts_of(
     alloc: Global,
     entries: &[LiteralEntry<'_>],

@@ -10,9 +10,9 @@ use crate::vocabulary::Vocabulary;
 use ag_tokens::skip_separators;
 use std::marker::Model;
 
-/// A reader of the tokens of a sentence: the number of tokens already taken, and the word of the
-/// next one, or `None` at the end. In contracts it is the list of all tokens and the number of
-/// those taken.
+/// A reader of the tokens of a sentence. It stores the sentence's text and vocabulary, the number
+/// of tokens already taken, the word of the next one (`None` at the end) and an offset. Contracts
+/// see the list of all tokens and the number of those taken.
 #[derive(Drop)]
 pub struct Tokens<'t> {
     vocabulary: &'t Vocabulary<'t>,

@@ -16,7 +16,7 @@ use std::alloc::Global;
 use std::marker::Model;
 
 /// The words of a grammar: the table of its literals, and the numbers of the token classes
-/// in use. In contracts it is the texts of the literals and the classes.
+/// in use. Contracts see the texts of the literals and the classes.
 #[derive(Drop)]
 pub struct Vocabulary<'g> {
     literals: Literals<'g>,

@@ -21,7 +21,7 @@ use Rattle.ag_text.proofs.Manner.{itself, manner}
 end_left : (e : Ending) (ps : List PlacedToken) → is_end e ps ≡ true → ps ≡ []
 end_left e ps h = grind arith
 
--- a grammar that is parsed to the end
+-- the grammar `raw` is parsed, and the tokens end after it where the text ends
 pub record Whole (i j : Input) (raw : RawGrammar) : Type 0 where
   pub read : grammar_from i ≡ Ok (raw, j)
   pub ends : is_end j.ending j.left ≡ true
@@ -76,7 +76,7 @@ one_grammar text left right is also =
 -- ---- the first wrong token
 
 module _ (us : List PlacedToken) where
-  -- if the parser succeeds, the tokens are not any other grammar
+  -- if the tokens are a grammar, the parser returns it
   settled : (e : Ending) (rest : List PlacedToken) (raw : RawGrammar) → IsGrammar (us ++ rest) raw
       → grammar_from (before us (record { left = rest; ending = e })) ≡ Ok (raw, record { left = []; ending = e })
   settled e rest raw is = read_whole e (us ++ rest) raw is
@@ -113,7 +113,7 @@ refused i at x = go x.how
           none = none_goes_on x.us i.ending x.j.left (λ k same raw read. let contradiction = sym (stuck k same) ∙ read in cc);
         }
 
--- a whole grammar, followed by more tokens
+-- if a grammar is parsed, and the text does not end after it, the next token is the first wrong one
 followed : (i j : Input) (raw : RawGrammar) → grammar_from i ≡ Ok (raw, j) → is_end j.ending j.left ≡ false
     → IsFirstWrong i (offset j)
 followed i j raw read open_end =

@@ -85,7 +85,7 @@ start_alone_is_read = record {
   spells = (reading_agrees 8 start_tokens start_alone).0 start_is_read;
 }
 
--- the tokens without the name
+-- the tokens of `start ;`
 abbrev bare_tokens : List PlacedToken
 bare_tokens = name_at 0 (codes "start") ∷ mark_at 6 punctuation.Semicolon ∷ []
 

@@ -65,7 +65,7 @@ target_goes_on at t a h = grind arith
 one_word : (v w name : List ℕ) → bytes_eq v w ≡ false → bytes_eq name v ≡ true → bytes_eq name w ≡ false
 one_word v w name other h = subst (λ x. bytes_eq x w ≡ false) (sym ((bytes_eq-Decides name v).0 h)) other
 
--- and a name that is not reserved equals no reserved one
+-- a name that is not reserved is not `symbol`
 not_symbol : (name : List ℕ) → not (is_reserved name) ≡ true → bytes_eq name (codes "symbol") ≡ false
 not_symbol name h = let is = bytes_eq-Decides name (codes "symbol") in grind arith
 
@@ -79,7 +79,7 @@ names_go_on t = is_comma t || nowhere t
 abbrev section_goes_on : List ℕ → GrammarToken → Bool
 section_goes_on w t = is_word w t || names_go_on t
 
--- the tokens after the first section
+-- the tokens that can come after the section of `syn`
 abbrev after_syn : GrammarToken → Bool
 after_syn t = is_word (codes "inh") t || is_semi t
 

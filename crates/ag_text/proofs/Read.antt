@@ -6,7 +6,7 @@ use Rattle.std.proofs.lemmas.Str.{IsUtf8-from_is_utf8, is_utf8-from_IsUtf8}
 use Rattle.std.specs.Str.{is_utf8}
 use Rattle.std.specs.Str.Lossy.{utf8_valid_len}
 use Rattle.ag_expr.specs.declared.fault.ExprFault.TheVariants as expr
-use Rattle.ag_tokens.specs.Ending.{Ending, offset_of}
+use Rattle.ag_tokens.specs.Ending.{Ending}
 use Rattle.ag_tokens.specs.Ending as ending
 use Rattle.ag_tokens.specs.PlacedToken.{PlacedToken, Input}
 use Rattle.ag_tokens.specs.Parsing.{is_end}
@@ -38,7 +38,7 @@ read_err text j s f is lexes read i one memory =
     ap (λ l. answer_of text (grammar_of l)) (same_input 0 (chars text) i j one lexes) ∙ ap (answer_of text) (read other)
     ∙ ap Err (sym is)
 
--- tokens that do not end the text are not parsed to its end
+-- if the tokens end for another reason than the end of the text, no grammar is parsed
 no_end : (e : Ending) (ps : List PlacedToken) (raw : RawGrammar) (j : Input) → ((qs : List PlacedToken) → is_end e qs ≡ false)
     → grammar_of (record { left = ps; ending = e }) ≡ Ok (raw, j) → ⊥
 no_end e ps raw j never read =
@@ -113,11 +113,11 @@ never_of text (Ok raw) is = tt
 never_of text (Err f) is = λ e. let input = one_input (chars text) in let all = is input.0 input.1 (λ q. cc) in
     let bad : ⊥ = grind arith in bad
 
--- the same for the values of the code
+-- `IsReadText` holds for a text if it holds for an equal one
 pub is_text : (text part : List ℕ) → part ≡ text → (r : Result RawGrammar TextFault) → IsReadText part r → IsReadText text r
 is_text text part same r is = subst (λ t. IsReadText t r) same is
 
--- a text that is not UTF-8
+-- for a text that is not UTF-8, G1 is the result
 pub bad_utf8 : (text : List ℕ) (at : ℕ) → (IsUtf8 text → ⊥) → at ≡ utf8_valid_len text → length text ≤ max_text_bytes
     → IsRead text (Err (fault.BadUtf8 at))
 bad_utf8 text at bad there short i lexes memory = let none : is_utf8 text ≡ false = none (is_utf8 text) refl in

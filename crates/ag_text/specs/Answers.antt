@@ -41,7 +41,8 @@ abbrev pub answer_of : List ℕ → Outcome RawGrammar → Result RawGrammar Tex
 answer_of text (Ok p) = Ok p.0
 answer_of text (Err s) = Err (fault_of text s)
 
--- the result of parsing a text with these tokens: too long, else not UTF-8, else the result for its tokens
+-- The result of parsing a text with these tokens: too long, else not UTF-8, else the result for its tokens. `utf8_valid_len` is
+-- the length of the longest prefix that is UTF-8.
 abbrev pub read_text : List ℕ → Input → Result RawGrammar TextFault
 read_text text i =
     cond (nat_lt max_text_bytes (length text)) (Err fault.TooLong)

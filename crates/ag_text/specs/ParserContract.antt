@@ -7,8 +7,8 @@ use Rattle.ag_text.specs.Reading.{Parser}
 use Rattle.ag_text.specs.declared.stop.Stop.{Stop}
 use Rattle.ag_text.specs.declared.stop.Stop.TheVariants as stop
 
--- The result is that of the specification's parser `read`, with the same remaining input; or the fault is that of
--- `read`, unless memory ran out.
+-- The result is that of the specification's parser `read` for the input `old`, with the same remaining input, `new`; or the fault
+-- is that of `read`, unless memory ran out.
 abbrev pub Reads : {X : Type 0} → Parser X → Input → Result X Stop → Input → Type 0
 Reads read old (Ok x) new = read old ≡ Ok (x, new)
 Reads read old (Err e) new = e ≢ stop.NoMemory → read old ≡ Err e

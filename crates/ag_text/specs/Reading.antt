@@ -39,7 +39,7 @@ abbrev pub one_from : {A : Type 0} → (ℕ → GrammarToken → Option A) → P
 one_from = parsing.one_from refusal
 
 -- `many begins part found` reads any number of parts with the parser `part`, as long as the next token passes the test `begins`.
--- It returns the list `found`, followed by these parts. (`false`: not at most one part.)
+-- It returns the list `found`, followed by these parts. (`false` means that `further_from` may read more than one part.)
 abbrev pub many : {A : Type 0} → (GrammarToken → Bool) → Parser A → List A → Parser (List A)
 many = further_from false
 

@@ -19,7 +19,7 @@ use Rattle.ag_tokens.specs.Languages as languages
 use Rattle.ag_tokens.specs.Languages.{◌>>=◌, ◌>>◌, gives, ◌or◌, Many, further}
 use Rattle.ag_text.specs.Meanings.{mark_in, word_in, name_in, item_in, target_in}
 
--- one token with its meaning at its offset
+-- one token with its meaning; `sign` is the meaning of a token at an offset, if it has one
 abbrev pub one : {A : Type 0} → (ℕ → GrammarToken → Option A) → List PlacedToken → A → Type 0
 one sign = languages.one (λ p. sign p.at p.token)
 

@@ -1,5 +1,5 @@
-//! What the parser would accept where it rejects the text of a grammar, for messages. This is found
-//! by parsing the text before the offset with one candidate after it, for each candidate.
+//! What the parser would accept where it rejects the text of a grammar. Messages list this. To find
+//! it, the text before the offset is parsed once for each candidate, with the candidate after it.
 
 use crate::fault::TextFault;
 use crate::grammar::read_grammar;
@@ -25,15 +25,16 @@ pub enum Expected {
     End,
 }
 
-/// The signs and reserved names that `gather_outside` tries, besides names, items and rules.
+/// The signs and reserved names that `gather_outside` tries, besides names, items and rules: those
+/// that can be outside of expressions.
 const SIGNS: [&str; 9] = ["=", "{", "}", ",", ";", "start", "symbol", "syn", "inh"];
 
 /// Returns what could be at the offset of this fault instead of the token there. Parses the text
-/// before the offset, for G3 only its last expression, up to 14 times, each time with another
-/// candidate after it. Returns an empty list for any fault but G2, and G3 with X2. If an expression
-/// at the offset would be of level 65, the result contains no expression or operand. It can contain
-/// a `]` then: after a `[`, a `]` makes the empty list `[]`. Fails with `NoMemory` if memory runs
-/// out.
+/// before the offset up to 14 times: once without anything after it, and otherwise with another
+/// candidate each time. For G3 only the last expression of this text is parsed. Returns an empty
+/// list for any fault but G2, and G3 with X2. If an expression at the offset would be of level 65,
+/// the result contains no expression or operand. It can still contain a `]`, since no expression is
+/// needed between `[` and `]`. Fails with `NoMemory` if memory runs out.
 pub fn expected_at(alloc: Global, text: &str, fault: TextFault) -> Result<Vec<Expected>, NoMemory> {
     match fault {
         TextFault::Unexpected(_, at) => expected_outside(alloc, text, at),
@@ -93,10 +94,10 @@ fn expected_inside(alloc: Global, text: &str, at: usize) -> Result<Vec<Expected>
     Ok(found)
 }
 
-/// Returns the byte offset at which the expression around the offset `at` begins: that of the first
-/// token after the last `=` before `at` that follows an occurrence; 0 if there is none. Such an `=`
-/// is that of a rule: in the part of an expression before its fault, `=` follows only a name, in a
-/// `let`.
+/// Returns the byte offset at which the expression around the offset `at` begins. This is the
+/// offset of the token after the `=` of the rule, which is the last `=` before `at` that comes
+/// directly after an occurrence: in the part of an expression before its fault, `=` comes only
+/// after a name, in a `let`. Returns 0 if there is no such `=`.
 fn expression_start(text: &str, at: usize) -> usize {
     let mut cursor = Cursor::new(text);
     let mut start = 0usize;

@@ -71,7 +71,7 @@ fn read_characters(alloc: Global, text: &str) -> Result<RawGrammar, TextFault>
 /// UTF-8. Otherwise the fault is at the first token that cannot be accepted. It is G3 if this token
 /// is after the `=` of a rule and not after the next `;`. Without a next `;`, it is G3 everywhere
 /// after the `=`, also at the end of the text. Elsewhere it is G2, with the line. Fails with
-/// `NoMemory` if memory runs out. With any other fault, the text is proved not to be a grammar.
+/// `NoMemory` if memory runs out. Every fault but `NoMemory` means that the text is not a grammar.
 pub fn read_grammar(alloc: Global, text: &[u8]) -> Result<RawGrammar, TextFault>
     ensures exact { IsRead text.now result }
     ensures first { IfErr result (λ e. IsFirstOf text.now e) }

@@ -38,8 +38,8 @@ pub fn worked_refusal()
     ensures { ReadsAsNone (codes "start ;") }
 {}
 
-/// States that the tokens `constant_tokens` spell the grammar `constant`. They are those of the text
-/// `start S; symbol S syn out; S = "x" S NAME { $0.out = 7; }`, of which the law itself says nothing.
+/// States that the tokens `constant_tokens` spell the grammar `constant`. The law is about tokens
+/// only. They are those of `start S; symbol S syn out; S = "x" S NAME { $0.out = 7; }`.
 #[tactic(auto, using(crate::proofs::Examples::constant_is_spelled))]
 pub fn worked_tokens()
     ensures { IsGrammar constant_tokens constant }

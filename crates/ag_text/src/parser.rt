@@ -1,6 +1,6 @@
-//! The parser of grammars, which follows the productions of the syntax in LANGUAGE.md. Its
+//! The parser of grammars, which follows the productions of the syntax in LANGUAGE.md. The parsing
 //! functions fail with `Stop::WrongAt` at the first token that cannot be accepted, with
-//! `Stop::InExpr` if an expression has a fault, and with `NoMemory` if memory runs out.
+//! `Stop::InExpr` if an expression has a fault, and with `Stop::NoMemory` if memory runs out.
 
 ghost use Rattle.std.specs.Prelude.{◌≡◌, [], Bool, codes};
 ghost use Rattle.ag_tokens.specs.Parsing.{sees};

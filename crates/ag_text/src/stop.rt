@@ -20,8 +20,8 @@ pub enum Stop {
     NoMemory,
 }
 
-/// Returns the fault of the parser of grammars for a fault of an expression: `InExpr`, or `NoMemory`
-/// for `NoMemory`.
+/// Returns the fault of the parser of grammars for a fault of an expression: `InExpr`, or
+/// `NoMemory` for `NoMemory`.
 pub fn in_expr(fault: ExprFault) -> Stop
     ensures { result ≡ stop_of fault }
 {

@@ -39,7 +39,7 @@ pub spaces : (cs : List ℕ) → prefix_len is_separator cs + width (drop (prefi
 spaces [] = refl
 spaces (c ∷ cs) = let more = spaces cs in grind (arith, separator_width, drop_more)
 
--- tokens after separators
+-- if tokens begin after the leading separators, they are also the tokens of the characters with these separators
 pub spaced : (at : ℕ) (cs : List ℕ) (ps : List PlacedToken) (end : ℕ) (rest : List ℕ)
     → AreTokens (at + prefix_len is_separator cs) (drop (prefix_len is_separator cs) cs) ps end rest → AreTokens at cs ps end rest
 spaced at [] ps end rest are = subst (λ n. AreTokens n [] ps end rest) (omega arith) are
@@ -56,7 +56,7 @@ pub plain_after : (cs : List ℕ) → BeginsNoSeparator (drop (prefix_len is_sep
 plain_after [] = tt
 plain_after (c ∷ cs) = let more = plain_after cs in grind (arith, drop_more)
 
--- a token that the lexer reads, and the tokens after it
+-- the token that the lexer reads at an offset, followed by the tokens after it, are tokens from this offset on
 pub one_more : (at : ℕ) (cs : List ℕ) (t : GrammarToken) (following : List ℕ) (ps : List PlacedToken) (end : ℕ) (rest : List ℕ)
     → token_from cs ≡ Some (t, following) → AreTokens (at + (width cs - width following)) following ps end rest
     → AreTokens at cs (record { at = at; token = t } ∷ ps) end rest
@@ -75,5 +75,5 @@ width-encoded (c ∷ cs) = let more = width-encoded cs in
 pub width-chars : (bs : List ℕ) → IsUtf8 bs → width (chars bs) ≡ length bs
 width-chars bs is = width-encoded (chars bs) ∙ ap length (encodes-chars bs is)
 
--- the same as a rule set
+-- a set with this lemma alone, for the prover
 pub ruleset wide = (width-chars)

@@ -25,7 +25,7 @@ pub digits_encoded : (ds : List ℕ) → list_all is_ascii_digit ds ≡ true →
 digits_encoded [] all = refl
 digits_encoded (d ∷ ds) all = let more = digits_encoded ds in grind (arith, nat_tests, encode_ascii, more)
 
--- digits that do not parse are a number that is too large
+-- digits that do not parse as a place (16 bits) or as a number literal (64 bits) are a number above the limit
 pub place_refused : {E : Type 0} (ds : List ℕ) (e : E) → IsDigits ds → (let r : Result ℕ E = Err e in ParsesUnsigned 16 10 ds r)
     → nat_le (digits_value 10 ds) 65535 ≡ false
 place_refused ds e is parses = let bad = parse_digits own 16 ds (Err e) parses is.1 in grind (arith, nat_tests)
@@ -34,7 +34,7 @@ pub number_refused : {E : Type 0} (ds : List ℕ) (e : E) → IsDigits ds → (l
     → nat_le (digits_value 10 ds) 9223372036854775807 ≡ false
 number_refused ds e is parses = let bad = parse_signed_digits own w64 ds (Err e) parses is.1 in grind (arith, nat_tests)
 
--- the leading digits that the lexer reads
+-- the longest prefix of digits, as the lexer reads it
 prefix_empty : (p : ℕ → Bool) (cs : List ℕ) → length (take (prefix_len p cs) cs) ≡ 0 → prefix_len p cs ≡ 0
 prefix_empty p [] none = refl
 prefix_empty p (c ∷ cs) none = grind (arith, take_more)

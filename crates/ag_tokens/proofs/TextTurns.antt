@@ -92,7 +92,7 @@ unescapes empty = refl
 unescapes (plain c body bytes quote slash is) = rw (ne_eqb c 92 slash) (ap (λ x. encode_utf8 c ++ x) (unescapes is))
 unescapes (escape c d body bytes same is) = rw same (ap (λ x. encode_utf8 d ++ x) (unescapes is))
 
--- the body that has been read is the text before the rest
+-- the body that has been read is the text before the rest: this ends at a character boundary, and denotes `prefix`
 module _ (text rest : List ℕ) (total : Option (GrammarToken × List ℕ)) (so_far : Within text rest total) where
   pub boundary : IsUtf8 rest → IsCharBoundary text (length text - length rest)
   boundary = seam text rest so_far.taken so_far.split
@@ -112,7 +112,7 @@ some_escape c h = grind arith
 encoded_escape : (c : ℕ) (rest : List ℕ) → 92 ∷ (encode_utf8 c ++ rest) ≡ encode_utf8_all (92 ∷ c ∷ []) ++ rest
 encoded_escape c rest = rw (encode_ascii 92 (lit< tt), append-nil (encode_utf8 c)) refl
 
--- an escape
+-- the text after an escape, whose backslash has been read
 pub past_escape : (text following : List ℕ) (passed : Option (Bor (List ℕ))) → chars text ≡ 92 ∷ chars following
     → text ≡ encode_utf8 92 ++ following → IsAfterEscape following passed
     → MatchOption passed (character_from (chars text) ≡ None) (λ rest. IsPast text rest.now)

@@ -66,7 +66,8 @@ name_sound (c ∷ cs) n rest e =
       (starts, prefix_passes is_xid_continue cs),
     )
 
--- the part of a text literal that is left to read
+-- the characters `cs` are the rest of a text literal and its closing quote, followed by `rest`; `prefix` are the bytes that the
+-- part read before denotes, and t is the whole token
 abbrev IsTextOf : List ℕ → List ℕ → GrammarToken → List ℕ → Type 0
 IsTextOf prefix cs t rest =
     (body : List ℕ) × (bytes : List ℕ) × (cs ≡ body ++ 34 ∷ rest) × IsBody body bytes × (t ≡ token.Text (prefix ++ bytes))
@@ -207,7 +208,7 @@ token_sound (c ∷ cs) t rest e = go (c == 34) (c == 36) refl refl e
 -- ---- if characters begin with a token, the lexer reads one that is at least as long; if it is as long, it
 -- is that token
 
--- the lexer reads at least the word before `more`; if it reads exactly this word, the result is a
+-- the lexer reads at least the word before `more`; if it reads exactly this word, the result has the value `a`
 record Reaches {A : Type 0} (a : A) (more : List ℕ) (found : Option (A × List ℕ)) : Type 0 where
   pub cut : A × List ℕ
   pub is : found ≡ Some cut
@@ -254,7 +255,7 @@ text_reach _ _ (escape c d body bytes a is) (suc n) prefix more lt =
     let rest = text_reach body bytes is n (prefix ++ encode_utf8 d) more (omega arith) in
     rw a (rest ∙ ap (λ y. Some (token.Text y, more)) (append_assoc prefix (encode_utf8 d) bytes))
 
--- the same for a result that is made from another
+-- the same for a result whose value is `f x` where that of another result is x
 reach_as : {A B : Type 0} (f : A → B) (a : A) (more : List ℕ) (found : Option (A × List ℕ)) (made : Option (B × List ℕ))
     (x : Reaches a more found) → made ≡ Some (f x.cut.0, x.cut.1) → Reaches (f a) more made
 reach_as f a more found made x is = record { cut = (f x.cut.0, x.cut.1); is = is; far = x.far; same = λ ends. ap f (x.same ends) }

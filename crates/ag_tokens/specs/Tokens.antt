@@ -93,8 +93,8 @@ abbrev pub width : List ℕ → ℕ
 width [] = 0
 width (c ∷ cs) = len_utf8 c + width cs
 
--- The characters `cs` begin at the byte offset `at`. From there up to the offset `end` they are separators and tokens, each the
--- longest at its offset. `placed` are these tokens with their offsets, and `rest` are the characters from `end` on.
+-- The characters `cs` begin at the byte offset `at`. From there up to the offset `end` they are separators and tokens. Each token
+-- is the longest one at its offset. `placed` are these tokens with their offsets, and `rest` are the characters from `end` on.
 pub data AreTokens : ℕ → List ℕ → List PlacedToken → ℕ → List ℕ → Type 0 where
   ended : (at : ℕ) (cs : List ℕ) → AreTokens at cs [] at cs
   separator : (at c : ℕ) (cs : List ℕ) (placed : List PlacedToken) (end : ℕ) (rest : List ℕ) → is_separator c ≡ true
@@ -110,8 +110,8 @@ is_within (token.Number n) = int_le n (pos 9223372036854775807)
 is_within (token.Occurrence place attr) = nat_le place MAX_PLACE
 is_within _ = true
 
--- From the byte offset `from`, where the characters `cs` begin, whole tokens and separators extend up to the
--- offset `at`, where `rest` begins.
+-- From the byte offset `from`, where the characters `cs` begin, whole tokens (each the longest at its offset) and separators
+-- extend up to the offset `at`, where `rest` begins.
 pub record Reaches (from : ℕ) (cs : List ℕ) (at : ℕ) (rest : List ℕ) : Type 0 where
   pub placed : List PlacedToken
   pub before : AreTokens from cs placed at rest

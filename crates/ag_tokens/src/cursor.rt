@@ -14,7 +14,8 @@ use std::marker::Model;
 
 /// A cursor over the tokens of a text. It is positioned before a token, or where the tokens end.
 /// The next token is read in advance and stored, so `peek` only returns it. Offsets are in bytes
-/// from the beginning of the text.
+/// from the beginning of the text. Contracts see the tokens from the next one on, with their
+/// offsets, and the ending after them.
 #[derive(Drop)]
 pub struct Cursor<'t> {
     /// The whole text.
@@ -65,7 +66,8 @@ impl<'t> Cursor<'t> {
     }
 
     /// Returns a cursor at the first token at or after the byte offset `from`, which must be at the
-    /// beginning of a character or the end of the text. Its offsets are those of the whole text.
+    /// beginning of a character or the end of the text. The cursor's offsets count from the
+    /// beginning of the text, not from `from`.
     pub fn at(text: &'t str, from: usize) -> Cursor<'t>
         requires { IsCharBoundary text.now from }
         ensures { Lexes from (chars (drop from text.now)) result }

@@ -148,8 +148,8 @@ fn single_punctuation(c: char) -> Option<Punctuation>
     }
 }
 
-/// Reads `++`, `==`, `+` or `=`, whose first character, `twice`, has been read. If `text` begins with
-/// `twice`, returns `two` and the text after that character, and otherwise `one` and `text`.
+/// Reads `++`, `==`, `+` or `=`, whose first character, `twice`, has been read. If `text` begins
+/// with `twice`, returns `two` and the text after that character, and otherwise `one` and `text`.
 #[inline(always)]
 fn double_mark(twice: char, two: Punctuation, one: Punctuation, text: &str) -> (Punctuation, &str)
     ensures { (result.0, chars result.1.now) ≡ lexing.double_mark twice two one (chars text.now) }
@@ -352,7 +352,7 @@ fn leading_digit(text: &str) -> Option<(char, &str)>
 
 /// Returns the number whose digits are `digit` and the digits at the beginning of `text`, and the
 /// text after these; or `None` if the number is 10^18 or more. Below 10^18 no step can overflow, so
-/// no step is checked; `long_number` reads the others.
+/// no step is checked; `long_number` reads greater numbers.
 fn short_number(digit: char, text: &str) -> Option<(i64, &str)>
     requires { is_ascii_digit digit ≡ true }
     ensures value { IfSome result (λ x. x.0

@@ -45,17 +45,20 @@ code_takes (suc (suc (suc (suc (suc (suc (suc zero))))))) c e = ap number_of (sy
 code_takes (suc (suc (suc (suc (suc (suc (suc (suc zero)))))))) c e = ap number_of (sym (same_Some code.Deep c e))
 code_takes (suc (suc (suc (suc (suc (suc (suc (suc (suc b))))))))) c e = absurd cc
 
--- what a reader returns: the bytes begin with its spelling, the test holds of it, and it is at most `levels` deep
+-- A reading function returned x, a value (`x.0`) and the bytes after it (`x.1`). The bytes begin with the spelling of the value
+-- (`spell`), `test` holds of the value, and its `depth` is at most `levels`.
 pub record IsRead {A : Type 0} (spell : A → List ℕ) (test : A → Bool) (depth : A → ℕ) (levels : ℕ) (bytes : List ℕ)
     (x : A × List ℕ) : Type 0 where
   pub takes : Takes bytes (spell x.0) x.1
   pub holds : test x.0 ≡ true
   pub shallow : depth x.0 ≤ levels
 
+-- this holds of everything that the reading function `item` returns
 abbrev pub Says : {A : Type 0} → (A → List ℕ) → (A → Bool) → (A → ℕ) → ℕ → (List ℕ → Read A) → Type 0
 Says {A} spell test depth levels item = (bytes : List ℕ) (x : A × List ℕ) → IsBytes bytes → item bytes ≡ Some x
     → IsRead spell test depth levels bytes x
 
+-- what `IsRead` states, for a list of n values that were read one after the other, and the bytes after them
 pub record TakesAll {A : Type 0} (spell : A → List ℕ) (test : A → Bool) (depth : A → ℕ) (levels n : ℕ) (bytes : List ℕ)
     (xs : List A) (rest : List ℕ) : Type 0 where
   pub takes : Takes bytes (joined (map spell xs)) rest
@@ -243,10 +246,11 @@ pub record IsLegible (levels : ℕ) (value : Value) : Type 0 where
   pub light : weight_of value < 2 ^ 32
   pub shallow : depth_of value ≤ levels
 
+-- `item` reads the spelling of x as x, whatever comes after the spelling
 abbrev pub Again : {A : Type 0} → (A → List ℕ) → (List ℕ → Read A) → A → Type 0
 Again spell item x = (rest : List ℕ) → item (spell x ++ rest) ≡ Some (x, rest)
 
--- each of them is read again
+-- the same for each x of a list
 abbrev pub AllAgain : {A : Type 0} → (A → List ℕ) → (List ℕ → Read A) → List A → Type 0
 AllAgain spell item [] = Unit {0}
 AllAgain spell item (x ∷ xs) = Again spell item x × AllAgain spell item xs
@@ -418,7 +422,7 @@ pub one_spelled : (input : List ℕ) (read : Value × List ℕ) → value_at 64 
 one_spelled input read e value rest well spelled =
     same_Some read (value, rest) (sym e ∙ ap (value_at 64) spelled ∙ well_is_read value rest well)
 
--- the prefix of that length is the spelling
+-- if the input is `text` and then `rest`, `text` is the prefix whose length is the difference of the lengths of input and `rest`
 pub prefix_is : (input text rest : List ℕ) → input ≡ text ++ rest → take (length input - length rest) input ≡ text
 prefix_is input text rest e =
     let len : length text ≡ length input - length rest = omega (arith, ap length e, length-append text rest) in
@@ -448,7 +452,7 @@ read_is_well input x is e short =
     omega (arith, len, short, length-append (spelling_of x.0) x.1, length-spelling x.0) in
     record { formed = read.holds; shallow = read.shallow; light = light }
 
--- if it took more, no prefix is the spelling of a well value
+-- if a value that is read took more bytes than the greatest weight, no prefix is the spelling of a well value
 pub too_long : (input : List ℕ) (x : Value × List ℕ) → value_at 64 input ≡ Some x → max_weight < length input - length x.1
     → (value : Value) (rest : List ℕ) → IsWell value → input ≡ spelling_of value ++ rest → ⊥
 too_long input x e long value rest well spelled =

@@ -11,7 +11,7 @@ use Rattle.std.proofs.lemmas.Nat.{be_bytes_4, be_bytes_8, from_be_bytes-to_be_by
 use Rattle.ag_value.specs.Spelling.{counted}
 use Rattle.ag_value.specs.Reading.{number_at, text_at}
 
--- each of them is a byte
+-- each of these numbers is a byte
 abbrev pub IsBytes : List ℕ → Type 0
 IsBytes bytes = (i : ℕ) → get_or bytes i 0 < 256
 
@@ -28,12 +28,12 @@ IsBytes-take n bytes is i =
 pub IsBytes-rest : (b : ℕ) (bytes : List ℕ) → IsBytes (b ∷ bytes) → IsBytes bytes
 IsBytes-rest b bytes is i = is (suc i)
 
--- a test that did not stop
+-- a test that would have made the result `None` was false
 pub unless_some : {A : Type 0} (b : Bool) (x : Option A) (y : A) → cond b None x ≡ Some y → (b ≡ false) × (x ≡ Some y)
 unless_some true x y e = absurd (none-some y e)
 unless_some false x y e = (refl, e)
 
--- text was taken from the beginning of the bytes
+-- the bytes are `text` and then `rest`, and each number of `rest` is a byte
 pub record Takes (bytes text rest : List ℕ) : Type 0 where
   pub parts : bytes ≡ text ++ rest
   pub are_bytes : IsBytes rest

@@ -1,4 +1,4 @@
--- One more key of a table was examined.
+-- The loop that tests the keys of a table: it has tested one more key (`next_key`), or all keys (`last_key`).
 use Rattle.std.proofs.Common.{◌≡◌, ℕ, suc, ◌+◌, ◌<◌, ◌≤◌, Bool, true, false, List, [], ◌∷◌, length, map, drop, get_or, refl, sym}
 use Rattle.std.proofs.Common.{ap, ◌∙◌, drop-cons, arith}
 use Rattle.std.proofs.lemmas.List.{drop_all}

@@ -1,4 +1,4 @@
--- A recursion on a count, for a loop that counts up.
+-- The loops that read items count up, and `all_at` is a recursion that counts down: the two agree at each step.
 use Rattle.std.proofs.Common.{◌≡◌, ℕ, suc, ◌+◌, ◌-◌, ◌<◌, List, [], ◌∷◌, ◌++◌, Some, ◌∙◌, refl, sym, arith}
 use Rattle.ag_value.specs.declared.fault.ValueFault.{ValueFault}
 use Rattle.ag_value.specs.declared.fault.ValueFault.TheVariants.{Malformed, NoMemory}

@@ -1,4 +1,4 @@
--- The test of whether bytes are UTF-8, and the fact.
+-- The test `is_utf8` is true exactly if the statement `IsUtf8` holds.
 use Rattle.std.proofs.Common.{◌≡◌, ℕ, false, List}
 use Rattle.std.specs.Str.{IsUtf8, is_utf8}
 use Rattle.std.proofs.lemmas.Bool.{false_from_ne_true}

@@ -40,7 +40,7 @@ depth_step (Value-F.Fault code) = 0
 abbrev pub depth_of : Value → ℕ
 depth_of = fold-Value ℕ depth_step
 
--- the greatest weight of a well value: the greatest number of bytes of its spelling
+-- the greatest weight of a well value, in bytes
 abbrev pub max_weight : ℕ
 max_weight = MAX_WEIGHT
 

@@ -1,6 +1,7 @@
 -- Reading a value from a prefix of some bytes, as plain functions on lists. A name that ends with `_at` reads what is at the
 -- beginning of the bytes (in `operations` such names have another meaning). `value_at` with 64 levels reads the spelling of each
--- well value. The other values that it returns are well but for a weight above the limit. Lemmas in `proofs` show both.
+-- well value. It also reads spellings of more than 1,048,576 bytes; a value with such a spelling is too heavy, but satisfies all
+-- other conditions of well values. Lemmas in `proofs` show both.
 use Rattle.std.specs.Prelude.{◌≡◌, ℕ, zero, suc, List, [], ◌∷◌, ◌++◌, length, take, drop, map, Option, Some, None, Result, Ok}
 use Rattle.std.specs.Prelude.{Err, nat_lt, if◌then◌else◌}
 use Rattle.std.specs.Option.{option_and_then}
@@ -23,13 +24,14 @@ infixl 10 ◌>>=◌
 abbrev pub ◌>>=◌ : {A B : Type 0} → Option A → (A → Option B) → Option B
 o >>= f = option_and_then f o
 
--- if a function of the code fails with Malformed (V1), `read`, the result of reading by these definitions, is `None`; if it fails
--- with NoMemory, nothing is claimed
+-- The claim of a fault of a function of the code, where `read` is the result of the definition for the same bytes. After
+-- Malformed (V1), `read` is `None`; after NoMemory, nothing is claimed.
 abbrev pub Fails : {Y : Type 0} → ValueFault → Option Y → Type 0
 Fails fault.Malformed read = read ≡ None
 Fails fault.NoMemory read = Unit {0}
 
--- the result of a function of the code, mapped by `view`, is the result `read`, unless the function ran out of memory
+-- A function of the code agrees with the result `read` of the definition for the same bytes: after Ok of x, `read` is `view x`;
+-- after a fault, the fault's claim holds (`Fails`).
 abbrev pub Agrees : {X Y : Type 0} → (X → Y) → Result X ValueFault → Option Y → Type 0
 Agrees view (Ok x) read = read ≡ Some (view x)
 Agrees view (Err e) read = Fails e read
@@ -57,12 +59,12 @@ code_at (suc (suc (suc (suc (suc (suc (suc zero))))))) = Some code.Big
 code_at (suc (suc (suc (suc (suc (suc (suc (suc zero)))))))) = Some code.Deep
 code_at (suc (suc (suc (suc (suc (suc (suc (suc (suc b))))))))) = None
 
--- an error, by the byte of its number
+-- an error, by the byte of its number, which comes after the byte of the kind
 unfoldable pub fault_at : List ℕ → Read Value
 fault_at [] = None
 fault_at (b ∷ rest) = code_at b >>= λ c. Some (v.Fault c, rest)
 
--- the list of the values in `prefix` and of n more, which `item` reads one after the other
+-- the list of those that were read before, `prefix`, and of n more, which `item` reads one after the other from the bytes
 unfoldable pub all_at : {A : Type 0} → (List ℕ → Read A) → ℕ → List A → List ℕ → Read (List A)
 all_at item zero prefix bytes = Some (prefix, bytes)
 all_at item (suc n) prefix bytes = item bytes >>= λ first. all_at item n (prefix ++ first.0 ∷ []) first.1

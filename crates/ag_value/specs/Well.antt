@@ -32,7 +32,7 @@ all_true (b ∷ bs) = b && all_true bs
 abbrev pub are_keys : List (List ℕ) → Bool
 are_keys keys = is_ascending keys && all_true (map is_utf8 keys)
 
--- whether a list or table may contain a value, from whether it may contain the values in it
+-- whether a list or table may contain a value, from the results of this test for the values inside that value
 abbrev pub item_step : Value-F Bool → Bool
 item_step (Value-F.Num n) = is_i64 n
 item_step (Value-F.Text text) = is_utf8 text
@@ -40,8 +40,8 @@ item_step (Value-F.List items) = all_true items
 item_step (Value-F.Table pairs) = are_keys (map (λ p. p.0) pairs) && all_true (map (λ p. p.1) pairs)
 item_step (Value-F.Fault code) = false
 
--- A list or table may contain a value if this holds for it and for all values in it: numbers are of i64, texts and keys are
--- UTF-8, the keys of a table rise strictly by their bytes, and no value is an error.
+-- Whether a list or table may contain a value. The conditions are for the value itself and for the values at every level in it:
+-- numbers are of i64, texts and keys are UTF-8, the keys of a table rise strictly by their bytes, and none is an error.
 abbrev pub is_item : Value → Bool
 is_item = fold-Value Bool item_step
 

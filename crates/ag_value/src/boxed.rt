@@ -5,7 +5,7 @@ use crate::fault::NoMemory;
 use std::alloc::Global;
 use std::marker::Model;
 
-/// A `Box`; contracts see the value in it.
+/// A `Box`; contracts see only the value in it, and not its address.
 #[derive(Debug, Drop)]
 pub struct Boxed<T> {
     inner: Box<T>,
@@ -14,6 +14,7 @@ pub struct Boxed<T> {
 impl<T> Model for Boxed<T> {
     ghost Value = { T };
 
+    // for the prover alone: a fact about the type that contracts see, from the same fact about T
     ghost coded = { T.code };
 
     ghost view = { λ b. b.inner.value };

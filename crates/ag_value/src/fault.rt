@@ -13,8 +13,9 @@ pub enum NoMemory {
     NoMemory,
 }
 
-/// The faults that have no other cause than those of [`NoMemory`]: two of std, and `NoMemory`. A
-/// crate converts all three to its own fault by one `impl From`.
+/// Marks the faults that have no other causes than those of [`NoMemory`]: `AllocError` and
+/// `AllocFailed` of std, and `NoMemory`. A crate converts all three to its own fault by one
+/// `impl From`.
 pub trait OutOfMemory: Drop {}
 
 impl OutOfMemory for AllocError {}
@@ -39,7 +40,7 @@ impl<T: Drop> From<AllocFailed<T>> for NoMemory {
     }
 }
 
-/// The reasons why bytes can't be decoded.
+/// The reasons why `decode` fails.
 #[derive(Clone, Copy, Debug, PartialEq, Eq)]
 pub enum ValueFault {
     /// V1: no prefix of the bytes is the spelling of a well value.

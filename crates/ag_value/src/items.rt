@@ -15,6 +15,7 @@ impl<T> Model for Items<T> {
 
     ghost Value = { List T };
 
+    // for the prover alone: a fact about the type that contracts see, from the same fact about T
     ghost coded = { coded_list T.code };
 
     ghost view = { λ it. it.vec.items };

@@ -4,5 +4,5 @@
 /// empty list is 1.
 pub const MAX_VALUE_DEPTH: u32 = 64;
 
-/// The greatest weight of a well value, which is the length of its spelling in bytes.
+/// The greatest weight of a well value. The weight is the length of the spelling in bytes.
 pub const MAX_WEIGHT: u64 = 1_048_576;

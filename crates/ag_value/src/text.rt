@@ -6,7 +6,8 @@ use arrayvec::ArrayString;
 use std::alloc::Global;
 use std::marker::Model;
 
-/// The storage of a text: up to 16 bytes in the value itself, or a string of any length.
+/// The storage of a text: up to 16 bytes in the value itself, or a string of any length. Most names
+/// and tokens have at most 16 bytes, and so take no memory.
 #[derive(Debug, Drop)]
 enum Storage {
     Short(ArrayString<16>),

@@ -36,7 +36,7 @@ pub of_plan : (P : Grammar → List (List ℕ) → Lists → Type 0) (text : Lis
     → IsGrammarOf text g → IsLeastPlan g rows code → P g rows code → HoldsOfPlan text P
 of_plan P text g rows code is plan holds = record { grammar = g; rows = rows; code = code; is = is; plan = plan; holds = holds }
 
--- O2 of the program is that of a listing
+-- if a fault of writing a listing is O2 as a fault of the program, it is `Write`
 pub write_exact : {A : Type 0} (e : ListingFault) (exact : Fault) (r : Result A Fault) → r ≡ Err exact
     → exact ≡ listing_fault_of e → IsErrOf r fault.Write → e ≡ listing.Write
 write_exact listing.Write exact r p q is = refl

@@ -20,7 +20,7 @@ refused_none text (NumberTooLarge at) none is = none_closed text none
 refused_none text (TooDeep at) none is = none_closed text none
 refused_none text NoMemory none is = absurd is
 
--- a fault of `read_expr` is one of X
+-- if a fault of `read_expr` is one of X1 to X4, it is true of the text
 pub explained : (text : List ℕ) (e : ExprFault) → IsRefused text e → IsFaultOf text e → IsExplained text (expr_fault_of e)
 explained text (NoToken at) none is = (none, is)
 explained text (Unexpected at) none is = inl (none, is)
@@ -36,7 +36,7 @@ wanted text (NumberTooLarge k) at none occurs = absurd (none occurs.expr occurs.
 wanted text (TooDeep k) at none occurs = absurd (none occurs.expr occurs.reads)
 wanted text NoMemory at none occurs = tt
 
--- the first occurrence of the one expression of the text is the first of any
+-- a text reads as one expression only, so its first occurrence is the one of `OccursAt`
 pub same_offset : (text : List ℕ) (e : Node × List Occ) (at : ℕ) → ReadsAsExpr text e → OccursAt text at
     → first_offset e.1 ≡ Some at
 same_offset text e at reads occurs =

@@ -115,7 +115,7 @@ module _ (g : Grammar) (sentence : List ℕ) (rows : List (List ℕ)) (code : Li
   never_refused t start run.Device ha hb tree within file exact = tt
   never_refused t start run.NoMemory ha hb tree within file exact = tt
 
--- the files are also left under a weaker hypothesis about the devices
+-- the claim about the files also holds under a stronger hypothesis: ha' and hb' imply that the devices were honest (ha, hb)
 pub files_supposed : (g : Grammar) (sentence : List ℕ) (rows : List (List ℕ)) (ha hb ha' hb' : Bool) (a b : List ℕ)
     (report : Report) → (ha' ≡ true → ha ≡ true) → (hb' ≡ true → hb ≡ true) → LeavesFiles g sentence rows ha hb a b report
     → LeavesFiles g sentence rows ha' hb' a b report
@@ -158,7 +158,7 @@ module _ (g : Grammar) (sentence : List ℕ) (rows : List (List ℕ)) (code : Li
     });
   }
 
-  -- a prefix of it was written
+  -- a prefix of the root's text was written
   pub begins : (old new : Option (List ℕ)) (text : List ℕ)
       → WhenHonest ha (WhenHonest hb (MatchesRoot g rows (last_content report.last a b) (Ok text)))
       → AppendsBeginning old new text
@@ -174,7 +174,7 @@ module _ (g : Grammar) (sentence : List ℕ) (rows : List (List ℕ)) (code : Li
     output = prefix.put;
   }
 
-  -- the meaning of a fault of the text
+  -- the meaning of a fault of reading the root's text
   pub root_refused : (old new : Option (List ℕ)) (f : OutFault)
       → WhenHonest ha (WhenHonest hb (MatchesRoot g rows (last_content report.last a b) (Err f)))
       → IsTranslationFault g sentence ha hb old new (out_fault_of f)

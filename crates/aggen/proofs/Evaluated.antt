@@ -1,26 +1,24 @@
 -- The tree of a file is evaluated: the files are those of its one solution, and a fault is true of its
 -- content.
-use Rattle.std.proofs.Common.{◌≡◌, ℕ, suc, ◌-◌, ◌+◌, ◌*◌, ◌≤◌, Bool, List, Option, Result, Ok, Err, ◌++◌, refl, ap, sym, subst}
+use Rattle.std.proofs.Common.{◌≡◌, ℕ, suc, ◌-◌, ◌+◌, ◌*◌, ◌≤◌, Bool, List, Option, Result, Ok, Err, refl, ap, sym, subst}
 use Rattle.std.proofs.Common.{◌∙◌, true, arith}
 use Rattle.std.specs.Io.KnownBytes.{Appends}
 use Rattle.ag_value.specs.declared.value.Value.{Text}
 use Rattle.ag_grammar.specs.grammars.Accepted.{IsAccepted}
 use Rattle.ag_grammar.specs.grammars.AttributeGrammar.{Grammar}
 use Rattle.ag_grammar.specs.grammars.Counts.{rules_of_pass, sum_of_passes}
-use Rattle.ag_grammar.specs.grammars.Passes.{Passes}
 use Rattle.ag_grammar.specs.grammars.Running.{IsLastPass}
-use Rattle.ag_grammar.specs.grammars.Solution.{IsTranslation, Valuation}
-use Rattle.ag_grammar.specs.grammars.Tree.{Tree, IsTreeOf, depth_of, max_depth, max_nodes, node_count}
+use Rattle.ag_grammar.specs.grammars.Solution.{IsTranslation}
+use Rattle.ag_grammar.specs.grammars.Tree.{Tree, depth_of, max_depth, max_nodes, node_count}
 use Rattle.ag_grammar.proofs.grammars.Counting.{passes_have_all_rules}
 use Rattle.ag_grammar.proofs.grammars.Running.{run_is_the_solution}
 use Rattle.treefile.specs.devices.Device.{WhenHonest}
 use Rattle.treefile.specs.framing.Ending.{version_two_usable}
 use Rattle.treefile.specs.records.Records.{IsFileOfTree}
 use Rattle.treefile.specs.Runs.{HasRun}
-use Rattle.treefile.specs.records.TreeFile.{header, version_two}
+use Rattle.treefile.specs.records.TreeFile.{version_two}
 use Rattle.treefile.proofs.records.Fitting.{fits_version_two}
 use Rattle.treefile.proofs.records.OneTree.{one_file}
-use Rattle.treefile.specs.records.FirstFile.{AreFromOne, IsFirstFile}
 use Rattle.treefile.proofs.records.FirstFile.{first_file_of}
 use Rattle.treefile.proofs.records.Texts.{texts_are_given}
 use Rattle.passassign.specs.Rows.{IsGreatest, passes_of}
@@ -48,7 +46,7 @@ use Rattle.aggen.specs.declared.translations.report.Report.{Report}
 use Rattle.aggen.proofs.Composed.{some_pass}
 use Rattle.aggen.proofs.Joined.{before_of_more, before_of_one, counts_joined, joined}
 
--- the second device comes first in the passes after pass 1
+-- after pass 1 `run_all` gets the devices in the order b, a: the device that it calls A is b
 turned_last : (which last : Last) (a b : List ℕ) → last ≡ other_last which → last_content last a b ≡ last_content which b a
 turned_last A last a b e = ap (λ (l : Last). last_content l a b) e
 turned_last B last a b e = ap (λ (l : Last). last_content l a b) e
@@ -220,7 +218,7 @@ module _ (g : Grammar) (rows : List (List ℕ)) (code : Lists) (least : IsLeastP
     });
   }
 
-  -- a prefix of it was written
+  -- a prefix of the root's text was written
   pub begins : (old new : Option (List ℕ)) (text : List ℕ)
       → WhenHonest ha (WhenHonest hb (MatchesRoot g rows (last_content report.last a b) (Ok text)))
       → AppendsBeginning old new text
@@ -236,7 +234,7 @@ module _ (g : Grammar) (rows : List (List ℕ)) (code : Lists) (least : IsLeastP
     output = prefix.put;
   }
 
-  -- the meaning of a fault of the text
+  -- the meaning of a fault of reading the root's text
   pub root_refused : (old new : Option (List ℕ)) (f : OutFault)
       → WhenHonest ha (WhenHonest hb (MatchesRoot g rows (last_content report.last a b) (Err f)))
       → IsEvaluationFault g ht ha hb content old new (out_fault_of f)
@@ -254,7 +252,7 @@ module _ (g : Grammar) (rows : List (List ℕ)) (code : Lists) (least : IsLeastP
   root_refused old new out.Device exact = tt
   root_refused old new out.NoMemory exact = tt
 
--- the files are also left under a weaker hypothesis about the devices
+-- the claim about the files also holds under a stronger hypothesis: ht', ha' and hb' imply that the devices were honest
 pub files_of_tree_supposed : (g : Grammar) (rows : List (List ℕ)) (ht ha hb ht' ha' hb' : Bool) (content a b : List ℕ)
     (report : Report) → (ht' ≡ true → ht ≡ true) → (ha' ≡ true → ha ≡ true) → (hb' ≡ true → hb ≡ true)
     → LeavesFilesOfTree g rows ht ha hb content a b report → LeavesFilesOfTree g rows ht' ha' hb' content a b report

@@ -76,7 +76,7 @@ readable_sign at (token.Punctuation m) x e = absurd (cc)
 readable_one : (ps : List PlacedToken) (x : RawItem) → one item_in ps x → IsReadableItem x
 readable_one ps x (p, alone, is) = readable_sign p.at p.token x is
 
--- a property of each part holds of all
+-- if what each part reads as has a property, each element of the list has it
 all_of_many : {A : Type 0} {item : List PlacedToken → A → Type 0} (P : A → Type 0)
     → ((ps : List PlacedToken) (x : A) → item ps x → P x) → {ps : List PlacedToken} {xs : List A} → Many item ps xs
     → (i : ℕ) (x : A) → slice_get xs i ≡ Some x → P x

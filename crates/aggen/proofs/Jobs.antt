@@ -13,7 +13,7 @@ use Rattle.aggen.specs.declared.translations.report.Report.{Report}
 
 module _ (known : Option (List ℕ)) (text sentence : List ℕ) (ha hb : Bool) (old new : Option (List ℕ))
     (job : HasJob known text sentence) where
-  -- the text makes no translator
+  -- no translator can be built from the text
   pub no_translator : (b : BuildFault) → IsBuildFault text b → IsJobRefusal known ha hb old new (build_fault_of b)
   no_translator b exact =
       inr

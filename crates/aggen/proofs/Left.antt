@@ -1,5 +1,5 @@
 -- The contents of the devices after a call, also after a fault.
-use Rattle.std.proofs.Common.{◌≡◌, ℕ, Bool, true, List, [], ◌++◌, length, Option, Result, Ok, Err, sym, ◌∙◌}
+use Rattle.std.proofs.Common.{◌≡◌, ℕ, Bool, true, List, length, Option, Result, Ok, Err, sym, ◌∙◌}
 use Rattle.std.proofs.Math.Seq.{take-length}
 use Rattle.std.specs.Result.{IfErr}
 use Rattle.ag_grammar.specs.grammars.Accepted.{IsAccepted}
@@ -51,7 +51,7 @@ first_begins g t content accepted tree is =
       prefix = (length (file version_two 0 bodies), first.occurs ∙ sym (take-length (file version_two 0 bodies)));
     }
 
--- these faults are not P
+-- faults of the scanner, a device, a pass, the root's text, a job and `build` are not P
 pub no_parse_of_scan : (f : ScanFault) → IsParseFault (scan_fault_of f) → ⊥
 no_parse_of_scan scan.NoMemory is = is
 no_parse_of_scan f is = is
@@ -83,7 +83,7 @@ no_parse_of_build (build.Table e) is = is
 no_parse_of_build (build.Assign e) is = is
 no_parse_of_build build.NoMemory is = is
 
--- faults before all passes ran
+-- faults that come before all passes ran are not O1 or O2
 pub none_after_files : (g : Grammar) (sentence : List ℕ) (ha hb : Bool) (f : Fault) → IsFaultBeforeText g sentence ha hb f
     → IsAfterPasses f → ⊥
 none_after_files g sentence ha hb (fault.NoText x) exact is = exact
@@ -107,7 +107,7 @@ none_after_build (build.Table e) is = is
 none_after_build (build.Assign e) is = is
 none_after_build build.NoMemory is = is
 
--- the files are also left by a call that keeps the contents
+-- the claim about the files still holds after a call that keeps the contents of the devices
 pub files_kept : (g : Grammar) (sentence : List ℕ) (rows : List (List ℕ)) (ha hb ha' hb' : Bool) (a b a' b' : List ℕ)
     (report : Report)
     → (ha' ≡ true → ha ≡ true) → (hb' ≡ true → hb ≡ true) → WhenHonest ha' (a' ≡ a) → WhenHonest hb' (b' ≡ b)
@@ -128,7 +128,7 @@ files_of_tree_kept g rows ht ha hb ha' hb' content a b a' b' report first second
   left = λ h x y. rw (same_a x, same_b y) (files.left h (first x) (second y));
 }
 
--- the files of a job's sentence are those of the job
+-- the files of a translation of a job's sentence are those of the job
 pub files_of_job : (known : Option (List ℕ)) (text sentence : List ℕ) (ha hb : Bool) (a b : List ℕ) (g : Grammar)
     → HasJob known text sentence → IsGrammarOf text g
     → (r : Result Report Fault) → IfErr r (λ e. IsAfterPasses e → LeavesLastFiles g sentence ha hb a b)

@@ -35,7 +35,7 @@ resource_exact content body (Damaged at) is exact = let bad : Err (Damaged at) �
 resource_exact content body Device is exact = tt
 resource_exact content body NoMemory is exact = tt
 
--- a fault of the last body that is B2 is at the end of the content
+-- if reading the last body fails with B2, its offset is the end of the content
 pub offset_exact : (content : List ℕ) (e : FrameFault) → ReadsAs (λ (x : List ℕ). x) (Err e) (last_body_of version_two content)
     → (at : ℕ) → IsErrOf (let r : Result Value Fault = Err (frame_fault_of e) in r) (fault.Damaged at) → at ≡ length content
 offset_exact content NotATreeFile exact at is = absurd cc

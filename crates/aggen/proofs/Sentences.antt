@@ -22,7 +22,7 @@ same_tokens : (g : Grammar) → IsAccepted g → (sentence : List ℕ) (ts us : 
     → AreTokensOf (vocabulary_of g) sentence us → us ≡ ts
 same_tokens g ok sentence ts us a b = let same : Ok us ≡ Ok ts = at_most_one g ok sentence (Ok us) (Ok ts) b a in cc
 
--- the tree of a sentence is one of its tokens
+-- a tree of a sentence is a tree of the sentence's tokens
 pub with_tokens : (g : Grammar) → IsAccepted g → (sentence : List ℕ) (ts : List Token) → AreTokensOf (vocabulary_of g) sentence ts
     → (t : Tree) → IsTreeOfSentence g sentence t → IsTreeWith g (words_of ts) t
 with_tokens g ok sentence ts cut t is =

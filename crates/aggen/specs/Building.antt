@@ -2,14 +2,10 @@
 -- project's.
 use Rattle.std.specs.Prelude.{ℕ, List}
 use Rattle.ag_grammar.specs.grammars.AttributeGrammar.{Grammar}
-use Rattle.ag_text.specs.declared.fault.TextFault.{TextFault}
-use Rattle.ag_text.specs.declared.fault.TextFault.TheVariants as text
 use Rattle.llparse.specs.Ahead.{HasNoConflict}
 use Rattle.llparse.specs.table.Tables.{IsLeastConflict}
 use Rattle.llparse.specs.declared.table.fault.TableFault.{TableFault}
 use Rattle.llparse.specs.declared.table.fault.TableFault.TheVariants as table
-use Rattle.normalform.specs.declared.fault.NormalFault.{NormalFault}
-use Rattle.normalform.specs.declared.fault.NormalFault.TheVariants as normal
 use Rattle.passassign.specs.Answer.{IsRefused}
 use Rattle.passassign.specs.Least.{IsLeast}
 use Rattle.passassign.specs.Rows.{passes_of}
@@ -21,14 +17,14 @@ use Rattle.ag_fault.specs.declared.build_fault.BuildFault.{BuildFault}
 use Rattle.ag_fault.specs.declared.build_fault.BuildFault.TheVariants as build
 use Rattle.ag_fault.specs.declared.stuck_grammar.StuckGrammar.{StuckGrammar}
 
--- L1: the text is an accepted grammar, whose least conflict this is; NoMemory is not L1
+-- L1: the text is that of an accepted grammar, and this is the grammar's least conflict; NoMemory is not L1
 abbrev pub IsConflictOf : List ℕ → TableFault → Type 0
 IsConflictOf t (table.Conflict symbol first second ahead) =
     (g : Grammar) × IsGrammarOf t g × IsLeastConflict g symbol first second ahead
 IsConflictOf t table.NoMemory = ⊥
 
--- A1: the text is an accepted grammar without a conflict. The grammar has no legal assignment, as the
--- certificate `s.stuck` shows.
+-- A1: the text is that of an accepted grammar without a conflict. The grammar has no legal assignment, as the certificate
+-- `s.stuck` shows.
 pub record IsStuckOf (t : List ℕ) (s : StuckGrammar) : Type 0 where
   pub grammar : IsGrammarOf t s.grammar
   pub free : HasNoConflict s.grammar

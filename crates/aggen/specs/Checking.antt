@@ -1,5 +1,5 @@
--- The meaning of checking a grammar's text: the grammar, its first fault, and the line that is written. All
--- of this is this project's.
+-- The meaning of checking a grammar's text: the grammar, its first fault, and the line that is written. `old` and `new` are the
+-- output's bytes before and after the call, if a contract can name them. All of this is this project's.
 use Rattle.std.specs.Prelude.{◌≡◌, ◌≢◌, ℕ, List, Option, Err}
 use Rattle.std.specs.Io.KnownBytes.{Appends}
 use Rattle.ag_expr.specs.declared.fault.ExprFault.TheVariants as expr
@@ -22,15 +22,16 @@ use Rattle.ag_fault.specs.declared.fault.Fault.TheVariants as fault
 abbrev pub TextsAreReadable : Type 0
 TextsAreReadable = (text : List ℕ) (raw : RawGrammar) → ReadsAsGrammar text raw → IsReadable raw
 
--- the text reads as a raw grammar (with names), whose grammar with numbers is this one, and it is accepted
+-- The text reads as a raw grammar, with names. With numbers for the names it is `grammar`, which is accepted.
 pub record IsGrammarOf (text : List ℕ) (grammar : Grammar) : Type 0 where
   pub raw : RawGrammar
   pub reads : ReadsAsGrammar text raw
   pub named : grammar ≡ numbered raw
   pub accepted : IsAccepted grammar
 
--- G1 to G4: the fault is the result of reading the text, which does not read as a grammar. NoMemory is not one of
--- them.
+-- G1 to G4: the reading function of `ag_text` returns this fault for the text (`read`). G2 has the offset and the line of the
+-- first token that can't be accepted (`first`, which says nothing of other faults). The text does not read as a grammar
+-- (`refused`). NoMemory is none of G1 to G4.
 pub record IsTextFaultOf (text : List ℕ) (f : TextFault) : Type 0 where
   pub read : IsRead text (Err f)
   pub first : IsFirstOf text f
@@ -46,7 +47,7 @@ pub record IsNormalFaultOf (text : List ℕ) (f : NormalFault) : Type 0 where
   pub first : IsFirstFault raw f
   pub refused : IsAccepted (numbered raw) → ⊥
 
--- the meaning of a fault of checking for the text: G and N; NoMemory has none, and no other fault is possible
+-- the meaning of a fault of `print_counts` but O2: G and N are true of the text; NoMemory has none, and no other is possible
 abbrev pub IsCheckFault : List ℕ → Fault → Type 0
 IsCheckFault text (fault.Text f) = IsTextFaultOf text f
 IsCheckFault text (fault.Normal f) = IsNormalFaultOf text f

@@ -56,15 +56,15 @@ pub record LeavesLastFilesOfTree (g : Grammar) (honest_tree honest_a honest_b : 
   pub report : Report
   pub files : LeavesFilesOfTree g rows honest_tree honest_a honest_b content a b report
 
--- Pass 1 of some plan reads a content that should be the file of pass 0 of a tree of the grammar. The first fault or exceeded
--- limit that it finds is f. The plan's passes are numbered from 1. Records of pass 0 have no values of rules, so all plans find
--- the same.
+-- f is the first damage or exceeded limit that pass 1 meets in the content, which it reads as the file of pass 0 of a tree. This
+-- holds of pass 1 of some `plan` (rows of an assignment, and code) whose passes are from 1 on. All such plans meet the same f,
+-- since in a file of pass 0 no attribute but the `lex` of tokens has a value.
 abbrev pub ShowsInFile : Grammar → List ℕ → RunFault → Type 0
 ShowsInFile g content f =
     (plan : List (List ℕ) × Lists) × AreFromOne (passes_of plan.0) × Shows (source (setting_of g plan 1)) content f
 
--- R1: the content is not the file of any tree of the grammar, and this shows at the offset. P2: it is not the file of any tree
--- within the limit of levels, and this limit is exceeded before a fault is found. P3: the same with the limit of nodes. D1 and
+-- R1: the content is not the file of pass 0 of any tree of the grammar, and this shows at the offset. P2: it is not that of any
+-- tree within the limit of levels, and this limit is exceeded before damage is met. P3: the same with the limit of nodes. D1 and
 -- NoMemory say nothing of the content.
 abbrev pub IsTreeFileFault : Grammar → List ℕ → RunFault → Type 0
 IsTreeFileFault g content (run.Damaged at) = ((t : Tree) → IsTreeInFile g content t → ⊥) × ShowsInFile g content (run.Damaged at)
@@ -84,9 +84,9 @@ IsTreeFaultBeforeText g ht ha hb content fault.Device = Unit {0}
 IsTreeFaultBeforeText g ht ha hb content fault.NoMemory = Unit {0}
 IsTreeFaultBeforeText g ht ha hb content _ = ⊥
 
--- The meaning of a fault of `evaluate_tree`. If the devices are honest, R1, with its offset, P2 and P3 are true of the content of
--- the tree's file, and O1 of its one tree; B1 and B2 are impossible; and after O2 a prefix of the translation was written.
--- A device failure and NoMemory have no meaning, and no other fault is possible.
+-- The meaning of a fault of `evaluate_tree`. If the devices are honest, R1 (with its offset), P2 and P3 are true of the content
+-- of the tree's file, and O1 of its one tree; B1 and B2 are impossible; and after O2 a prefix of the translation was written. A
+-- device failure and NoMemory have no meaning, and no other fault is possible.
 abbrev pub IsEvaluationFault : Grammar → (honest_tree honest_a honest_b : Bool) → List ℕ → (old new : Option (List ℕ)) → Fault
     → Type 0
 IsEvaluationFault g ht ha hb content old new (fault.Run f) =

@@ -66,7 +66,7 @@ pub record LeavesLastFilesOfJob (known : Option (List ℕ)) (honest_a honest_b :
 abbrev pub IsJobRefusal : Option (List ℕ) → (honest_a honest_b : Bool) → (old new : Option (List ℕ)) → Fault → Type 0
 IsJobRefusal known ha hb old new e = IsNoJob known e ⊎ IsRefusedJob known ha hb old new e
 
--- J, G, N, L, A and S come before a device is used.
+-- the fault is one of J, G, N, L, A and S, which come before a device is used
 abbrev pub IsBeforeTrees : Fault → Type 0
 IsBeforeTrees (fault.Job f) = Unit {0}
 IsBeforeTrees (fault.Text f) = Unit {0}
@@ -76,7 +76,7 @@ IsBeforeTrees (fault.Assign f) = Unit {0}
 IsBeforeTrees (fault.Scan f) = Unit {0}
 IsBeforeTrees _ = ⊥
 
--- P comes before the second device is used, and so do the faults that come before a device is used.
+-- the fault is P, which comes before the second device is used, or one that comes before any device is used
 abbrev pub IsBeforePasses : Fault → Type 0
 IsBeforePasses (fault.Parse f) = Unit {0}
 IsBeforePasses e = IsBeforeTrees e

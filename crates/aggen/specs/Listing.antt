@@ -1,4 +1,5 @@
--- The meaning of printing the plan of a grammar's text, or its code. All of this is this project's.
+-- The meaning of printing the passes or the code of the plan of a grammar's text. `old` and `new` are the output's bytes before
+-- and after the call, if a contract can name them. All of this is this project's.
 use Rattle.std.specs.Prelude.{ℕ, List, Option}
 use Rattle.std.specs.Io.KnownBytes.{Appends}
 use Rattle.ag_grammar.specs.grammars.AttributeGrammar.{Grammar}
@@ -10,7 +11,7 @@ use Rattle.aggen.specs.Checking.{IsGrammarOf, IsNormalFaultOf, IsTextFaultOf}
 use Rattle.ag_fault.specs.declared.fault.Fault.{Fault}
 use Rattle.ag_fault.specs.declared.fault.Fault.TheVariants as fault
 
--- a property P holds of the grammar of a text and its least plan: the rows of the assignment, and the code
+-- a property P holds of the grammar of a text and of the grammar's least plan (`rows` are the passes, `code` the instructions)
 pub record HoldsOfPlan (text : List ℕ) (P : Grammar → List (List ℕ) → Lists → Type 0) : Type 0 where
   pub grammar : Grammar
   pub rows : List (List ℕ)
@@ -33,8 +34,8 @@ PrintsCode text old new = HoldsOfPlan text (λ g rows code. Appends old new (cod
 abbrev pub BeginsCode : List ℕ → Option (List ℕ) → Option (List ℕ) → Type 0
 BeginsCode text old new = HoldsOfPlan text (λ g rows code. AppendsBeginning old new (code_text g code))
 
--- G, N, L and A: the meaning of a fault of the program for the text; NoMemory has none, and no other fault is
--- possible
+-- the meaning of a fault of `print_plan` and `print_code` but O2: G, N, L and A are true of the text; NoMemory has none, and no
+-- other is possible
 abbrev pub IsTranslatorFault : List ℕ → Fault → Type 0
 IsTranslatorFault text (fault.Text f) = IsTextFaultOf text f
 IsTranslatorFault text (fault.Normal f) = IsNormalFaultOf text f

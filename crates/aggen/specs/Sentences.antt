@@ -37,14 +37,14 @@ pub record HasNoTreeFrom (g : Grammar) (sentence : List ℕ) (at : ℕ) : Type 0
   pub offset : IsUnexpectedAt g tokens at
   pub none : HasNoTree g sentence
 
--- P2 and P3: the sentence can be cut into tokens, and `Leaves` holds of their words (each has a literal or a class, and a text):
--- they leave only trees beyond a limit
+-- P2 and P3: the sentence can be cut into tokens, and `Leaves` holds of the words of these tokens. (A word is a literal or a
+-- class, with its text.) `Leaves` is one of the two properties in `IsParseFaultOf`: the words leave only trees beyond a limit.
 pub record LeavesOnlyTrees (g : Grammar) (sentence : List ℕ) (Leaves : List Lexeme → Type 0) : Type 0 where
   pub tokens : List Token
   pub cut : AreTokensOf (vocabulary_of g) sentence tokens
   pub beyond : Leaves (words_of tokens)
 
--- the meaning of P1 to P3: no tree, or each beyond a limit; a device failure and NoMemory are not P
+-- the meaning of P1 to P3: there is no tree (P1), or only trees beyond a limit; a device failure and NoMemory are not P
 abbrev pub IsParseFaultOf : Grammar → List ℕ → ParseFault → Type 0
 IsParseFaultOf g sentence (parse.Unexpected at) = HasNoTreeFrom g sentence at
 IsParseFaultOf g sentence parse.TooDeep = LeavesOnlyTrees g sentence (LeavesOnlyDeeper max_depth g)
@@ -52,8 +52,8 @@ IsParseFaultOf g sentence parse.TooManyNodes = LeavesOnlyTrees g sentence (Leave
 IsParseFaultOf g sentence parse.Device = ⊥
 IsParseFaultOf g sentence parse.NoMemory = ⊥
 
--- the meaning of a fault for the sentence; a device failure and NoMemory have none, and no other fault is
--- possible
+-- the meaning of a fault of `parse_tree`: S and P are true of the sentence; a device failure and NoMemory have none, and no other
+-- fault is possible
 abbrev pub IsSentenceFault : Grammar → List ℕ → Fault → Type 0
 IsSentenceFault g sentence (fault.Scan f) = IsScanFaultOf g sentence f
 IsSentenceFault g sentence (fault.Parse f) = IsParseFaultOf g sentence f

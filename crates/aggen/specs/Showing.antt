@@ -1,5 +1,6 @@
--- The meaning of showing a value: the expression of a text, the file of its value, and the line that is
--- written. All of this is this project's.
+-- The meaning of showing a value (`show_value`): the expression of a text, the file of its value, and the line that is written.
+-- `content` is the content of the device after the call, and `old` and `new` are the output's bytes before and after the call, if
+-- a contract can name them. All of this is this project's.
 use Rattle.std.specs.Prelude.{◌≡◌, ◌⊎◌, ℕ, pos, List, [], ◌∷◌, Option, None, Some}
 use Rattle.std.specs.Io.KnownBytes.{Appends}
 use Rattle.ag_grammar.specs.expressions.Evaluation.{value_of}
@@ -44,7 +45,7 @@ pub record OccursAt (text : List ℕ) (at : ℕ) : Type 0 where
   pub offset : first_offset expr.1 ≡ Some at
 
 -- The meaning of X1 to X4: the text does not read as an expression, and the fault is true at its offset. X2 (the
--- variant Unexpected) may also mean that it reads as an expression with occurrences, the first at the offset.
+-- variant Unexpected) may also mean that the text reads as an expression whose first occurrence is at the offset.
 -- NoMemory is not X.
 abbrev pub IsReason : List ℕ → ExprFault → Type 0
 IsReason text (expr.Unexpected at) = (ReadsAsNone text × IsFaultOf text (expr.Unexpected at)) ⊎ OccursAt text at
@@ -122,7 +123,7 @@ IsTextFault (fault.Expr e) = Unit {0}
 IsTextFault fault.NoMemory = Unit {0}
 IsTextFault _ = ⊥
 
--- the possible faults of showing a value: of its text, of the device, of the file on it, of writing, or of
+-- the possible faults of `show_value`: of the text, of the device, of the file on the device, of writing, or of
 -- memory
 abbrev pub IsShowFault : Fault → Type 0
 IsShowFault (fault.Expr e) = Unit {0}

@@ -1,6 +1,8 @@
--- The definition of a translation: the one tree of a sentence, the only values that meet all its equations,
--- the files in which they are stored, and the text that is written (Knuth 1968). The form of the statement,
--- the files and the limits are this project's.
+-- The definition of a translation: the one tree of a sentence, the only values that meet all its equations, the files in which
+-- they are stored, and the text that is written (Knuth 1968). The form of the statement, the files and the limits are this
+-- project's. In this file g is a grammar, a and b are the contents of the two devices after the call, and `honest_a` and
+-- `honest_b` say whether these devices are honest. `content` and `honest_tree` are those of a tree's own device. `IsTree` is the
+-- property that makes a tree one of the input.
 use Rattle.std.specs.Prelude.{ℕ, zero, suc, ◌≡◌, ◌*◌, Bool, List, ◌++◌, Option}
 use Rattle.std.specs.Io.KnownBytes.{Appends}
 use Rattle.ag_value.specs.declared.value.Value.{Value, Text}
@@ -18,7 +20,7 @@ use Rattle.treefile.specs.devices.Device.{WhenHonest}
 use Rattle.treefile.specs.records.TreeFile.{version_two}
 use Rattle.aggen.specs.declared.translations.report.Report.{Report}
 
--- There is exactly one tree with the property `IsTree`, and it is within the limits.
+-- t is the only tree with the property `IsTree`, and it is within the limits.
 pub record IsOneTree (IsTree : Tree → Type 0) (t : Tree) : Type 0 where
   pub is_tree : IsTree t
   pub only : (s : Tree) → IsTree s → s ≡ t
@@ -59,7 +61,7 @@ pub record Translates (IsTree : Tree → Type 0) (ArePasses : Passes → ℕ →
       (WhenHonest honest_b
       (IsTranslated g assignment passes tree (last_content report.last a b) (other_content report.last a b) old new report))
 
--- O1: there is one tree, whose translation is this value, which is not a text.
+-- O1: there is one tree, and its translation is `value`, which is not a text.
 pub record HasNoText (IsTree : Tree → Type 0) (g : Grammar) (value : Value) : Type 0 where
   pub tree : Tree
   pub one : IsOneTree IsTree tree
@@ -96,8 +98,8 @@ pub record IsTreeInFile (g : Grammar) (content : List ℕ) (t : Tree) : Type 0 w
   pub tree : IsTreeOf g t
   pub file : IsFirstFile version_two g t content
 
--- The content of the file of the pass before the last one, for a tree that has a file of its own: that file if at most one pass
--- runs, and otherwise the content of the device that does not have the last file.
+-- The file of the pass before the last, if pass 1 read the tree from a device of its own. After at most one pass it is the
+-- content of that device (`tree`). After more it is the content of the one of a and b that does not have the last file.
 abbrev pub before_last : (passes : ℕ) → Last → (tree a b : List ℕ) → List ℕ
 before_last zero last tree a b = tree
 before_last (suc zero) last tree a b = tree

@@ -1,4 +1,4 @@
-//! Reading and checking a grammar's text, and printing its counts.
+//! Reading and checking a grammar's text, and printing the counts of the grammar.
 
 ghost use Rattle.std.specs.Prelude.{◌≡◌, ◌≢◌, IfErr, IfOk, IsErrOf, OnOk};
 ghost use Rattle.aggen.specs.Building.{IsGrammarFault};

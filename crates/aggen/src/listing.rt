@@ -1,4 +1,4 @@
-//! Printing the plan of a grammar's text, and its code.
+//! Printing the passes of a grammar's plan, and the plan's code.
 
 ghost use Rattle.std.specs.Prelude.{◌≡◌, ◌≢◌, IfErr, IsErrOf, OnOk};
 ghost use Rattle.aggen.specs.Listing.{BeginsCode, BeginsPlan, IsTranslatorFault};

@@ -44,9 +44,10 @@ use std::marker::Model;
 use tree_upgrade::upgrade;
 use treefile::{Device, Writer};
 
-/// A grammar with its look-ahead tables, its plan, and the allocator of its calls. The invariant:
-/// the grammar is accepted, the tables have exactly the grammar's predictions, and the plan is the
-/// grammar's least one. Contracts see the grammar in place of a translator.
+/// A grammar with its look-ahead tables and its plan, and the allocator from which the calls take
+/// memory. The invariant: the grammar is accepted, the tables have exactly the grammar's
+/// predictions, and the plan is the grammar's least one. Contracts see the grammar in place of a
+/// translator.
 #[derive(Drop)]
 pub struct Translator {
     grammar: Grammar,
@@ -134,12 +135,16 @@ impl Translator {
     /// the number of the tree's nodes.
     ///
     /// Fails with S1 to S4, before the device is used, if the sentence is too long, is not UTF-8 or
-    /// can't be cut into tokens; with P2 or P3 if its tokens have a tree beyond a limit; with P1 if
-    /// they have no tree, or P2 or P3 if the parser reaches a limit first; with D1 if the device
-    /// failed; and with NoMemory if memory is refused. After a fault the device has its old content
-    /// or a prefix of a file of pass 0 (a header, and frames of bodies of any allowed length).
+    /// can't be cut into tokens. Fails with P2 or P3 if the tokens have a tree beyond a limit. If
+    /// they have no tree, fails with P1, or with P2 or P3 if the parser reaches a limit first.
+    /// Fails with D1 if a call of the device failed, and with NoMemory if memory is refused.
+    ///
+    /// After a fault the device has its old content, or a prefix of a file of pass 0. Such a file
+    /// is a header and frames: bodies of any allowed length, each followed by its length. It need
+    /// not encode a tree.
     pub fn parse_tree<D: Device>(&self, sentence: &[u8], device: &mut D) -> Result<u32, Fault>
-        // Ok: there is one tree, it is within the limits, and its file is written.
+        // Ok: there is a tree, it is within the limits, and its file is written. After any result
+        // there is at most one (`one`).
         ensures tree { IfOk result (λ _. (t : Tree) × IsTreeOfSentence self.now sentence.now t) }
         ensures one { (t u : Tree) → IsTreeOfSentence self.now sentence.now t
             → IsTreeOfSentence self.now sentence.now u → t ≡ u }
@@ -151,7 +156,7 @@ impl Translator {
             → OnOk result (WhenHonest (D.is_honest device.new)
             (IsFirstFile version_two self.now t (D.content device.new))) }
 
-        // Err: the fault is true of the sentence.
+        // Err: the fault is true of the sentence. After S the device is unchanged.
         ensures refused { IfErr result (λ e. IsSentenceFault self.now sentence.now e) }
         ensures untouched { IfErr result (λ e. IsScanFault e → device.new ≡ device.old) }
         // The old content of the device, or a prefix of a file of pass 0
@@ -162,6 +167,7 @@ impl Translator {
             (BeginsFile 0 (D.content device.new))) }
         ensures parsed { IfErr result (λ e. IsParseFault e →
             WhenHonest (D.is_honest device.new) (BeginsFile 0 (D.content device.new))) }
+        // D1 only if the device's number of failures rose
         ensures persists { Persists (D.is_honest device.old) (D.is_honest device.new)
             (D.failures device.old) (D.failures device.new) (IsErrOf result Fault.Device) }
     {
@@ -190,10 +196,11 @@ impl Translator {
     /// unchanged.
     ///
     /// After O1 and O2 the devices have the last two tree files. After P `a` has a prefix of a file
-    /// of pass 0, and after D1 and NoMemory each device has its old content, or a prefix of a file
-    /// of some pass. Such a file is a header and frames of bodies of any allowed length. It need
-    /// not encode a tree: after P1 the sentence has none. The next call can use the devices in any
-    /// state. Claims on contents hold if the devices return the bytes that were written to them.
+    /// of pass 0. After D1 and NoMemory each device has its old content, or a prefix of a file of
+    /// some pass. A file of a pass here is any header and frames, as with `parse_tree`: after P1
+    /// the sentence has no tree. The next call can use the devices in any state, since it clears
+    /// each device before it writes to it. Claims on contents hold if the devices return the bytes
+    /// that were written to them.
     #[tactic(auto, using(crate::proofs::Begun::begun))]
     pub fn translate<D: Device, W: Write>(
         &self,
@@ -242,20 +249,21 @@ impl Translator {
         Ok(report)
     }
 
-    /// Translates the tree whose file of pass 0 is on the device `tree`: runs pass 1 from there to
-    /// `b`, the others alternately between `b` and `a`, reads the text of the root's `out` from the
-    /// file of the last pass, and writes it to `out`. Nothing is written to `out` before the last
-    /// pass has ended, and `tree` is only read. The report names the device that has the file of
-    /// the last pass, `a` or `b`. The other one has the file of the pass before it, unless there is
-    /// only one pass: then `tree` has that file.
+    /// Translates the tree whose file of pass 0 is on the device `tree`. Pass 1 reads `tree` and
+    /// writes `b`, and the later passes alternate between `b` and `a`. Then reads the text of the
+    /// root's `out` from the file of the last pass, and writes it to `out`. Nothing is written to
+    /// `out` before the last pass has ended, and `tree` is only read. The report names the device
+    /// with the file of the last pass, `a` or `b`. The other of these two has the file of the pass
+    /// before the last. If there is only one pass, the file of pass 0 is the one on `tree`.
     ///
     /// Fails with R1 only if the content of `tree` is not the file of pass 0 of any tree of the
-    /// grammar. If a limit is exceeded first, when the content is read from its end, fails with P2
-    /// or P3 instead: then the content is not the file of any tree of at most `MAX_DEPTH` levels
-    /// (65,536; P2) or `MAX_NODES` nodes (1,048,576; P3). Fails with O1 NoText if the translation
-    /// is not a text, with O2 Write if a write failed or took no byte, with D1 Device if a call of
-    /// a device failed, and with NoMemory if memory is refused. B1, B2, or R1, P2 or P3 of a later
-    /// pass's file are possible only on a device that does not return the bytes that were written.
+    /// grammar. The content is read from its end: if a limit is exceeded before damage is met,
+    /// fails with P2 or P3 instead. Then the content is not the file of any tree of at most
+    /// `MAX_DEPTH` levels (65,536; P2) or `MAX_NODES` nodes (1,048,576; P3). Fails with O1 NoText
+    /// if the translation is not a text, with O2 Write if a write failed or took no byte, with D1
+    /// Device if a call of a device failed, and with NoMemory if memory is refused. B1, B2, and R1,
+    /// P2 and P3 of a file that a pass wrote, are possible only on a device that does not return
+    /// the bytes that were written.
     ///
     /// After every fault except O2 `out` is unchanged. After O1 and O2 the last two tree files are
     /// where they are after success. After each other fault each of `a` and `b` has its old
@@ -307,18 +315,18 @@ impl Translator {
         Ok(report)
     }
 
-    /// Converts an old tree file: reads the file of version 1 and pass 0 of a tree of the grammar
-    /// from `old`, and writes to `to` the file of version 2 and pass 0 of the same tree, the one
-    /// that `parse_tree` writes for a sentence with this tree. `mid` then has the records of that
-    /// file in another order: those of a node's children from right to left, and then the node's.
-    /// `old` is only read. Returns the number of nodes.
+    /// Converts an old tree file. Reads from `old` the file of version 1 and pass 0 of a tree of
+    /// the grammar, and writes to `to` the file of version 2 and pass 0 of the same tree. That is
+    /// the file that `parse_tree` writes for a sentence with this tree. The old file is read from
+    /// its end, so the new records are first written to `mid`, with children from right to left.
+    /// Then this file is reversed to `to`. `old` is only read. Returns the number of nodes.
     ///
     /// Fails with R1 only if the content of `old` is not the file of version 1 and pass 0 of any
-    /// tree of the grammar. If a limit is exceeded first, when the content is read from its end,
-    /// fails with P2 or P3 instead: then the content is not the file of any tree of at most 256
-    /// levels (`MAX_REVERSED_DEPTH`; P2) or 65,536 nodes (`MAX_REVERSED_NODES`; P3). Fails with D1
-    /// if a call of a device failed, and with NoMemory if memory is refused. R1 with an offset in
-    /// `mid`, and P2 for its content, are possible only if `mid` does not return the bytes that
+    /// tree of the grammar. If a limit is exceeded before damage is met, fails with P2 or P3
+    /// instead. Then the content is not the file of any tree of at most 256 levels
+    /// (`MAX_REVERSED_DEPTH`; P2) or 65,536 nodes (`MAX_REVERSED_NODES`; P3). Fails with D1 if a
+    /// call of a device failed, and with NoMemory if memory is refused. R1 with an offset in `mid`,
+    /// and P2 for the content of `mid`, are possible only if `mid` does not return the bytes that
     /// were written.
     ///
     /// After a fault `mid` has its old content or a prefix of a file with the pass number 1, and
@@ -356,6 +364,7 @@ impl Translator {
 }
 
 /// Returns the plan of a grammar's least assignment, with the code that `generate` returns for it.
+/// Only `check_plan` makes a `Plan`, of an assignment and code that pass its check. These do.
 #[tactic(auto, using(planchecker::proofs::Taken::made_is_accepted, crate::proofs::Building::least_plan))]
 fn plan_of(alloc: Global, grammar: &Grammar, assignment: Assignment) -> Result<Plan, NoMemory>
     requires least { IsLeast grammar.now (passes_of assignment) }
@@ -366,7 +375,7 @@ fn plan_of(alloc: Global, grammar: &Grammar, assignment: Assignment) -> Result<P
     let code = generate(alloc, grammar, &assignment)?;
     match check_plan(grammar, assignment, code) {
         Ok(plan) => Ok(plan),
-        // An assignment of `assign` with the code of `generate` is a plan.
+        // never here: the check accepts a least assignment with the code of `generate`
         Err(_) => unreachable!(),
     }
 }

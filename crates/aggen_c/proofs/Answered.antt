@@ -3,20 +3,17 @@ use Rattle.std.proofs.Common.{◌≡◌, inl, inr, ℕ, List, Option, Some, None
 use Rattle.std.specs.Prelude.{IfErr, IfOk, IsSomeAnd, MatchOption, OnErr, OnOk}
 use Rattle.ag_grammar.specs.grammars.AttributeGrammar.{Grammar}
 use Rattle.ag_fault.specs.declared.fault.Fault.{Fault}
-use Rattle.ag_fault.specs.Faults.{build_fault_of}
-use Rattle.ag_fault.specs.declared.build_fault.BuildFault.{BuildFault}
-use Rattle.ag_fault.specs.declared.build_fault.BuildFault.TheVariants as build
-use Rattle.aggen.specs.Building.{IsBuildFault}
 use Rattle.aggen.specs.Listing.{IsTranslatorFault}
 use Rattle.aggen_c.specs.Answers.{Answers, IsBuilt, IsTranslatorOf, IsUnwritten, IsWritten}
 use Rattle.aggen_c.specs.Refusals.{HasReason, no_fields, numbers}
 use Rattle.aggen_c.specs.declared.refusal.RefusalFields.{RefusalFields}
 
--- a translator of a text, whose grammar the handle has
+-- a property P of the grammar g of a handle's translator; `value` is what contracts see of the handle
 pub is_some : (P : Grammar → Type 0) (value : Option Grammar) (g : Grammar) → value ≡ Some g → P g → IsSomeAnd value P
 is_some P value g same is = subst (λ (o : Option Grammar). IsSomeAnd o P) (sym same) is
 
--- the result of a call on the translator that a handle had
+-- The result of a call on the translator that a handle had. `value` is what contracts see of the handle, g the grammar of its
+-- translator, and `lent` that of the translator in the call.
 pub of_handle : (V E : Type 0) (P : Grammar → V → Type 0) (value : Option Grammar) (g lent : Grammar) (r : Result V E)
     → value ≡ Some g → lent ≡ g
     → IfOk r (P lent) → IfOk r (λ v. IsSomeAnd value (λ x. P x v))
@@ -30,14 +27,6 @@ pub refused_of_handle : (V E : Type 0) (N : E → Type 0) (P : Grammar → E →
 refused_of_handle V E N P value g lent r same was held =
     subst (λ (o : Option Grammar). IfErr r (λ e. MatchOption o (N e) (λ x. P x e))) (sym same)
     (subst (λ (x : Grammar). IfErr r (P x)) was held)
-
--- the refusals of making a translator are those of the text
-pub translator_fault : (text : List ℕ) (e : BuildFault) → IsBuildFault text e → IsTranslatorFault text (build_fault_of e)
-translator_fault text (build.Text f) is = is
-translator_fault text (build.Normal f) is = is
-translator_fault text (build.Table f) is = is
-translator_fault text (build.Assign f) is = is
-translator_fault text build.NoMemory is = tt
 
 -- a refusal with the same status and numbers as another has a reason that the other has
 has_reason : (IsTrue : Fault → Type 0) (status was : ℕ) (fields were : RefusalFields) → numbers status fields ≡ numbers was were

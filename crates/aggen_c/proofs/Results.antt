@@ -78,7 +78,7 @@ plan_text_of g lent rows code start text least same empty was =
     (subst (λ (x : Grammar). AppendsPlan x rows (Some start) (Some text)) same was) in
     record { rows = rows; code = code; least = least; listing = subst (IsPlanListing g rows) (sym listed.2) listed.1 }
 
--- a fault of a translation is true of the sentence, if it is no failure of a device or a write
+-- a fault of a translation, other than `Device` and `Write`, is true of the sentence
 translation_true : (g : Grammar) (sentence : List ℕ) (old new : Option (List ℕ)) (e : Fault) → e ≢ fault.Device → e ≢ fault.Write
     → IsTranslationFault g sentence true true old new e → IsTranslationRefusal g sentence e
 translation_true g sentence old new (fault.Scan f) device write is = is
@@ -139,7 +139,7 @@ tree_true g sentence (fault.Table f) device is = is
 tree_true g sentence (fault.Assign s) device is = is
 tree_true g sentence (fault.Job f) device is = is
 
--- the same of the fault that `memory_fault` returns for another one
+-- the same of the fault r that `memory_fault` returns for the fault e of a translation
 pub translation_refused : (g : Grammar) (sentence : List ℕ) (old new : Option (List ℕ)) (e r : Fault)
     → IsTranslationFault g sentence true true old new e → (r ≡ e) ⊎ (r ≡ fault.NoMemory) → r ≢ fault.Device → r ≢ fault.Write
     → IsTranslationRefusal g sentence r

@@ -1,4 +1,4 @@
--- The machine values of a handle and of a raw box. Assumes `Logic`.
+-- The machine values of a handle and of a raw box. The lemmas about memory have the toolchain's `Logic` as an argument.
 use Rattle.std.proofs.Common.{◌≡◌, ℕ, List, [], ◌∷◌, ◌++◌, refl, subst, lit<}
 use mathlib.Core.Bool.{true, ◌&&◌}
 use lib.Dec.{T}
@@ -139,7 +139,7 @@ module _ {M : Type 1} {𝓤 : Ura M} {𝓛 : Logic 𝓤} {K : Type 0} {Γ : List
       (subst (λ (ws : List Val). vs ≡ vstruct (of_list (ptr_val d.at ∷ (ws ++ []))) ∷ []) ea
       (subst (λ (ps : List Val). vs ≡ vstruct (of_list (ps ++ (vss.1.0 ++ []))) ∷ []) ep ev)) fits))))
 
-  -- what a handle holds is a box in a block, whose pointer may be tested, or it is null
+  -- a handle holds a box in a block, and its pointer may be tested; or it holds nothing, and its pointer is null
   pub held : K → (a : Global) (p : Ptr) (x : Option Grammar)
       → (p ≡ null_ptr → x ≡ None → Seq K 𝓛 Γ G)
       → ((b o : ℕ) (g : Grammar) → p ≡ block_ptr b o → x ≡ Some g → Testable (block_ptr b o)

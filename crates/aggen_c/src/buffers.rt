@@ -3,7 +3,8 @@
 ghost use Rattle.std.specs.Prelude.{◌≡◌, length};
 ghost use Rattle.aggen_c.specs.Answers.{IsCopied};
 
-/// Copies as many of the first bytes as a buffer has room for. Returns the number of all bytes.
+/// Copies the first of `bytes` to the buffer, as many as it has room for. The rest of the buffer
+/// stays as it is. Returns the length of `bytes`.
 pub fn copy_prefix(bytes: &[u8], buffer: &mut [u8]) -> usize
     ensures count { result ≡ length bytes.now }
     ensures copied { IsCopied bytes.now buffer.old buffer.new }

@@ -5,10 +5,11 @@
 //!
 //! Each call except `aggen_free_unchecked` returns a status, which is 0 after success. The result
 //! of a call with an argument `out` is copied there as far as there is room, and `length` gets the
-//! number of all bytes of the result. On failure `out` is as before, `length` is 0, `refusal` gets
-//! the number, the offset, the line and the column of the fault, if it has them, and `message` gets
-//! the message, as far as there is room. After success `refusal` has no number, no offset, no line,
-//! no column, and 0 as the length of the message.
+//! number of all bytes of the result. On failure `out` is as before, and `length` is 0. `refusal`
+//! gets the number, the offset, the line and the column of the fault, if it has them, and the
+//! length of the message. `message` gets the message, as far as there is room. After success
+//! `refusal` has no number, no offset, no line, no column, and 0 as the length of the message, and
+//! `message` is as before.
 
 ghost use Rattle.std.specs.Prelude.{◌≡◌, None};
 ghost use Rattle.aggen_c.specs.Answers.{Answers, HasMessage, IsBuilt};

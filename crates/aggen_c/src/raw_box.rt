@@ -19,7 +19,8 @@ impl<T, A: Allocator> Model for RawBox<T, A> {
 }
 
 impl<T, A: Allocator> RawBox<T, A> {
-    /// Returns the raw pointer of a box, with its allocator.
+    /// Returns the raw pointer of a box, with its allocator. `Box::into_raw_with_allocator`
+    /// requires `T: Drop`.
     pub fn from_box(b: Box<T, A>) -> RawBox<T, A>
     where
         T: Drop,

@@ -53,6 +53,7 @@ impl RefusalFields {
 pub struct Refusal {
     /// The status that the call returns.
     pub status: u8,
+    /// The fields for the caller. The length of the message is 0 here: `write` computes it.
     pub fields: RefusalFields,
     /// The message. `None` if memory for it was refused, if the handle has no translator, and
     /// before `with_report`.

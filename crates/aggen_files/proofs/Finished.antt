@@ -1,4 +1,6 @@
--- What holds of a translation into memory holds once its bytes are printed and the files are written out.
+-- What holds of a translation into memory holds once its bytes are printed and the files are written out. After the translation
+-- the devices of a.agt and b.agt have the contents a and b, and ha and hb say whether they are honest. Once they are written out,
+-- their files have the contents a' and b', and ha' and hb' say whether they are still honest.
 use Rattle.std.proofs.Common.{◌≡◌, ◌≢◌, ◌⊎◌, inl, inr, List, [], ℕ, Bool, true, Option, Some, Result, Ok, Err, refl, sym, subst}
 use Rattle.std.proofs.Common.{◌∙◌}
 use Rattle.std.specs.Result.{IfErr, IfOk}
@@ -38,7 +40,7 @@ module _ (g : Grammar) (sentence : List ℕ) (ha hb ha' hb' : Bool) (first : ha'
     });
   }
 
-  -- a prefix of them was
+  -- a prefix of the bytes was printed
   pub begun : (a b bytes : List ℕ) (old new : Option (List ℕ)) (report : Report)
       → TranslatesSentence g sentence ha hb a b (Some []) (Some bytes) report
       → AppendsBeginning old new bytes
@@ -120,7 +122,8 @@ module _ (g : Grammar) (sentence : List ℕ) (ha hb ha' hb' : Bool) (first : ha'
   refused old new old' new' (fault.Assign s) other exact = exact
   refused old new old' new' (fault.Job f) other exact = exact
 
-  -- the same of the results of calls: the buffer was empty, and its bytes are lent to be printed
+  -- These facts for the results of calls, as the contracts give them. `start` is the buffer before the translation, which is
+  -- empty, and `lent` are the buffer's bytes as they are lent to be printed.
   reported_of : (start : List ℕ) (a b bytes : List ℕ) (r : Result Report Fault) (report : Report) → start ≡ []
       → IfOk r (λ it. TranslatesSentence g sentence ha hb a b (Some start) (Some bytes) it) → r ≡ Ok report
       → TranslatesSentence g sentence ha hb a b (Some []) (Some bytes) report

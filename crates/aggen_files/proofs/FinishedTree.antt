@@ -1,4 +1,5 @@
--- What holds of the evaluation of a tree into memory holds once its bytes are printed and the files are written out.
+-- What holds of the evaluation of a tree into memory holds once its bytes are printed and the files are written out. The letters
+-- are those of `Finished.antt`, and ht says whether the tree's device is honest.
 use Rattle.std.proofs.Common.{◌≡◌, ◌≢◌, ◌⊎◌, inl, inr, List, [], ℕ, Bool, true, Option, Some, Result, Ok, Err, refl, sym, subst}
 use Rattle.std.proofs.Common.{◌∙◌}
 use Rattle.std.specs.Result.{IfErr, IfOk}
@@ -39,7 +40,7 @@ module _ (g : Grammar) (content : List ℕ) (ht ha hb ha' hb' : Bool) (first : h
     });
   }
 
-  -- a prefix of them was
+  -- a prefix of the bytes was printed
   pub begun : (a b bytes : List ℕ) (old new : Option (List ℕ)) (report : Report)
       → EvaluatesTree g ht ha hb content a b (Some []) (Some bytes) report
       → AppendsBeginning old new bytes
@@ -78,7 +79,8 @@ module _ (g : Grammar) (content : List ℕ) (ht ha hb ha' hb' : Bool) (first : h
   refused old new old' new' (fault.Assign s) other exact = exact
   refused old new old' new' (fault.Job f) other exact = exact
 
-  -- the same of the results of calls: the buffer was empty, and its bytes are lent to be printed
+  -- These facts for the results of calls, as the contracts give them. `start` is the buffer before the evaluation, which is
+  -- empty, and `lent` are the buffer's bytes as they are lent to be printed.
   reported_of : (start : List ℕ) (a b bytes : List ℕ) (r : Result Report Fault) (report : Report) → start ≡ []
       → IfOk r (λ it. EvaluatesTree g ht ha hb content a b (Some start) (Some bytes) it) → r ≡ Ok report
       → EvaluatesTree g ht ha hb content a b (Some []) (Some bytes) report

@@ -8,7 +8,7 @@ use Rattle.treefile.specs.framing.Beginning.{LeavesBeginning}
 use Rattle.ag_fault.specs.declared.fault.Fault.{Fault}
 use Rattle.aggen_files.specs.Trees.{LeavesConversion}
 
--- what a conversion left is still on the new device after that was written out, or was not
+-- what a conversion left on the new device is still there after `finish`, whether `finish` succeeded or failed
 pub conversion_left : (g : Grammar) (ho hm hn : Bool) (content between previous made new : List ℕ) (r : Result ℕ Fault)
     → OnErr r (WhenHonest hm (LeavesBeginning 0 previous made))
     → IfOk r (λ count. WhenHonest ho (WhenHonest true (IsUpgraded g content between hm made count)))

@@ -32,7 +32,7 @@ abbrev pub UpgradesFile : Grammar → (honest_old : Bool) → List ℕ → (hone
 UpgradesFile g honest_old content honest_tree tree count =
     WhenHonest honest_old ((between : List ℕ) × IsUpgraded g content between honest_tree tree count)
 
--- The sentence has a tree with this number of nodes, and if the file is honest its content is the file of the tree.
+-- The sentence has a tree with this number of nodes, and if the file is honest its content is the file of pass 0 of this tree.
 pub record ParsesSentence (g : Grammar) (sentence : List ℕ) (honest : Bool) (content : List ℕ) (count : ℕ) : Type 0 where
   pub tree : Tree
   pub is : IsTreeOfSentence g sentence tree

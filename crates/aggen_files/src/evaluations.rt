@@ -18,8 +18,9 @@ use treefile::Device;
 
 impl<F: Read + Write + Seek + OpenFile> WorkFiles<F> {
     /// Translates the tree whose file of pass 0 is on the device `tree`. The device keeps its
-    /// content. Pass 1 writes b.agt, pass 2 a.agt, and so on. Prints the translation after both
-    /// files are written out. Both are also written out after every failure but D1.
+    /// content. Pass 1 writes b.agt, pass 2 a.agt, and so on. So with only one pass the last two
+    /// tree files are b.agt and the file on `tree`. Prints the translation after both files are
+    /// written out. Both are also written out after every failure but D1.
     ///
     /// Fails with D1 if a file can't be written out, even if the translation failed with another
     /// fault. Otherwise fails as `Translator::evaluate_tree` does, and also with NoMemory if memory

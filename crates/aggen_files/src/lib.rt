@@ -1,5 +1,6 @@
-//! The functions that `aggen run --work`, `parse`, `eval` and `upgrade` call. Here they are called
-//! commands. A command calls the translator with one or two devices over files;
+//! The functions that `aggen run --work`, `parse`, `eval` and `upgrade` call (`run` and `eval` only
+//! if they can't show their progress, and `eval` of standard input only with `--work`). Here they
+//! are called commands. A command calls the translator with one or two devices over files;
 //! `WorkFiles::evaluate` has a third device, of any kind, for the tree. If a command writes to a
 //! device over a file, it also writes out the file. So the file has the whole content of the
 //! device, unless D1 comes. A command prints to any writer, and its contract says what was printed

@@ -81,7 +81,8 @@ pub fn parse_to_file<F: Read + Write + Seek + OpenFile, W: Write>(
 }
 
 /// Translates the tree whose file of pass 0 is on the device `tree`, and prints the translation.
-/// The device keeps its content. The tree files that the passes write are in memory.
+/// The device keeps its content, so nothing has to be written out. The tree files that the passes
+/// write are in memory.
 ///
 /// Fails as `Translator::evaluate_tree` does.
 pub fn evaluate_file<F: Read + Write + Seek + OpenFile, W: Write>(

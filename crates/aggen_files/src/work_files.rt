@@ -49,10 +49,10 @@ impl<F: Read + Write + Seek + OpenFile> WorkFiles<F> {
     /// Opens a.agt and b.agt in a folder, and creates those that are missing. Their contents stay
     /// until a translation clears them. The calls on a.agt are added to the record `first`, and
     /// those on b.agt to `second`. Only contracts see these records, which occupy no memory: a
-    /// caller passes an empty one, `CallRecord::new()`, for each.
+    /// caller passes a new one, `CallRecord::new()`, for each.
     ///
     /// Fails with F1 if a file can't be opened or created, and with NoMemory if memory cannot be
-    /// allocated.
+    /// allocated. If only b.agt can't be opened, a.agt may have been created.
     pub fn open<R: Files<File = F>>(
         rt: &R,
         alloc: Global,

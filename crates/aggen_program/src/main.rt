@@ -41,8 +41,8 @@ const FOLDER: &str = "/";
 ///
 /// If a standard stream is closed, the system gives its file descriptor to the file that is opened
 /// next. So the folder `/` is opened three times first, and kept open while the program runs.
-/// Reading from a closed stream, or printing to one, then fails, and doesn't read or write a tree
-/// file.
+/// Reading from a closed stream, or printing to one, then fails, and doesn't read or write a file
+/// that the program opens later, such as a tree file.
 fn main(rt: HostRuntime) -> ExitCode {
     let _input = fs::open(&rt, FOLDER);
     let _output = fs::open(&rt, FOLDER);

@@ -93,7 +93,8 @@ fn text_of_plan(
 }
 
 /// Returns why no pass computes some attributes of a grammar or, if an attribute is given, why no
-/// pass computes this one. If the given attribute is not in `stuck.stuck.set`, the text says so.
+/// pass computes this one. If the given attribute is not in `stuck.stuck.set`, the attributes that
+/// no pass can compute, the text says so.
 fn text_of_stuck(
     alloc: Global,
     source: Source<'_>,
@@ -123,7 +124,7 @@ fn print_text<R: Print>(
 }
 
 /// Writes a text. If making the text failed, fails with NoMemory, and writes nothing. Fails with O2
-/// if a write fails or takes no byte.
+/// if a write fails, or accepts none of the bytes.
 fn write_explanation<W: Write>(out: &mut W, text: Result<String, NoMemory>) -> Result<(), Fault>
     ensures written { IfOk text (λ t. OnOk result
         (Appends (W.contents out.old) (W.contents out.new) (string_bytes t))) }

@@ -1,4 +1,4 @@
--- A number that is not the number of an attribute of a symbol.
+-- The name is empty if a symbol has no attribute with the number.
 use Rattle.std.proofs.Common.{ℕ, zero, suc, ◌≡◌, ◌<◌, List, [], ◌∷◌, Some, None, length, slice_get, slice_index_or, refl, sym, ap}
 use Rattle.std.proofs.Common.{◌∙◌}
 use Rattle.std.proofs.lemmas.Option.{slice_get-get_or}
@@ -11,6 +11,7 @@ none_there [] i d none = refl
 none_there (x ∷ xs) zero d none = let bad : ⊥ = cc in absurd bad
 none_there (x ∷ xs) (suc i) d none = none_there xs i d none
 
+-- x is symbol s, and has no attribute with the number a
 pub no_name : (symbols : List Symbol) (s a : ℕ) (x : Symbol) → s < length symbols → x ≡ slice_index_or symbols s x
     → slice_get (attribute_names x) a ≡ None → [] ≡ slice_index_or (symbol_names (slice_get symbols s)) a []
 no_name symbols s a x within is none =

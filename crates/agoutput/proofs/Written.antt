@@ -1,9 +1,10 @@
--- One more write of the bytes.
+-- The bytes of a writer after one more write: it took some bytes, or it failed.
 use Rattle.std.proofs.Common.{ℕ, List, ◌++◌, take, drop, Option, Some, None, sym, ap, ◌∙◌, append_assoc}
 use Rattle.std.proofs.lemmas.List.{take-append-drop}
 use Rattle.std.specs.Io.KnownBytes.{Appends, Keeps}
 use Rattle.agoutput.specs.Writing.{AppendsBeginning, HasWritten}
 
+-- bytes were appended, and then more bytes or none
 appended : (old mid new : Option (List ℕ)) (xs ys : List ℕ) → Appends old mid xs → Appends mid new ys → Appends old new (xs ++ ys)
 appended None mid new xs ys p q = tt
 appended (Some os) None new xs ys p q = absurd p
@@ -16,6 +17,7 @@ kept (Some os) None new xs p q = absurd p
 kept (Some os) (Some ms) None xs p q = absurd q
 kept (Some os) (Some ms) (Some ns) xs p q = q ∙ p
 
+-- the write took the first n bytes of the rest
 pub one_more : (old mid new : Option (List ℕ)) (bytes rest : List ℕ) (n : ℕ) → HasWritten old mid bytes rest
     → Appends mid new (take n rest) → HasWritten old new bytes (drop n rest)
 one_more old mid new bytes rest n so_far more = record {
@@ -26,6 +28,7 @@ one_more old mid new bytes rest n so_far more = record {
   put = appended old mid new so_far.prefix (take n rest) so_far.put more;
 }
 
+-- the write took no byte, or failed: a prefix of all bytes was appended
 pub none_more : (old mid new : Option (List ℕ)) (bytes rest : List ℕ) → HasWritten old mid bytes rest → Keeps mid new
     → AppendsBeginning old new bytes
 none_more old mid new bytes rest so_far same =

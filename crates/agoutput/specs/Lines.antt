@@ -12,12 +12,12 @@ value_line value = shown_of value ++ codes "\n"
 abbrev pub noun_for : ℕ → List ℕ → List ℕ → List ℕ
 noun_for count one many = if count == 1 then one else many
 
--- the line with the number of symbols and the number of productions of a grammar, as `1 symbol, 2 productions`
+-- the line with the number of symbols and the number of productions of a grammar, as `1 symbol, 2 productions`, and LF
 abbrev pub counts_line : Grammar → List ℕ
 counts_line g =
     decimal (length g.symbols) ++ noun_for (length g.symbols) (codes " symbol, ") (codes " symbols, ")
     ++ decimal (length g.productions) ++ noun_for (length g.productions) (codes " production\n") (codes " productions\n")
 
--- the line with the number of nodes of a tree, as `3 nodes`
+-- the line with the number of nodes of a tree, as `3 nodes`, and LF
 abbrev pub nodes_line : ℕ → List ℕ
 nodes_line count = decimal count ++ noun_for count (codes " node\n") (codes " nodes\n")

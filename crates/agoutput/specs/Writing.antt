@@ -2,7 +2,7 @@
 use Rattle.std.specs.Prelude.{◌≡◌, ℕ, List, ◌++◌, Option}
 use Rattle.std.specs.Io.KnownBytes.{Appends}
 
--- a prefix of `bytes` was appended to the writer's bytes, if contracts can name these
+-- a prefix of `bytes`, possibly none or all of them, was appended to the writer's bytes, if contracts can name these
 pub record AppendsBeginning (old new : Option (List ℕ)) (bytes : List ℕ) : Type 0 where
   pub prefix : List ℕ
   pub rest : List ℕ

@@ -38,6 +38,7 @@ fn show_place(alloc: Global, out: &mut String, name: &str, place: u16) -> Result
 }
 
 /// Appends the name of an attribute, and the number of the rule that computes it, as in `s rule 2`.
+/// The rules of a production are numbered from 0.
 fn show_attribute_and_rule(
     alloc: Global,
     out: &mut String,

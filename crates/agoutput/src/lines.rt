@@ -18,7 +18,7 @@ pub fn value_line(alloc: Global, value: &Value) -> Result<String, NoMemory>
 }
 
 /// Returns the line with the number of symbols and the number of productions of a grammar, as in
-/// `1 symbol, 2 productions`. Fails with AllocError if memory is refused.
+/// `1 symbol, 2 productions`, and LF. Fails with AllocError if memory is refused.
 pub fn counts_line(alloc: Global, grammar: &Grammar) -> Result<String, AllocError>
     ensures { IfOk result (λ line. string_bytes line ≡ counts_text grammar.now) }
 {
@@ -32,8 +32,8 @@ pub fn counts_line(alloc: Global, grammar: &Grammar) -> Result<String, AllocErro
     Ok(line)
 }
 
-/// Returns the line with the number of nodes of a tree, as in `3 nodes`. Fails with AllocError if
-/// memory is refused.
+/// Returns the line with the number of nodes of a tree, as in `3 nodes`, and LF. Fails with
+/// AllocError if memory is refused.
 pub fn nodes_line(alloc: Global, count: u32) -> Result<String, AllocError>
     ensures { IfOk result (λ line. string_bytes line ≡ nodes_text count) }
 {

@@ -1,4 +1,4 @@
-//! Appends numbers to listings, and finds the names of attributes for them.
+//! Appends numbers to listings, and finds the names of attributes that listings show.
 
 ghost use Rattle.std.specs.Prelude.{◌≡◌, ◌++◌, [], OnOk, decimal, slice_get, slice_index_or};
 ghost use Rattle.std.specs.Prelude.{string_bytes};

@@ -17,7 +17,7 @@ use Rattle.treefile.proofs.records.Frames.{bytes_part, fits, length_part, read_a
 
 -- ---- parts of lists
 
--- a part of a part
+-- a part of a part of a list is a part of the list
 range_part : (xs : List ℕ) (a b i j : ℕ) → i ≤ j → a + j ≤ b
     → slice_range (slice_range xs a b) i j ≡ slice_range xs (a + i) (a + j)
 range_part xs a b i j less within =
@@ -55,13 +55,14 @@ bytes_later xs a b less p =
 
 -- ---- the buffer
 
--- a part after the bytes that were written
+-- writing to a buffer before an index keeps the parts after the index
 pub kept_after : (xs ys : List ℕ) (from to : ℕ) → drop from ys ≡ drop from xs → slice_range ys from to ≡ slice_range xs from to
 kept_after xs ys from to same = ap (take (to - from)) same
 
 -- ---- bytes before an offset
 
--- a part of them, by the numbers of bytes after its ends
+-- if bytes end at an offset, a part of them is a part of the content; n and m are the numbers of bytes from the part's two ends
+-- to the offset
 pub part_occurs : (content xs : List ℕ) (at from to n m : ℕ) → from ≤ to → to ≤ length xs → to - from ≤ at
     → EndsAt content at (slice_range xs from to) → n ≤ to - from → m ≤ n
     → slice_range xs (to - n) (to - m) ≡ slice_range content (at - n) (at - m)
@@ -82,7 +83,7 @@ part_occurs content xs at from to n m p q r s small less =
     range_part content (at - count) at i j (omega arith) (omega arith) ∙ (λ t. slice_range content (starts t) (stops t)) in
     sym mine ∙ ap (λ (l : List ℕ). slice_range l i j) same ∙ theirs
 
--- the bytes that are left after `n` were taken
+-- after the last `n` of them are taken, the others end at the offset minus `n`
 pub taken_occurs : (content xs : List ℕ) (at from to n : ℕ) → from ≤ to → to ≤ length xs → to - from ≤ at
     → EndsAt content at (slice_range xs from to) → n ≤ to - from → EndsAt content (at - n) (slice_range xs from (to - n))
 taken_occurs content xs at from to n p q r s small =
@@ -102,7 +103,7 @@ taken_occurs content xs at from to n p q r s small =
       known = subst (λ (k : ℕ). IsBytes (drop k content)) same s.known;
     }
 
--- the number in the last four of them
+-- the number in the last four of them is the number before the offset
 pub number_occurs : (content xs : List ℕ) (at from to : ℕ) → from ≤ to → to ≤ length xs → to - from ≤ at
     → EndsAt content at (slice_range xs from to) → length_bytes ≤ to - from
     → from_be_bytes w32 (slice_range xs (to - length_bytes) to) ≡ number_before content at
@@ -114,7 +115,7 @@ number_occurs content xs at from to p q r s enough =
     ap (from_be_bytes w32) (ap (λ (k : ℕ). slice_range xs (to - 4) k) here ∙ four
     ∙ ap (λ (k : ℕ). slice_range content (at - 4) k) there)
 
--- the body of the last frame of them
+-- the n bytes before the last four of them are those of the content before the length that ends at the offset
 pub body_occurs : (content xs : List ℕ) (at from to n : ℕ) → from ≤ to → to ≤ length xs → to - from ≤ at
     → EndsAt content at (slice_range xs from to) → n + length_bytes ≤ to - from
     → slice_range xs (to - (n + length_bytes)) (to - (n + length_bytes) + n) ≡ slice_range content (at - length_bytes - n)
@@ -126,7 +127,7 @@ body_occurs content xs at from to n p q r s enough =
     ∙ part_occurs content xs at from to (n + 4) 4 p q r s enough (omega arith)
     ∙ ap (λ (k : ℕ). slice_range content k (at - 4)) begins
 
--- the body of the frame that ends there, if its length is known
+-- if the number n before an offset is a length that fits, the body before the offset is the n bytes before the length
 pub body_at_hand : (version : Version) (content : List ℕ) (at n : ℕ) → n ≡ number_before content at → least_body ≤ n
     → n ≤ greatest_body version → header_bytes + n + length_bytes ≤ at
     → body_before version content at ≡ Ok (slice_range content (at - length_bytes - n) (at - length_bytes))
@@ -135,7 +136,7 @@ body_at_hand version content at n is least greatest room =
     read_at version content (slice_range content (at - 4 - n) (at - 4)) at n (sym is) (ap (slice_range content (at - 4 - n)) ends)
     (omega arith) (fits version at n least greatest room)
 
--- all bytes after `n` more were read before them
+-- if `n` more bytes are read before them, all these bytes end at the offset
 pub read_occurs : (content xs ys : List ℕ) (at from to n : ℕ) → from ≤ to → to ≤ length xs → length ys ≡ length xs → IsBytes ys
     → EndsAt content at (slice_range xs from to) → n ≤ from → to - from + n ≤ at → drop from ys ≡ drop from xs
     → slice_range ys (from - n) from ≡ slice_range content (at - (to - from + n)) (at - (to - from + n) + (from - (from - n)))
@@ -165,7 +166,7 @@ read_occurs content xs ys at from to n p q size bytes s free room same read =
       known = subst (λ (k : ℕ). IsBytes (drop (at - k) content)) (sym longer) whole;
     }
 
--- the same bytes at another place of a buffer
+-- equal bytes, such as those at another place of a buffer, end at the same offset
 pub same_occur : (content xs ys : List ℕ) (at : ℕ) → ys ≡ xs → EndsAt content at xs → EndsAt content at ys
 same_occur content xs ys at same s = subst (EndsAt content at) (sym same) s
 

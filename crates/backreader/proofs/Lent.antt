@@ -1,4 +1,4 @@
--- The body of a frame comes before its end.
+-- A body that a device lends: it is what reading finds before the offset, and no bytes are buffered after it is lent.
 use Rattle.std.proofs.Common.{◌≡◌, ◌<◌, ◌≤◌, ◌-◌, ℕ, List, [], Some, Ok, false, length, take, drop, refl, sym, ap, subst, ◌∙◌}
 use Rattle.std.proofs.Common.{arith}
 use Rattle.std.specs.Prelude.{nat_eq}
@@ -15,7 +15,7 @@ next_is_body version content body at far e =
     let apart : nat_eq at header_bytes ≡ false = ne_eqb at header_bytes (λ same. absurd (omega arith)) in
     rw (apart, e) refl
 
--- no bytes were read before an offset
+-- a reader may have no bytes buffered before an offset, if the content has only bytes from there on
 pub none_occur : (content : List ℕ) (at : ℕ) (bytes : List ℕ) → at ≤ length content → bytes ≡ [] → IsBytes (drop at content)
     → EndsAt content at bytes
 none_occur content at bytes within e known =

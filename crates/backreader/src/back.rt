@@ -126,8 +126,8 @@ impl Back {
     }
 
     /// Lends the body of the frame before the one that was lent last, or of the last frame at the
-    /// first call. Returns `None` if the header ends there. Requires the device that the reader was
-    /// started on, with the same content if it is honest.
+    /// first call. Returns `None` if the header ends at the reader's offset. Requires the device
+    /// that the reader was started on, with the same content if it is honest.
     ///
     /// Fails with B2 Damaged, and the offset where a frame is expected to end (`end`), if none ends
     /// there. Fails with D1 Device if a call of the device failed. After B2 and D1 every later call
@@ -218,7 +218,8 @@ impl Back {
             return None;
         }
         let length = body.len();
-        // `fits_before` requires a length below 2^32.
+        // A device that is not honest may lend any bytes. `fits_before` requires a length below
+        // 2^32.
         if length > u64::from(u32::MAX) || !fits_before(FileVersion::Two, at, length) {
             return None;
         }

@@ -27,10 +27,10 @@ const LENGTH: usize = LENGTH_BYTES as usize;
 const LEAST: usize = LEAST_BODY as usize;
 
 /// The bytes of a device before the offset `at`, as far as they are in the buffer. From index
-/// `from` to index `to` the buffer has bytes that were read from the device and not taken yet
-/// (called *unread*). Before `from` the buffer is free. After `take` the bytes of the frame that
-/// was taken begin at `to`. The buffer has at least 4,096 bytes, and at most as many as the
-/// greatest frame of the version.
+/// `from` to index `to` the buffer has bytes that were read from the device and not taken yet:
+/// they are *unread* by the caller. Before `from` the buffer is free. After `take` the bytes of the
+/// frame that was taken begin at `to`. The buffer has at least 4,096 bytes, and at most as many as
+/// the greatest frame of the version. All unread bytes are after the header (`following`).
 #[derive(Drop)]
 pub(crate) struct Window {
     version: FileVersion,
@@ -144,7 +144,8 @@ impl Window {
             return Err(FrameFault::Damaged(self.at));
         };
         if self.grow(length + LENGTH).is_err() {
-            // drops the bytes that `length_before` read; the next call reads them again
+            // drops the bytes that `length_before` read from the device; the next call reads them
+            // again
             self.from = self.to - unread;
             return Err(FrameFault::NoMemory);
         }
@@ -265,8 +266,9 @@ impl Window {
         self.at -= (length + LENGTH) as u64;
     }
 
-    /// Grows the buffer to at least `count` bytes. Takes memory if it has fewer. Fails if memory is
-    /// refused; the window is unchanged then.
+    /// Grows the buffer to at least `count` bytes, which must not be more than the greatest frame
+    /// has. Takes memory if it has fewer. Fails if memory is refused, and so only if `count` is
+    /// above 4,096; the window is unchanged then.
     fn grow(&mut self, count: usize) -> Result<(), AllocError>
         requires { count ≤ greatest_body (version_of self.old.version) + length_bytes }
         ensures room { OnOk result (count ≤ vec_len self.new.buffer) }

@@ -1,4 +1,5 @@
-//! Answers questions about `Carried`, a value that is passed from node to node: owners share a large one.
+//! Answers questions about `Carried`, a value that is passed from node to node: owners share a
+//! large one.
 
 ghost use Rattle.std.specs.Prelude.{IfOk};
 ghost use Rattle.ag_value.specs.Well.{IsWell};
@@ -37,7 +38,8 @@ fn carried_of(alloc: Global, value: &Value) -> Result<Carried, Mistake>
     Ok(Carried::new(alloc, copied)?)
 }
 
-/// Shows the value after `Carried::with_weight` with its own weight. Fails with `Unfit` if it is not well.
+/// Shows the value after `Carried::with_weight` with its own weight. Fails with `Unfit` if it is
+/// not well.
 fn weighed_answer(alloc: Global, value: &Value) -> Result<String, Mistake> {
     let copied = copy(alloc, value)?;
     if !is_well(&copied) {
@@ -47,8 +49,8 @@ fn weighed_answer(alloc: Global, value: &Value) -> Result<String, Mistake> {
     lent_answer(alloc, &Carried::with_weight(alloc, copied, weight)?)
 }
 
-/// Shows the number, the error or the value that a `Carried` returns. Fails with `Unfit` unless it returns
-/// exactly one of them.
+/// Shows the number, the error or the value that a `Carried` returns. Fails with `Unfit` unless it
+/// returns exactly one of them.
 fn lent_answer(alloc: Global, carried: &Carried) -> Result<String, Mistake> {
     match (carried.as_number(), carried.as_fault(), carried.as_value()) {
         (Some(number), None, None) => Ok(show(alloc, &Value::Num(number))?),
@@ -85,9 +87,9 @@ fn same_answer(alloc: Global, carried: &Carried, other: &Value) -> Result<String
     Ok(format!(in alloc; "{} {}", carried.same(&other), carried.same(&shared))?)
 }
 
-/// Returns the encoding of the value (`encode`), or the value that is read from the encoding and a zero byte after it,
-/// which reading has to leave. It is read with `Carried::read` (`read`), with `read_beside` of the value (`beside`) or
-/// with `read_beside` of 7 (`apart`).
+/// Returns the encoding of the value (`encode`), or the value that is read from the encoding and a
+/// zero byte after it, which reading has to leave. It is read with `Carried::read` (`read`), with
+/// `read_beside` of the value (`beside`) or with `read_beside` of 7 (`apart`).
 fn encoding_answer(alloc: Global, call: &str, carried: &Carried) -> Result<String, Mistake>
     requires { IsWell carried.now }
 {

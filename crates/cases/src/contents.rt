@@ -6,7 +6,7 @@ use rows::words::{
     Mistake, bytes_of, first_word, halves, number, parts, printed, short_number, shown_bytes,
 };
 use std::alloc::{AllocError, Global};
-use treefile::{Device, DeviceFault, FrameFault, Kind, MemDevice, Writer, last_body, split_body};
+use treefile::{Device, DeviceFault, Kind, MemDevice, Writer, last_body, split_body};
 
 /// The number of children of each node in trees of binary fractions, by the number of its
 /// production in the grammar `examples/binary-fractions.ag`.
@@ -52,16 +52,17 @@ pub fn split_answer(alloc: Global, body: &[u8]) -> Result<String, Mistake> {
 }
 
 /// Returns the pass of a content, its bodies from the last to the first, how reading ends (`end` or
-/// a fault), and whether the next call returns the same.
+/// a fault), whether the next call returns the same, and the number of bodies read. If reading
+/// can't begin, returns only the fault.
 pub fn back_answer(alloc: Global, bytes: Vec<u8>) -> Result<String, Mistake> {
     bodies_answer(alloc, &mut MemDevice::from_bytes(bytes))
 }
 
-/// The greatest number of calls that read the bodies of a file.
+/// The greatest number of calls that read the bodies of a file: more than any row needs. It bounds
+/// the loop of `bodies_answer`.
 const MAX_READS: u32 = 1000;
 
-/// Returns the pass of a file, its bodies from the last to the first, how reading ends, and whether
-/// the next call returns the same. Fails with `Unfit` if reading doesn't end within `MAX_READS`
+/// Returns what `back_answer` returns. Fails with `Unfit` if reading doesn't end within `MAX_READS`
 /// calls.
 fn bodies_answer<D: Device>(alloc: Global, device: &mut D) -> Result<String, Mistake> {
     let mut back = match Back::start(alloc, device) {
@@ -165,8 +166,8 @@ fn put_result(put: Result<(), DeviceFault>) -> Result<(), Mistake> {
 }
 
 /// Writes the bytes of a body as they are. Fails with `Unfit` if there are fewer than 3, or more
-/// than 16,777,219 (the limit of version 1; version 2 allows more), or if the writer can count no
-/// further record.
+/// than 16,777,219 (no row has a longer body; version 2 allows 285,212,675), or if the writer can
+/// count no further record.
 fn put_bytes(writer: &mut Writer, device: &mut MemDevice, body: &[u8]) -> Result<(), Mistake> {
     if writer.written() == u64::MAX || body.len() < 3 || body.len() > 16_777_219 {
         return Err(Mistake::Unfit);

@@ -32,8 +32,8 @@ impl<'a> Environment for SameValue<'a> {
     }
 }
 
-/// Evaluates an expression whose occurrences all have the value `lent`. Fails with `Unfit` if that value is not
-/// well, or if there are more than `MAX_OCCURRENCES` occurrences.
+/// Evaluates an expression whose occurrences all have the value `lent`. Fails with `Unfit` if that
+/// value is not well, or if there are more than `MAX_OCCURRENCES` occurrences.
 #[tactic(auto, using(ag_eval::proofs::Values::are_well))]
 fn evaluate(alloc: Global, expr: &Expr, lent: &Value) -> Result<Value, Mistake> {
     if !is_well(lent) || occurrences(expr).len() > MAX_OCCURRENCES {
@@ -73,8 +73,8 @@ impl<'a> CarriedEnvironment for SameCarried<'a> {
     }
 }
 
-/// Evaluates an expression whose occurrences all have the carried value `lent`. Fails with `Unfit` if there are
-/// more than `MAX_OCCURRENCES` occurrences.
+/// Evaluates an expression whose occurrences all have the carried value `lent`. Fails with `Unfit`
+/// if there are more than `MAX_OCCURRENCES` occurrences.
 #[tactic(auto, using(ag_eval::proofs::Values::are_well))]
 fn carry(alloc: Global, expr: &Expr, lent: &Carried) -> Result<Carried, Mistake>
     requires { IsWell lent.now }
@@ -100,8 +100,9 @@ fn grown(alloc: Global, count: u32, expr: &Expr, first: Carried) -> Result<Carri
     Ok(value)
 }
 
-/// Reads `COUNT STEP & END`, evaluates STEP COUNT times from the value `first` on, as `grown` does, then END
-/// once, and shows its value. Fails with `Unfit` if `first` is not well or one of the two isn't an expression.
+/// Reads `COUNT STEP & END`, evaluates STEP COUNT times from the value `first` on, as `grown` does,
+/// then END once, and shows its value. Fails with `Unfit` if `first` is not well or one of the two
+/// isn't an expression.
 pub fn grow_answer(alloc: Global, rest: &str, first: &Value) -> Result<String, Mistake> {
     let (count, texts) = first_word(rest);
     let (step, end) = halves(texts, " & ")?;
@@ -125,8 +126,9 @@ pub fn value_answer(alloc: Global, text: &str, lent: &Value) -> Result<String, M
     }
 }
 
-/// Evaluates an expression, whose value is not used. Returns the number of evaluations that the meter has counted (one
-/// for each call of `eval`), and whether the meter is full (2^64 - 1 evaluations).
+/// Evaluates an expression, whose value is not used. Returns the number of evaluations that the
+/// meter has counted (one for each call of `eval`), and whether the meter is full (2^64 - 1
+/// evaluations). Fails with `Unfit` as `evaluate` does.
 #[tactic(auto, using(ag_eval::proofs::Values::are_well))]
 fn meter_text(alloc: Global, expr: &Expr, lent: &Value) -> Result<String, Mistake> {
     if !is_well(lent) || occurrences(expr).len() > MAX_OCCURRENCES {
@@ -161,8 +163,8 @@ fn tree_text(alloc: Global, text: &str) -> Result<String, Mistake> {
     }
 }
 
-/// Returns whether the texts on both sides of `&` have the same tree. Fails with `Unfit` if one isn't an
-/// expression.
+/// Returns whether the texts on both sides of `&` have the same tree. Fails with `Unfit` if one
+/// isn't an expression.
 pub fn alike_answer(alloc: Global, texts: &str) -> Result<String, Mistake> {
     let (first, second) = halves(texts, " & ")?;
     let first = tree_text(alloc, first)?;
@@ -223,8 +225,8 @@ fn end_text(alloc: Global, expr: &Expr, at: usize) -> Result<String, Mistake> {
     Ok(format!(in alloc; "up to {at}, {listed}")?)
 }
 
-/// Reads the expression from an offset in bytes to the next `;`, and returns where it ends and its occurrences.
-/// Fails with `Unfit` if the offset is not a character boundary.
+/// Reads the expression from an offset in bytes to the next `;`, and returns where it ends and its
+/// occurrences. Fails with `Unfit` if the offset is not a character boundary.
 pub fn until_answer(alloc: Global, texts: &CurrentTexts, rest: &str) -> Result<String, Mistake> {
     let (from, text) = offset_and_text(texts, rest)?;
     if !text.is_char_boundary(from) {

@@ -54,9 +54,9 @@ fn lists_of(alloc: Global, text: &str) -> Result<Items<Items<Strike>>, Mistake> 
     Ok(Items::from_vec(lists))
 }
 
-/// Returns whether `check_least` accepts a row's assignment and strikes. Then no legal assignment
-/// gives an attribute an earlier pass, so the assignment is the least one if it is legal too. A row
-/// spells the assignment, ` : ` and the lists of strikes.
+/// Returns whether `check_least` accepts a row's assignment and strikes. If it does, no legal
+/// assignment gives an attribute an earlier pass, so the assignment is the least one if it is legal
+/// too. A row spells the assignment, ` : ` and the lists of strikes.
 pub fn least_answer(alloc: Global, grammar: &Grammar, spelled: &str) -> Result<String, Mistake> {
     let (rows, lists) = halves(spelled, " : ")?;
     let assignment = assignment(alloc, rows)?;

@@ -160,7 +160,8 @@ pub fn run_answer(alloc: Global, grammar: &Grammar, sentence: &str) -> Result<St
 }
 
 /// Runs all passes of another plan for a grammar over the tree of a sentence. In the row, `by`
-/// separates the sentence from the plan's assignment and code.
+/// separates the sentence from the plan's assignment and code. Fails with `Unfit` if `check_plan`
+/// refuses the plan.
 pub fn run_by_answer(alloc: Global, grammar: &Grammar, spelled: &str) -> Result<String, Mistake> {
     let (sentence, spelled) = halves(spelled, " by ")?;
     let mut device = tree_of(alloc, grammar, sentence)?;

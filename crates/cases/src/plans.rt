@@ -11,8 +11,9 @@ use planchecker::{Plan, check_plan};
 use rows::words::{Mistake, first_word, halves, parts, short_number, short_numbers};
 use std::alloc::{AllocError, Global};
 
-/// Returns the instruction that a word spells: `g2`, `o2` and `p2` are `Get`, `Go` and `Put` of child 2, `s2.1.0`
-/// sets attribute 1 of child 2 by rule 0, `d1.0` defines attribute 1 by rule 0, and `e` is `End`.
+/// Returns the instruction that a word spells: `g2`, `o2` and `p2` are `Get`, `Go` and `Put` of
+/// child 2, `s2.1.0` sets attribute 1 of child 2 by rule 0, `d1.0` defines attribute 1 by rule 0,
+/// and `e` is `End`.
 fn instruction(word: &str) -> Result<Instr, Mistake> {
     if word == "e" {
         return Ok(Instr::End);
@@ -77,7 +78,8 @@ fn rows_of_lists(alloc: Global, text: &str) -> Result<Vec<Vec<Vec<Instr>>>, Mist
     Ok(rows)
 }
 
-/// Returns the assignment of a text: the passes of each symbol's attributes, with `/` between the symbols.
+/// Returns the assignment of a text: the passes of each symbol's attributes, with `/` between the
+/// symbols.
 pub fn assignment(alloc: Global, text: &str) -> Result<Assignment, Mistake> {
     let mut rows = Vec::new(alloc);
     for part in parts(alloc, text, " / ")?.as_slice() {
@@ -93,7 +95,8 @@ pub fn pair(alloc: Global, text: &str) -> Result<(Assignment, Code), Mistake> {
     Ok((assignment, Code::of_rows(rows_of_lists(alloc, lists)?)))
 }
 
-/// Returns the number of passes of an assignment and code, or the fault for which `check_plan` refuses them.
+/// Returns the number of passes of an assignment and code, or the fault for which `check_plan`
+/// refuses them.
 fn plan_verdict(
     alloc: Global,
     grammar: &Grammar,
@@ -106,13 +109,15 @@ fn plan_verdict(
     }
 }
 
-/// Returns the number of passes of the assignment and code of a row, or their fault (`plan_verdict`).
+/// Returns the number of passes of the assignment and code of a row, or their fault
+/// (`plan_verdict`).
 pub fn plan_answer(alloc: Global, grammar: &Grammar, spelled: &str) -> Result<String, Mistake> {
     let (assignment, code) = pair(alloc, spelled)?;
     Ok(plan_verdict(alloc, grammar, assignment, code)?)
 }
 
-/// Returns the plan of a grammar: its least assignment and the code for it. Fails with `Unfit` if it has none.
+/// Returns the plan of a grammar: its least assignment and the code for it. Fails with `Unfit` if
+/// it has none.
 pub fn plan_of(alloc: Global, grammar: &Grammar) -> Result<Plan, Mistake>
     ensures { IfOk result (λ plan. IsPlan grammar.now plan.0 plan.1) }
 {

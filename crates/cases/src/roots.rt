@@ -13,7 +13,7 @@ use rows::words::{Mistake, bytes_of, printed};
 use std::alloc::Global;
 use treefile::MemDevice;
 
-/// Returns the root's text in a last file, quoted, or its fault.
+/// Returns the root's text in a last file, quoted, or the fault of `root_text`.
 fn text_answer(
     alloc: Global,
     grammar: &Grammar,

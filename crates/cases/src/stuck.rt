@@ -10,7 +10,7 @@ use planchecker::check_stuck;
 use rows::words::{Mistake, halves, parts, printed, short_number};
 use std::alloc::{AllocError, Global};
 
-/// Returns the least assignment of a grammar, or the certificate that there is none.
+/// Returns the least assignment of a grammar, or the certificate that no assignment is legal.
 pub fn assign_answer(alloc: Global, grammar: &Grammar) -> Result<String, Mistake> {
     match assign(alloc, grammar) {
         Ok(assignment) => printed(alloc, &assignment.rows()),
@@ -19,7 +19,7 @@ pub fn assign_answer(alloc: Global, grammar: &Grammar) -> Result<String, Mistake
     }
 }
 
-/// Returns a certificate as a row spells it (`stuck`).
+/// Returns a certificate as a row with the verb `stuck` spells it, with this verb.
 fn certificate_text(alloc: Global, stuck: &Stuck) -> Result<String, Mistake> {
     let mut answer = String::from_str(alloc, "stuck")?;
     show_parts(&mut answer, stuck)?;

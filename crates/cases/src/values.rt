@@ -7,8 +7,8 @@ use ag_value::{Items, Text, Value, copy, decode, depth, encode, is_well, same, s
 use rows::words::{Mistake, number, printed, shown_bytes};
 use std::alloc::{AllocError, Global};
 
-/// Returns the new current value: that of an expression (`given`), a text of N letters (`letters`), the current value
-/// in N nested lists (`wrap`), or a table with a key twice (`doubled`).
+/// Returns the new current value: that of an expression (`given`), a text of N letters (`letters`),
+/// the current value in N nested lists (`wrap`), or a table with a key twice (`doubled`).
 pub fn new_value(alloc: Global, verb: &str, rest: &str, value: &Value) -> Result<Value, Mistake> {
     match verb {
         "given" => value_of(alloc, rest, value),

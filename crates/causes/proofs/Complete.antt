@@ -39,7 +39,7 @@ use Rattle.causes.proofs.InIndex.{IsSomeRecorded, chain_in, found_body, recorded
 use Rattle.causes.proofs.InTree.{same_path}
 use Rattle.causes.proofs.Instances.{child_tree, children_fit, instance_at, item_of, no_tree, production_there}
 
--- the record of a node has an end in an index
+-- if offsets are the ends of the records with some bodies, there is one for each body
 ends_there : (content ends : List ℕ) (bodies : List (List ℕ)) (n : ℕ) (body : List ℕ) → AreEnds content ends bodies
     → slice_get bodies n ≡ Some body → slice_get ends n ≡ None → ⊥
 ends_there content [] [] n body a is none_there = let bad : ⊥ = cc in bad
@@ -48,7 +48,7 @@ ends_there content (e ∷ ends) [] n body a is none_there = elim a [ ]
 ends_there content (e ∷ ends) (b ∷ bodies) zero body a is none_there = let bad : ⊥ = cc in bad
 ends_there content (e ∷ ends) (b ∷ bodies) (suc n) body a is none_there = ends_there content ends bodies n body a.1 is none_there
 
--- a child is one of the children in an index
+-- each child of a tree is one of the `kids`, from which the index is defined
 kid_there : (ts : Forest) (vs : ℕ → Valuation) (i : ℕ) (s : Tree) → child ts i ≡ Some s → slice_get (kids ts vs) i ≡ None → ⊥
 kid_there none vs i s e nothing = let bad : ⊥ = cc in bad
 kid_there (more t ts) vs zero s e nothing = let bad : ⊥ = cc in bad
@@ -105,7 +105,7 @@ module _ (g : Grammar) (index : TreeIndex) (content : List ℕ) (m : Passes) (k 
     (accepted : IsAccepted g) (legal : IsLegal g m) (last : IsLastPass k m) (fits : IsTreeOf g t)
     (file : IsFileOfTree version_two g m k t v content) (indexed : IsIndexOf g m k t v content index)
     (few : node_count t ≤ max_nodes) (solves : Solves AnyRule g t v) where
-  -- a node is where the index has its number
+  -- the number that the index has for a node is that of the node's subtree in the list of nodes
   node_is_at : (path : List ℕ) (q : Production) (n : IsNodeAt g t path q) (number : ℕ)
       → IsNumberAt g index (map suc path) number
       → IsSubtreeAt (back_from k) (nodes_of (back_from k) t v) number (node n.number n.trees) (values_at v path)
@@ -118,7 +118,7 @@ module _ (g : Grammar) (index : TreeIndex) (content : List ℕ) (m : Passes) (k 
       (subst (λ (p : List ℕ). IsSubtreeAt (back_from k) (nodes_of (back_from k) t v) number at.tree (values_at v p))
       same at.occurs)
 
-  -- each node has a record,
+  -- The index has the record of each node.
   has_record : (path : List ℕ) (q : Production) → IsNodeAt g t path q → IsWithoutRecord g index (map suc path) → ⊥
   has_record path q n without =
       let nodes = nodes_of (back_from k) t v in
@@ -131,7 +131,7 @@ module _ (g : Grammar) (index : TreeIndex) (content : List ℕ) (m : Passes) (k 
       stands))
       (without.none n.number q kind n.is)
 
-  -- in which the rule that has an error has one;
+  -- With the values of the record, the rule that computes an error has an error as its value.
   has_error : (path : List ℕ) (target : Target) (q : Production) → IsNodeAt g t path q
       → IsErrorAt g t v accepted fits solves path target → IsWithoutError g index content (map suc path) target → ⊥
   has_error path target q n error without =
@@ -157,7 +157,7 @@ module _ (g : Grammar) (index : TreeIndex) (content : List ℕ) (m : Passes) (k 
       rule_error g t v accepted fits solves path target q n error
       (subst (λ (z : Production). HasNoError z.rules (at w) target) one by_tree)
 
-  -- and each child is found.
+  -- The index has each child of a node.
   has_child : (path : List ℕ) (q : Production) (n : IsNodeAt g t path q) (i : ℕ) (s : Tree) → child n.trees i ≡ Some s
       → HasNoChildAt g index (map suc path) (suc i) → ⊥
   has_child path q n i s there no_child =
@@ -167,7 +167,7 @@ module _ (g : Grammar) (index : TreeIndex) (content : List ℕ) (m : Passes) (k 
       (no_child.none k t v (item.Symbol q.left) (node n.number n.trees) (values_at v path) indexed.nodes (omega arith)
       (q, n.is, refl, fit) stands)
 
-  -- A node is somewhere,
+  -- The places of a node lead to it, and not nowhere.
   leads_there : (path : List ℕ) (q : Production) → IsNodeAt g t path q → LeadsNowhere g index (map suc path) → ⊥
   leads_there path q n nowhere =
       let way = on_way path nowhere.prefix nowhere.place nowhere.others nowhere.split in
@@ -193,7 +193,7 @@ module _ (g : Grammar) (index : TreeIndex) (content : List ℕ) (m : Passes) (k 
       by_tree before i beyond u (Some (node p ts)) there e missing =
           by_child before i beyond u p ts there (child ts i) refl e missing
 
-  -- and so is the rule for each argument.
+  -- There is a rule for each argument that passes its error on.
   goes_there : (path : List ℕ) (target : Target)
       → ((does : Next) → in_file g index content (map suc path) target does → IsInTree g t v (map suc path) target does)
       → IsPassedFromNowhere g index content (map suc path) target → ⊥

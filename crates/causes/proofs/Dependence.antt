@@ -64,7 +64,7 @@ module _ (R : List ℕ → List ℕ → Type 0) (g : Grammar) (m : Passes) where
       (holds_at deeper (child_of t i) (path ++ i ∷ []) (some_child_holds t path i h))
 
 module _ (g : Grammar) (t : Tree) (accepted : IsAccepted g) (fits : IsTreeOf g t) where
-  -- the instance of a rule's target, and that of an argument
+  -- the kind of a rule's target, and that of an argument
   target_kind : (path : List ℕ) (q : Production) → IsNodeAt g t path q → (r : Rule) → IsRule q r
       → HasKind g q r.target (defined_kind r.target.place)
   target_kind path q n r is = (accepted.complete n.number q n.is).no_other is.0 r is.1
@@ -163,7 +163,7 @@ module _ (g : Grammar) (t : Tree) (accepted : IsAccepted g) (fits : IsTreeOf g t
               ap (λ (z : ℕ). tree_at (Some t) (path ++ z ∷ [])) next ∙ is (suc i)),
         )
 
-  -- each instance of a node has an end
+  -- each chain of dependencies from an instance has an end
   instance_ends : (m : Passes) → IsLegal g m → (path : List ℕ) (a : ℕ) (k : Kind) → IsInstance g t path a k → HasEnd path a
   instance_ends m legal path a k (inr token) =
       subst (λ (z : ℕ). HasEnd path z) (sym token.lex) (token_ends path token.class token.text token.there)
@@ -176,7 +176,7 @@ module _ (g : Grammar) (t : Tree) (accepted : IsAccepted g) (fits : IsTreeOf g t
       let pass = counterpart (symbol_kinds (slice_get g.symbols q.left)) (m q.left) a k (sym (legal.whole q.left)) is in
       of_node.0 a pass.0 (ap (λ (o : Option Production). slice_get (left_passes m o) a) n.is ∙ pass.1)
 
-  -- its attribute is one of 16
+  -- the number of an instance's attribute is below 16
   instance_within : (path : List ℕ) (a : ℕ) (k : Kind) → IsInstance g t path a k → a < 16
   instance_within path a k (inr token) = let lex = token.lex in omega arith
   instance_within path a k (inl (q, n, is)) = (attribute_within g q.left a accepted (k, is)).0
@@ -187,7 +187,7 @@ module _ (g : Grammar) (t : Tree) (accepted : IsAccepted g) (fits : IsTreeOf g t
   has_instance path a k (inl (q, n, is)) =
       instance_among t path a (node n.number n.trees) n.there (instance_within path a k (inl (q, n, is)))
 
-  -- what an instance depends on is one
+  -- what an instance of the tree depends on is an instance of the tree
   reached : (n : ℕ) (x y : Instance) → Has (instances t []) x → Reaches (DependsOn g t) n x y → Has (instances t []) y
   reached zero x y has same = subst (Has (instances t [])) same has
   reached (suc n) x y has (z, step, others) =
@@ -200,7 +200,7 @@ module _ (g : Grammar) (t : Tree) (accepted : IsAccepted g) (fits : IsTreeOf g t
       subst (λ (p : List ℕ). Has (instances t []) (p, step.argument.attr)) step.to found in
       reached n z y (subst (λ (b : ℕ). Has (instances t []) (z.0, b)) step.to_attr at_path) others
 
-  -- A chain of dependencies has fewer steps than there are instances.
+  -- A chain of dependencies has fewer steps than 16 for each node of the tree.
   pub dependencies_short : (m : Passes) → IsLegal g m → (path : List ℕ) (target : Target) → HasRule g t path target
       → (n : ℕ) (y : Instance) → Reaches (DependsOn g t) n (place_path path target.place, target.attr) y → n < 16 * node_count t
   dependencies_short m legal path target has n y chain =

@@ -120,8 +120,8 @@ module _ (g : Grammar) (t : Tree) (v : Valuation) (accepted : IsAccepted g) (fit
     pub has : HasRule g t path target
     pub error : fault_of (values_at v (place_path path target.place) [] target.attr) ≡ None → ⊥
 
-  -- The rule that passes the error on to a rule of a chain: it has one too, and what the first computes depends on what it
-  -- computes.
+  -- The rule for `target` has its error from the rule for `from`: the value of that rule is an error too, and the instance that
+  -- the first rule computes depends on the instance that the second one computes.
   record IsNextError (path : List ℕ) (target : Target) (there : List ℕ) (from : Target) : Type 0 where
     beyond : List ℕ
     counted : there ≡ map suc beyond
@@ -134,7 +134,7 @@ module _ (g : Grammar) (t : Tree) (v : Valuation) (accepted : IsAccepted g) (fit
       let rule = (accepted.complete n.number q n.is).all target kind in
       record { of = q; here = n; rule = rule.0; is = rule.1; gives = rule.2 }
 
-  -- the rule for an argument that is an error
+  -- if an argument is an error, there is a rule for it at the node to which the chain goes
   argument_rule : (path : List ℕ) (q : Production) → IsNodeAt g t path q → (argument : Target) (there : List ℕ) (from : Target)
       → HasKind g q argument (used_kind argument.place) → GoesTo (map suc path) argument there from
       → (fault_of (values_at v (place_path path argument.place) [] argument.attr) ≡ None → ⊥)
@@ -191,7 +191,7 @@ module _ (g : Grammar) (t : Tree) (v : Valuation) (accepted : IsAccepted g) (fit
           subst (λ (j : ℕ). slice_get (item_kinds g (item_at q j)) argument.attr ≡ Some (used_kind j)) is kind in
           by_child i is (instance_at g t fits path q n (suc i) argument.attr Synthesized kind_is)
 
-  -- the argument that passes its error on is one
+  -- an argument that passes its error on is an error
   passed_error : (path : List ℕ) (rule : Rule) (k : ℕ) (argument : Target) → slice_get rule.args k ≡ Some argument
       → IsSource rule (at (values_at v path)) k
       → fault_of (values_at v (place_path path argument.place) [] argument.attr) ≡ None → ⊥
@@ -244,7 +244,7 @@ module _ (g : Grammar) (t : Tree) (v : Valuation) (accepted : IsAccepted g) (fit
         };
       }
 
-  -- The rule at the end of a chain has an error, if the first one has.
+  -- If the first rule of a chain computes an error, so does the last one.
   pub record IsLastError (path : List ℕ) (target : Target) (there : List ℕ) (from : Target) (n : ℕ) : Type 0 where
     pub beyond : List ℕ
     pub counted : there ≡ map suc beyond
@@ -267,7 +267,7 @@ module _ (g : Grammar) (t : Tree) (v : Valuation) (accepted : IsAccepted g) (fit
             next.depends;
       }
 
-  -- A chain has fewer rules than the tree has instances.
+  -- A chain has fewer rules than 16 for each node of the tree.
   pub chain_short : (m : Passes) → IsLegal g m → (path : List ℕ) (target : Target) (there : List ℕ) (from : Target) (n : ℕ)
       → IsErrorAt path target → IsChain (in_tree g t v) (map suc path) target there from n → n < 16 * node_count t
   chain_short m legal path target there from n first chain =
@@ -275,7 +275,7 @@ module _ (g : Grammar) (t : Tree) (v : Valuation) (accepted : IsAccepted g) (fit
       dependencies_short g t accepted fits m legal path target first.has n (place_path last.beyond from.place, from.attr)
       last.depends
 
-  -- The value of a rule that has an error is one.
+  -- If the rule for a target computes an error, the value of its expression is an error.
   pub rule_error : (path : List ℕ) (target : Target) (q : Production) → IsNodeAt g t path q → IsErrorAt path target
       → HasNoError q.rules (at (values_at v path)) target → ⊥
   rule_error path target q n at_error no_error =

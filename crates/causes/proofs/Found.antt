@@ -33,7 +33,7 @@ record IsOfKind (g : Grammar) (t : Tree) (path : List ℕ) (o : Target) (kind : 
   is : IsProduction g production of
   kind_is : HasKind g of o kind
 
--- It is of one kind.
+-- An attribute at a place of a node has only one kind.
 one_kind : (g : Grammar) (t : Tree) (path other : List ℕ) (o p : Target) (k l : Kind) → IsOfKind g t path o k
     → IsOfKind g t other p l → path ≡ other → o.place ≡ p.place → o.attr ≡ p.attr → k ≡ l
 one_kind g t path other o p k l a b same place attr =
@@ -49,7 +49,7 @@ one_kind g t path other o p k l a b same place attr =
     cc
 
 module _ (g : Grammar) (t : Tree) where
-  -- from an argument to the rule that computes its instance
+  -- a chain goes from an argument to the rule that computes the argument's instance
   goes : (path beyond : List ℕ) (argument target : Target) (j i : ℕ) → argument.place ≡ j → target.place ≡ i
       → IsOfKind g t path argument (used_kind j) → IsOfKind g t beyond target (defined_kind i)
       → place_path path j ≡ place_path beyond i → argument.attr ≡ target.attr
@@ -74,7 +74,7 @@ module _ (g : Grammar) (t : Tree) where
       (one_kind g t path beyond argument target Synthesized Inherited taken given both.0
       (ej ∙ ap suc both.1 ∙ sym ei) attr)))
 
--- what is found, and that its first rule is one of its node
+-- a chain to the cause is found, and the target of its first rule is one that the node's production defines
 record IsFoundAt (g : Grammar) (t : Tree) (v : Valuation) (instance : List ℕ) (attr : ℕ) : Type 0 where
   found : IsFound g t v instance attr
   given : IsOfKind g t found.path found.target (defined_kind found.target.place)

@@ -104,7 +104,7 @@ pub recorded_at : (g : Grammar) (m : Passes) (k : ℕ) (path : List ℕ) (t : Op
 recorded_at g m k [] t v r = r
 recorded_at g m k (i ∷ path) t v r = recorded_at g m k path (child_of t i) (below i v) (some_child_recorded g m k t v i r)
 
--- the same of the item alone
+-- the tree at the end of a path fits an item
 abbrev pub IsSomeFit : Grammar → Option Tree → Type 0
 IsSomeFit g None = Unit {0}
 IsSomeFit g (Some t) = (x : Item) × Fits g x t
@@ -183,14 +183,6 @@ leads_down g index old new n is leads numbered =
       leads,
     )
 
--- and to the parent
-pub leads_up : (g : Grammar) (index : TreeIndex) (old new : List PathNode) (n : PathNode) → old ≡ new ++ n ∷ []
-    → Leads g index old → Leads g index new
-leads_up g index old new n is leads =
-    let turned : reverse old ≡ n ∷ reverse new = ap reverse is ∙ reverse-append new (n ∷ []) in
-    let both : AreLed g index (n ∷ reverse new) = subst (AreLed g index) turned leads in
-    both.1
-
 -- the last node has the number of the node at the end of the places
 pub last_number : (g : Grammar) (index : TreeIndex) (nodes prefix : List PathNode) (n : PathNode) → nodes ≡ prefix ++ n ∷ []
     → Leads g index nodes → IsNumberAt g index (places_of nodes) n.node
@@ -240,7 +232,7 @@ does_same g q e f target (rule_does.Arises number) same d =
     let env = same number d.rule d.there in
     record { rule = d.rule; there = d.there; gives = d.gives; arises = sym (ap (arises d.rule.expr.0) env) ∙ d.arises }
 
--- a body that is found before an offset
+-- the two functions that find the body before an offset agree
 pub found_body : (content : List ℕ) (end : ℕ) (body another : List ℕ) → next_before version_two content end ≡ Ok (Some body)
     → body_before version_two content end ≡ Ok another → body ≡ another
 unfolding next_before

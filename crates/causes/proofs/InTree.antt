@@ -1,4 +1,4 @@
--- A cause that is found along the nodes of a tree is one.
+-- If a cause is found along the nodes of a tree, the error has a cause.
 use Rattle.std.proofs.Common.{ℕ, suc, ◌≡◌, inl, inr, List, [], ◌∷◌, ◌++◌, map, refl, ap, ◌∙◌, sym, subst, arith}
 use Rattle.ag_grammar.specs.declared.grammar.Target.{Target}
 use Rattle.ag_grammar.specs.grammars.AttributeGrammar.{Grammar}
@@ -9,7 +9,7 @@ use Rattle.causes.specs.declared.next_rule.Next.TheVariants as rule_does
 use Rattle.causes.specs.Chains.{GoesTo, IsChain, IsPassedFrom, itself, longer}
 use Rattle.causes.specs.Laws.{FoundIsCause, IsInTree, in_tree}
 
--- places that count from 1 come from one path
+-- a list of places determines the path of child numbers, which count from 0
 pub same_path : (xs ys : List ℕ) → map suc xs ≡ map suc ys → xs ≡ ys
 same_path [] [] e = refl
 same_path [] (y ∷ ys) e = absurd (let bad : ⊥ = cc in bad)
@@ -21,7 +21,7 @@ same_path (x ∷ xs) (y ∷ ys) e =
     let others = same_path xs ys tail in
     cc
 
--- the last of them is that of the path's last number
+-- the last place is one more than the last number of the path
 record IsLast (xs ys : List ℕ) (place : ℕ) : Type 0 where
   number : ℕ
   counted : place ≡ suc number

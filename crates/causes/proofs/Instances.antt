@@ -20,7 +20,7 @@ use Rattle.causes.proofs.InIndex.{IsSomeFit, fits_at, tree_further}
 pub kinds_differ : Inherited ≡ Synthesized → ⊥
 kinds_differ e = let bad : ⊥ = cc in bad
 
--- two lists with a last number
+-- equal lists have the same last number and the same numbers before it
 pub last_same : (xs ys : List ℕ) (x y : ℕ) → xs ++ x ∷ [] ≡ ys ++ y ∷ [] → (xs ≡ ys) × (x ≡ y)
 last_same [] [] x y e = (refl, cc)
 last_same [] (b ∷ []) x y e = absurd (let bad : ⊥ = cc in bad)
@@ -42,7 +42,7 @@ child_same none i = refl
 child_same (more t ts) zero = refl
 child_same (more t ts) (suc i) = child_same ts i
 
--- the item of a node
+-- a node that fits an item: the item is the symbol of its production, and its children fit the production
 pub item_of : (g : Grammar) (x : Item) (p : ℕ) (ts : Forest) (q : Production) → Fits g x (node p ts) → IsProduction g p q
     → (x ≡ item.Symbol q.left) × FitsAll g (stored_items q.items) ts
 item_of g (item.Terminal a) p ts q fits is = elim fits [ ]
@@ -118,14 +118,14 @@ module _ (g : Grammar) (t : Tree) (fits : IsTreeOf g t) where
       → tree_at (Some t) (path ++ i ∷ []) ≡ child n.trees i
   child_tree path q n i = tree_further (Some t) path i ∙ ap (λ (z : Option Tree). child_of z i) n.there
 
-  -- the item of a child
+  -- each child of a node has an item of the production, which it fits
   pub item_there : (path : List ℕ) (q : Production) (n : IsNodeAt g t path q) (i : ℕ) (s : Tree)
       → tree_at (Some t) (path ++ i ∷ []) ≡ Some s → (x : Item) × (slice_get (stored_items q.items) i ≡ Some x) × Fits g x s
   item_there path q n i s there =
       children.child_fits g (stored_items q.items) n.trees i s (children_fit path q n)
       (sym (child_same n.trees i) ∙ sym (child_tree path q n i) ∙ there)
 
-  -- the child of an item
+  -- each item of the production that is a child has a child of the node, which fits it
   pub tree_there : (path : List ℕ) (q : Production) (n : IsNodeAt g t path q) (i : ℕ) (x : Item)
       → slice_get (stored_items q.items) i ≡ Some x → (s : Tree) × (tree_at (Some t) (path ++ i ∷ []) ≡ Some s) × Fits g x s
   tree_there path q n i x is =
@@ -176,7 +176,7 @@ abbrev of_node : List ℕ → ℕ → List Instance
 of_node path zero = []
 of_node path (suc n) = (path, n) ∷ of_node path n
 
--- with 16 attributes at each node of a tree
+-- the instances of a tree, if each node had 16 attributes
 abbrev mutual
   pub instances : Tree → List ℕ → List Instance
   instances (leaf c x) path = of_node path 16
@@ -254,7 +254,7 @@ among (i ∷ deeper) u a less (node p ts) prefix e =
     (subst (λ (z : ℕ). Has (instances_in ts prefix 0) (prefix ++ z ∷ deeper, a)) (zero-add i)
     (in_forest deeper u a (among deeper u a less) ts prefix 0 i e))
 
--- Each instance of a tree is one of them.
+-- Each instance of a tree is one of `instances`.
 pub instance_among : (t : Tree) (path : List ℕ) (a : ℕ) (u : Tree) → tree_at (Some t) path ≡ Some u → a < 16
     → Has (instances t []) (path, a)
 instance_among t path a u there less = among path u a less t [] there

@@ -26,7 +26,7 @@ has_some : {X : Type 0} (xs : List X) (i : ℕ) (x : X) → slice_get xs i ≡ S
 has_some [] i x e = absurd (let bad : ⊥ = cc in bad)
 has_some (y ∷ xs) i x e = omega arith
 
--- Each chain from an element has an end.
+-- Each chain along R from an element has an end.
 pub data Ends {X : Type 0} (R : X → X → Type 0) : X → Type 0 where
   ends : (x : X) → ((y : X) → R x y → Ends R y) → Ends R x
 
@@ -43,11 +43,11 @@ module _ {X : Type 0} (R : X → X → Type 0) where
   after : {x : X} → Ends R x → (y : X) → R x y → Ends R y
   after (ends x h) y step = h y step
 
-  -- none of them leads back
+  -- if each chain from an element has an end, none leads back to it
   no_cycle : {x : X} → Ends R x → (n : ℕ) → Reaches R (suc n) x x → ⊥
   no_cycle (ends x h) n (y, step, back) = no_cycle (h y step) n (further n y x y back step)
 
-  -- and a chain through the members of a list is shorter than the list
+  -- a chain has fewer steps than a list has elements, if the list has all elements that chains from x reach
   pub is_short : (n : ℕ) (x y : X) → Ends R x → (xs : List X) → ((k : ℕ) (z : X) → Reaches R k x z → Has xs z) → Reaches R n x y
       → n < length xs
   is_short zero x y end xs all there = let at = all 0 x refl in has_some xs at.0 x at.1

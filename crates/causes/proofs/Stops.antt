@@ -1,10 +1,9 @@
 -- Where a chain of rules that pass an error on stops.
-use Rattle.std.proofs.Common.{ℕ, zero, suc, ◌≡◌, ◌+◌, ◌<◌, ◌≤◌, inl, inr, true, false, ◌&&◌, List, [], ◌∷◌, ◌++◌, drop, take}
-use Rattle.std.proofs.Common.{length, None, Option, Some, slice_get, ap, subst, sym, ◌∙◌, arith}
+use Rattle.std.proofs.Common.{ℕ, zero, suc, ◌≡◌, ◌+◌, ◌<◌, inl, inr, true, false, ◌&&◌, List, [], ◌∷◌, ◌++◌, drop, take}
+use Rattle.std.proofs.Common.{None, Option, Some, slice_get, ap, subst, sym, ◌∙◌, arith}
 use Rattle.std.specs.Prelude.{IfNone, IfSome, Result, Ok, Err, nat_eq}
 use Rattle.std.specs.Result.{OkIff, result_ok}
 use Rattle.std.proofs.lemmas.Bool.{both_ways, cases_lt, eq-eqb}
-use Rattle.std.proofs.lemmas.Option.{slice_get_within}
 use Rattle.ag_value.specs.declared.value.Value.{Value}
 use Rattle.ag_grammar.specs.Lists.{DifferIn}
 use Rattle.ag_grammar.specs.declared.grammar.Production.{Production}
@@ -54,11 +53,11 @@ none_that_fits rules target number (Err e) before is = λ n r small there gives.
   | inr past ↦ before n r (omega arith) there gives
 ]
 
--- Where no rule is for a target, no rule for it has an error;
+-- Where no rule is for a target, no rule for the target has an error.
 pub no_rule : (rules : List Rule) (e : Table) (target : Target) → NoneBefore rules target 65536 → HasNoError rules e target
 no_rule rules e target none n r small there gives = absurd (none n r small there gives)
 
--- and where one is, it is the only one.
+-- The rules' targets differ. If a rule is for a target, and its value is not an error, no rule for the target has an error.
 pub no_other : (rules : List Rule) (e : Table) (target : Target) (number : ℕ) (rule : Rule)
     → DifferIn (λ (r : Rule). r.target) rules
     → slice_get rules number ≡ Some rule → rule.target ≡ target
@@ -69,16 +68,11 @@ no_other rules e target number rule single there gives clean other r small is sa
     let it : r ≡ rule = cc in
     ap (λ (z : Rule). fault_of (value_of z.expr.0 (environment z e))) it ∙ clean
 
--- a rule that passes no error on, and in which none arises, has none
+-- a rule that passes no error on, and in which no error arises, has a value that is not an error
 pub clean_of : (r : Rule) (e : Table) → AnswersSource r e None → is_arising e r ≡ false
     → fault_of (value_of r.expr.0 (environment r e)) ≡ None
 clean_of r e (inl clean) off = clean
 clean_of r e (inr on) off = absurd (both_ways (is_arising e r) off on)
-
-pub beyond_productions : (g : Grammar) (number : ℕ) (vs : List Value) (target : Target) → length g.productions ≤ number
-    → HasNoErrorAt g number vs target
-beyond_productions g number vs target past q there =
-    absurd (let less = slice_get_within g.productions number q there in omega arith)
 
 pub of_production : (g : Grammar) (number : ℕ) (vs : List Value) (target : Target) (production : Production)
     → slice_get g.productions number ≡ Some production → HasNoError production.rules (table_of g production vs) target

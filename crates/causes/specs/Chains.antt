@@ -51,7 +51,7 @@ HasNoError rules e target = (number : ℕ) (rule : Rule) → number < 65536 → 
     → rule.target ≡ target
     → fault_of (value_of rule.expr.0 (environment rule e)) ≡ None
 
--- the same at a node of production number p, with the values vs of the node's record
+-- `HasNoError` at a node of production number p, with the values vs of the node's record
 abbrev pub HasNoErrorAt : Grammar → ℕ → List Value → Target → Type 0
 HasNoErrorAt g p vs target = (q : Production) → IsProduction g p q → HasNoError q.rules (table_of g q vs) target
 
@@ -60,7 +60,7 @@ abbrev pub DoesNext : List Rule → Table → Target → Next → Type 0
 DoesNext rules e target (rule_does.Passes argument) = PassesOn rules e target argument
 DoesNext rules e target (rule_does.Arises number) = Arises rules e target number
 
--- the same at a node of production number p, with the values vs of the node's record
+-- `DoesNext` at a node of production number p, with the values vs of the node's record
 pub record DoesNextAt (g : Grammar) (p : ℕ) (vs : List Value) (target : Target) (does : Next) : Type 0 where
   pub production : Production
   pub there : IsProduction g p production
@@ -112,15 +112,16 @@ Follows R places target there (step.To from) = IsPassedFrom R places target ther
 Follows R places target there (step.Arises number) = (there ≡ places) × R places target (rule_does.Arises number)
 Follows R places target there step.Nothing = Unit {0}
 
--- A chain of n rules that passed an error on. It begins with the rule for a target at a node, and leads to the rule from which
--- the last of them has the error; if n is 0, this is the first rule itself.
+-- A chain of n rules that passed an error on. It begins with the rule for `target` at the end of `places`. It leads to the rule
+-- from which the last of these n rules has the error, given by the next two arguments (the places of its node, and its target).
+-- If n is 0, it leads to the first rule itself.
 pub data IsChain (R : Reading) (places : List ℕ) (target : Target) : List ℕ → Target → ℕ → Type 0 where
   itself : IsChain R places target places target 0
   longer : (there : List ℕ) (from : Target) (n : ℕ) (beyond : List ℕ) (next : Target) → IsChain R places target there from n
       → IsPassedFrom R there from beyond next → IsChain R places target beyond next (suc n)
 
 -- The cause of the error that the rule for a target computes at the node at the end of some places: the rule of a number, at
--- the node at the end of other places. The error arises in it, and n rules passed it on.
+-- the node at the end of other places (`there`), whose target is `from`. The error arises in it, and n rules passed the error on.
 pub record IsCause (R : Reading) (places : List ℕ) (target : Target) (there : List ℕ) (number : ℕ) (n : ℕ) : Type 0 where
   pub from : Target
   pub chain : IsChain R places target there from n

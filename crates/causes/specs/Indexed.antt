@@ -32,7 +32,7 @@ pub record IsAtPlaces (d : Direction) (t : Tree) (v : Valuation) (places : List 
   pub there : tree_at (Some t) path ≡ Some tree
   pub occurs : IsSubtreeAt d (nodes_of d t v) number tree (values_at v path)
 
--- In each tree of the grammar that the index has, the node at the end of some places has this number.
+-- In each tree of the grammar that the index has, there is a node at the end of some places, and it has this number.
 abbrev pub IsNumberAt : Grammar → TreeIndex → List ℕ → ℕ → Type 0
 IsNumberAt g index places number = (k : ℕ) (t : Tree) (v : Valuation) → HasNodes k t v index → IsTreeOf g t
     → IsAtPlaces (back_from k) t v places number
@@ -43,8 +43,8 @@ pub record IsEndAt (g : Grammar) (index : TreeIndex) (places : List ℕ) (end : 
   pub numbered : IsNumberAt g index places number
   pub ends : end_of index number ≡ Some end
 
--- the places that lead from the root to the first of some nodes; each node is a child of the next one, and the last one of the
--- root
+-- the places that lead from the root to the first of some nodes; each node is a child of the next one, and the last one is a
+-- child of the root
 abbrev pub way : List PathNode → List ℕ
 way [] = []
 way (n ∷ ns) = way ns ++ n.place ∷ []
@@ -55,7 +55,7 @@ abbrev pub AreLed : Grammar → TreeIndex → List PathNode → Type 0
 AreLed g index [] = Unit {0}
 AreLed g index (n ∷ ns) = IsNumberAt g index (way (n ∷ ns)) n.node × AreLed g index ns
 
--- the same of a list that begins with the outermost node, a child of the root
+-- `AreLed` of the reversed list: `nodes` begins with the outermost node, a child of the root
 abbrev pub Leads : Grammar → TreeIndex → List PathNode → Type 0
 Leads g index nodes = AreLed g index (reverse nodes)
 
@@ -106,8 +106,8 @@ pub record IsWithoutError (g : Grammar) (index : TreeIndex) (content places : Li
   pub is_node : IsNode g body production values
   pub none : HasNoErrorAt g production values target
 
--- The node at the end of some places does not have a child at a place, in each tree that `HasNoChild` speaks of: a tree of the
--- grammar that the index has, with fewer than 2 ^ 32 nodes.
+-- The node at the end of some places has no child at a place, in each tree of the grammar that the index has and that has fewer
+-- than 2 ^ 32 nodes (`HasNoChild`).
 pub record HasNoChildAt (g : Grammar) (index : TreeIndex) (places : List ℕ) (place : ℕ) : Type 0 where
   pub number : ℕ
   pub numbered : IsNumberAt g index places number
@@ -130,7 +130,7 @@ abbrev pub Stops : Grammar → TreeIndex → List ℕ → List ℕ → Target �
 Stops g index content places target = IsWithoutRecord g index places ⊎ IsWithoutError g index content places target
     ⊎ IsPassedFromNowhere g index content places target
 
--- A chain of rules that passed an error on stops without a cause, or has at least as many rules as the limit.
+-- A chain stops without a cause, or at least as many rules of it passed the error on as the limit says.
 pub record StopsAfter (g : Grammar) (index : TreeIndex) (content places : List ℕ) (target : Target) (limit : ℕ) : Type 0 where
   pub there : List ℕ
   pub from : Target
@@ -138,7 +138,7 @@ pub record StopsAfter (g : Grammar) (index : TreeIndex) (content places : List �
   pub chain : IsChain (in_file g index content) places target there from rules
   pub stops : (limit ≤ rules) ⊎ Stops g index content there from
 
--- On the way along some places a node does not have a child.
+-- On the way along some places a node has no child at the next place.
 pub record LeadsNowhere (g : Grammar) (index : TreeIndex) (places : List ℕ) : Type 0 where
   pub prefix : List ℕ
   pub place : ℕ

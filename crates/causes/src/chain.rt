@@ -19,7 +19,8 @@ use tree_index::{NodeKind, TreeFault, TreeIndex};
 use treefile::Device;
 
 /// The greatest number of rules of a chain that are followed: 16 for each of `MAX_NODES` nodes,
-/// since a symbol has at most 16 attributes.
+/// since a symbol has at most 16 attributes. In the solution of a tree with at most `MAX_NODES`
+/// nodes no chain is that long, since no attribute of a node comes twice in a chain.
 const MAX_STEPS: u32 = 16 * MAX_NODES;
 
 /// The cause of an error.
@@ -64,7 +65,8 @@ pub(crate) enum Step {
     Nothing,
 }
 
-/// A chain of rules, as far as it was followed. It *is at* the node of the rule that is followed next.
+/// A chain of rules, as far as it was followed. It *is at* the node of the rule that is followed
+/// next.
 #[derive(Drop)]
 struct Chain<'a> {
     grammar: &'a Grammar,
@@ -124,9 +126,9 @@ impl<'a> Chain<'a> {
         }
     }
 
-    /// Returns the end of the record of the node at which the chain is, and the symbol of which the
-    /// node is. Returns `None` if the node is a token or of a production that the grammar does not
-    /// have, or if the index has no end of its record.
+    /// Returns the offset at which the record of the chain's node ends, and the node's symbol.
+    /// Returns `None` if the node is a token, if its production is not one of the grammar, or if
+    /// the index lacks the node or the end of its record.
     fn record(&self) -> Option<(u64, Item)>
         requires leads { Leads self.now.grammar.now self.now.index.now self.now.nodes.items }
         ensures end { IfSome result (λ parts. IsEndAt self.now.grammar.now self.now.index.now
@@ -181,8 +183,8 @@ impl<'a> Chain<'a> {
         Ok(true)
     }
 
-    /// Goes from the root to the node at the end of some places. Returns whether there is such a node.
-    /// Fails with NoMemory if memory is refused.
+    /// Goes from the root to the node at the end of some places. Returns whether there is such a
+    /// node; if not, stops at the last node on the way. Fails with NoMemory if memory is refused.
     fn go_down(&mut self, places: &[u16]) -> Result<bool, TreeFault>
         requires root { self.old.nodes.items ≡ [] }
         ensures places { IfOk result (λ found. IsTrue found
@@ -226,8 +228,8 @@ impl<'a> Chain<'a> {
         Ok(Some(Target { place: 0, attr }))
     }
 
-    /// Goes to the parent, and returns the target of the rule there for an attribute of the node.
-    /// Returns `None` at the root.
+    /// Goes from the node to its parent. Returns the target of the parent's rule for the attribute
+    /// number `attr` of the node that was left. Returns `None` at the root.
     fn go_up(&mut self, attr: u16) -> Option<Target>
         requires leads { Leads self.old.grammar.now self.old.index.now self.old.nodes.items }
         ensures goes { IfSome result (λ target. (target.attr ≡ attr) × (places_of self.old.nodes.items
@@ -294,13 +296,14 @@ impl<'a> Chain<'a> {
 }
 
 /// Finds the cause of an error that the rule for a target computes: follows the rules that passed
-/// the error on. `device` contains the file of the last pass, and `index` is its index.
+/// the error on. `device` contains the file of the last pass, and `index` is the index of this
+/// file.
 ///
 /// Returns `None` if the places lead to no node, the target has no rule there, or the rule's value
 /// is not an error. Also returns `None` if the chain stops later without a cause, or if 16,777,216
-/// rules passed the error on, 16 for each of `MAX_NODES` nodes. These two cases do not occur with
-/// the index of the file, in an accepted grammar, if the file is that of a tree of at most
-/// `MAX_NODES` nodes whose values are a solution.
+/// rules passed the error on, 16 for each of `MAX_NODES` nodes. The last two cases do not occur if
+/// the index is that of the file, the grammar is accepted, and the file is that of a tree of at
+/// most `MAX_NODES` nodes whose values are a solution.
 ///
 /// Fails with R1 if the record of a rule of the chain is damaged, with D1 if a call of the device
 /// fails, and with NoMemory if memory is refused. Reads a record for each rule in the chain.

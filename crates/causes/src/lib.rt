@@ -1,7 +1,8 @@
-//! The cause of an error: the rule in which it arises, at the end of the chain of rules that passed it on.
+//! The cause of an error: the rule in which the error arises, at the end of the chain of rules that
+//! passed the error on.
 //!
-//! `find_cause` follows the chain along the index of the tree file of the last pass, and reads only the
-//! records on it.
+//! `find_cause` follows the chain along the index of the tree file of the last pass, and reads only
+//! the records on it.
 #![tactic(auto)]
 
 mod bodies;

@@ -3,7 +3,7 @@
 use ag_grammar::{Direction, Grammar, Item, Production, Terminal};
 use tree_index::{NodeKind, TokenCounts, TreeIndex};
 
-/// Returns the number of literals of a production before the child at a place, which counts from 1.
+/// Returns the number of literals of a production before the child at a place. Places count from 1.
 fn literals_before(production: &Production, place: u16) -> u32 {
     let mut literals = 0u32;
     let mut places = 0u16;
@@ -20,8 +20,8 @@ fn literals_before(production: &Production, place: u16) -> u32 {
 }
 
 /// Returns the number of tokens of the sentence before the subtree at the end of a path of places.
-/// Returns `None` if no node is there. `grammar` and `counts` have to be those of the index:
-/// otherwise the result may be `None` or a wrong number.
+/// Returns `None` if no node is there. `grammar` has to be the grammar of the tree, and `counts`
+/// has to be made from this index: otherwise the result may be `None` or a wrong number.
 pub fn tokens_before(
     grammar: &Grammar,
     index: &TreeIndex,
@@ -43,8 +43,9 @@ pub fn tokens_before(
     Some(tokens)
 }
 
-/// Returns the number of tokens in the subtrees of those children of `node` that come before the child
-/// `child` in the sentence. Returns `None` if the index or the counts lack one of the two nodes.
+/// Returns the number of tokens in the subtrees of those children of `node` that come before the
+/// child `child` in the sentence. Returns `None` if the index or the counts lack one of the two
+/// nodes.
 fn tokens_between(index: &TreeIndex, counts: &TokenCounts, node: u32, child: u32) -> Option<u32> {
     // The index numbers nodes from the end of the file on. In the file of an odd pass, the numbers
     // of a node's children rise from left to right, so the subtrees left of `child` have the
@@ -56,7 +57,7 @@ fn tokens_between(index: &TreeIndex, counts: &TokenCounts, node: u32, child: u32
     }
 }
 
-/// Returns the number, in the index, that follows those of the nodes of the subtree of a node.
+/// Returns the first number of the index after those of the nodes of a node's subtree.
 fn end_of(index: &TreeIndex, node: u32) -> Option<u32> {
     node.checked_add(index.size(node)?)
 }

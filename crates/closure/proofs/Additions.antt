@@ -1,5 +1,5 @@
 -- A list of additions grows at its end.
-use Rattle.std.proofs.Common.{ℕ, zero, suc, ◌≡◌, ◌⊎◌, List, [], ◌∷◌, ◌++◌, Some, slice_get, length, get_or, refl, sym, inl, inr}
+use Rattle.std.proofs.Common.{ℕ, ◌≡◌, List, [], ◌∷◌, ◌++◌, Some, slice_get, length, get_or, refl, sym, inl, inr}
 use Rattle.std.proofs.Common.{arith}
 use Rattle.std.proofs.lemmas.Option.{slice_get_within}
 use Rattle.closure.specs.Additions.{IsAdded, IsAddedBefore, IsReason, AreInOrder}
@@ -15,7 +15,7 @@ added_more xs y t h = (h.0, h.1, get_push_front xs y h.1 h.0 h.2, h.3)
 pub added_here : (xs : List Addition) (y : Addition) → IsAdded (xs ++ y ∷ []) y.number
 added_here xs y = (length xs, y, get_push_end xs y, refl)
 
--- a reason stays one if more numbers are there
+-- a reason stays one if more numbers have the property that it requires of the numbers of a body
 pub reason_more : (clauses : List Clause) (seeds : List ℕ) (P Q : ℕ → Type 0) → ((t : ℕ) → P t → Q t) → (n : ℕ) (r : Reason)
     → IsReason clauses seeds P n r → IsReason clauses seeds Q n r
 reason_more clauses seeds P Q more n (reason.Seed i) h = h

@@ -27,7 +27,7 @@ both : (a b : Bool) → (a && b) ≡ true → (a ≡ true) × (b ≡ true)
 both true b h = (refl, h)
 both false b h = absurd (cc)
 
--- a subset of a set is a subset of a larger one
+-- if all elements of a list pass the test s, and s implies t, they all pass t
 pub list_all-within : (s t : ℕ → Bool) → ((n : ℕ) → s n ≡ true → t n ≡ true) → (xs : List ℕ) → list_all s xs ≡ true
     → list_all t xs ≡ true
 list_all-within s t le [] h = refl
@@ -38,7 +38,7 @@ pub waits : (marks : List Bool) (added : List Addition) (v : ℕ) (q : Clause) (
     → is_marked marks (get_or q.body n d) ≡ false → IsSettled marks added v q
 waits marks added v q n d lt h = inr (get_or q.body n d, Contains-get_or q.body n d lt, inl h)
 
--- the same in the form of the code
+-- the same with the terms of `advance`: n is the length of the marked prefix, and it is not that of the whole body
 pub waits_at : (marks : List Bool) (added : List Addition) (v : ℕ) (clauses : List Clause) (clause : ℕ) (q : Clause)
     (body : List ℕ) (n : ℕ) (d : Clause) → clause < length clauses → body ≡ (get_or clauses clause q).body → n ≤ length body
     → ((e : ℕ) → n < length body → is_marked marks (get_or body n e) ≡ false) → nat_eq n (length body) ≡ false
@@ -59,7 +59,7 @@ count_one : (marks : List Bool) (k : ℕ) → k < length marks → is_marked mar
     → count_by (λ b. b) (set marks k true) ≡ count_by (λ b. b) marks + 1
 count_one marks k lt e = grind (arith, common_steps)
 
--- a number that is added for a reason follows if the numbers there do
+-- a number n with a reason follows, if each number with the property `there` does
 reason_follows : (clauses : List Clause) (seeds : List ℕ) (there : ℕ → Type 0) → ((t : ℕ) → there t → Follows clauses seeds t)
     → (n : ℕ) (r : Reason) → IsReason clauses seeds there n r → Follows clauses seeds n
 reason_follows clauses seeds there follow n (reason.Seed i) h =
@@ -99,7 +99,7 @@ marked_more clauses seeds marks added v passed x lt new why search = record {
       (take (slice_index passed p) (get_or clauses p d).body) (search.marked p d inside);
 }
 
--- open numbers stay open with one more
+-- open numbers stay open if one more number is marked and added
 pub grows_one : (marks : List Bool) (added : List Addition) (v : ℕ) (x : Addition) → x.number < length marks → v ≤ length added
     → Grows v marks added (set marks x.number true) (added ++ x ∷ [])
 grows_one marks added v x lt most = record {
@@ -127,14 +127,11 @@ clause_reason clauses seeds marks added is p d lt h = (
       (AllPass-from_list_all (is_marked marks) (get_or clauses p d).body h k e inside),
 )
 
--- a settled clause stays so
+-- a settled clause stays settled while no further visit begins
 pub settled_stays : (v : ℕ) (marks : List Bool) (added : List Addition) (marks' : List Bool) (added' : List Addition)
     → Grows v marks added marks' added' → (q : Clause) → IsSettled marks added v q → IsSettled marks' added' v q
 settled_stays v marks added marks' added' grows q (inl h) = inl (grows.marked q.head h)
 settled_stays v marks added marks' added' grows q (inr w) = inr (w.0, w.1, grows.open_stays w.0 w.2)
-
-pub grows_none : (v : ℕ) (marks : List Bool) (added : List Addition) → Grows v marks added marks added
-grows_none v marks added = record { count = refl; marked = λ t h. h; open_stays = λ t h. h }
 
 pub grows_on : (v : ℕ) (a : List Bool) (x : List Addition) (b : List Bool) (y : List Addition) (c : List Bool) (z : List Addition)
     → Grows v a x b y → Grows v b y c z → Grows v a x c z

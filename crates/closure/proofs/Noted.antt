@@ -9,7 +9,7 @@ use Rattle.std.specs.Global.{Vec}
 use Rattle.closure.specs.declared.clause.Clause.{Clause}
 use Rattle.closure.specs.Waiting.{AddsClause, row, rows}
 
--- a clause is added at one number
+-- a clause is added to the row of one number, which is `symbol`
 pub notes_at : (clause symbol : ℕ) (uses : List (List ℕ)) → symbol < length uses
     → AddsClause clause uses (set uses symbol (row uses symbol ++ clause ∷ []))
 notes_at clause symbol uses lt = record {
@@ -40,10 +40,6 @@ pub rows_set : (table : List (Vec ℕ)) (u clause : ℕ) (v w : Vec ℕ) → u <
 rows_set table u clause v w lt is pushed =
     map-set (λ (x : Vec ℕ). x.items) table u w
     ∙ ap (set (rows table) u) (pushed ∙ sym (ap (λ xs. xs ++ clause ∷ []) (row_of table u v lt is)))
-
--- no clause is added
-pub notes_none : (clause : ℕ) (uses : List (List ℕ)) → AddsClause clause uses uses
-notes_none clause uses = record { same = refl; kept = λ t p h. h; fits = λ n below all. all }
 
 pub notes_on : (clause : ℕ) (a b c : List (List ℕ)) → AddsClause clause a b → AddsClause clause b c → AddsClause clause a c
 notes_on clause a b c m n =

@@ -72,9 +72,9 @@ impl Clauses {
         Clauses::new(alloc, clauses, count)
     }
 
-    /// Returns, for each number below the count, whether it follows from the clauses and the seeds,
-    /// which have to be below the count. Takes memory and time as `find` does. Fails with NoMemory
-    /// if a request for memory is refused.
+    /// Returns, for each number below the count, whether it follows from the clauses and the seeds.
+    /// The seeds have to be below the count. Takes memory and time as `find` does. Fails with
+    /// NoMemory if a request for memory is refused.
     pub fn closure(&self, alloc: Global, seeds: &[usize]) -> Result<Vec<bool>, NoMemory>
         requires { All (λ t. t < self.now.count) seeds.now }
         ensures len { IfOk result (λ marks. length marks.items ≡ self.now.count) }

@@ -1,6 +1,7 @@
 //! Searches for the numbers that follow. A number that is found is marked. The search tests the
 //! numbers of a clause's body from the first on, and stops at one that is not marked. The next test
-//! of this body begins at that number, so no number that was found to be marked is tested again.
+//! of this body begins there, so no element of the body that was found to be marked is tested
+//! again.
 //!
 //! In contracts, `slice_index_or clauses p d` is the clause at index p. Its default d, for an index
 //! out of range, can be any clause.

@@ -287,7 +287,8 @@ fn sentences<'a>(alloc: Global) -> Arg<'a> {
     .action(ArgAction::Append)
 }
 
-/// Returns the argument that is an expression.
+/// Returns the argument that is an expression. A word that begins with a hyphen is an expression
+/// here, and not an option: `-1` is then refused with X2, whose message says how to write it.
 fn expression<'a>(alloc: Global) -> Arg<'a> {
     Arg::new(alloc, EXPRESSION)
         .required(true)

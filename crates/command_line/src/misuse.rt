@@ -31,8 +31,9 @@ pub fn check_tree(alloc: Global, command: &str, path: &str) -> Result<(), Error>
     Ok(())
 }
 
-/// Fails if a sentence is standard input, since the file of its translation would have no name.
-/// Fails if the files of two sentences have the same name (`file_name_of`).
+/// Checks the sentences of `run` with `--out-dir`. Fails if a sentence is standard input, since the
+/// file of its translation would have no name. Fails if the files of two sentences have the same
+/// name (`file_name_of`), since the second translation would replace the first.
 pub fn check_sentences(alloc: Global, paths: &[&str]) -> Result<(), Error> {
     if paths.iter().any(|path| *path == STANDARD) {
         return Err(misuse_of(

@@ -3,7 +3,7 @@
 use std::fmt;
 
 /// A text in which each control character, except line feeds, prints as an escape with its code
-/// point in hexadecimal, such as `\u{1b}`.
+/// point in hexadecimal, such as `\u{1b}`. So a word in a message can't control the terminal.
 #[derive(Clone, Copy)]
 pub struct PlainLines<'a>(pub &'a str);
 

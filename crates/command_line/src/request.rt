@@ -87,9 +87,9 @@ pub struct RunPaths<'a> {
     pub grammar: InputPath<'a>,
     /// The sentence.
     pub sentence: InputPath<'a>,
-    /// The file for the translation. If there is none, the translation is printed.
+    /// The file for the translation, or `None` if the translation is printed.
     pub output: Option<&'a str>,
-    /// The folder for the tree files. If there is none, they are kept in memory.
+    /// The folder for the tree files, or `None` if they are kept in memory.
     pub work: Option<&'a str>,
 }
 
@@ -103,7 +103,7 @@ pub struct BatchPaths<'a> {
     pub sentences: Vec<&'a str>,
     /// The folder for the translations.
     pub folder: &'a str,
-    /// The folder for the tree files. If there is none, they are kept in memory.
+    /// The folder for the tree files, or `None` if they are kept in memory.
     pub work: Option<&'a str>,
 }
 
@@ -114,9 +114,9 @@ pub struct EvalPaths<'a> {
     pub grammar: InputPath<'a>,
     /// The tree file.
     pub tree: InputPath<'a>,
-    /// The file for the translation. If there is none, the translation is printed.
+    /// The file for the translation, or `None` if the translation is printed.
     pub output: Option<&'a str>,
-    /// The folder for the tree files that are written. If there is none, they are kept in memory.
+    /// The folder for the tree files that are written, or `None` if they are kept in memory.
     pub work: Option<&'a str>,
 }
 
@@ -125,7 +125,7 @@ pub struct EvalPaths<'a> {
 pub struct WhyWords<'a> {
     /// The grammar.
     pub grammar: InputPath<'a>,
-    /// The name of an attribute. If there is none, the whole grammar is explained.
+    /// The name of an attribute, or `None` if the whole grammar is explained.
     pub attribute: Option<&'a str>,
 }
 
@@ -321,7 +321,7 @@ fn output_of<'a>(matches: &ArgMatches<'a>) -> Option<&'a str> {
 
 /// Returns the value of an argument, or the empty text if it is missing. Clap accepts no command
 /// line in which a required argument is missing. But `request_of` reads G before it looks at the
-/// command, and `value` has no G. It doesn't use the empty text then.
+/// command, and `value` has no G. The empty text is not used then.
 fn value_of<'a>(matches: &ArgMatches<'a>, name: &str) -> &'a str {
     matches.get_str(name).unwrap_or("")
 }

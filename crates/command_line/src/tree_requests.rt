@@ -62,15 +62,16 @@ pub struct ExplainWords<'a> {
     /// The node whose values are explained.
     pub node: NodeWords<'a>,
     /// Whether the rules of the whole tree in which errors arise are printed instead of a node. The
-    /// fields `node` and `attributes` are then only checked: they have no effect on the output.
+    /// command `explain` then only checks that the tree has the node of `node`, and this node the
+    /// attributes of `attributes`: they have no effect on the output.
     pub errors: bool,
     /// The names of the node's attributes that are explained. If there are none, all are.
     pub attributes: Vec<&'a str>,
 }
 
 /// Returns the words that `show` takes. Fails with the error that clap prints if the tree file is
-/// `-`, or `--depth` or `--width` is out of range. Fails with the error of refused memory if memory
-/// is refused.
+/// `-`, or if the value of `--depth` or `--width` is not a number in range. Fails with the error of
+/// refused memory if memory is refused.
 pub fn show_words<'a>(alloc: Global, matches: &ArgMatches<'a>) -> Result<ShowWords<'a>, Error> {
     let tree = matches.get_str(TREE).unwrap_or("");
     check_tree(alloc, "show", tree)?;
@@ -94,8 +95,8 @@ pub fn show_words<'a>(alloc: Global, matches: &ArgMatches<'a>) -> Result<ShowWor
     })
 }
 
-/// Returns the number that an option has, or `other` if the option is not there. Returns `None` if
-/// its value is not a number below 2^32.
+/// Returns the number that is the value of an option, or `other` if the option is not there.
+/// Returns `None` if the value is not a number below 2^32.
 fn number_of(matches: &ArgMatches<'_>, name: &str, other: u32) -> Option<u32> {
     match matches.get_str(name) {
         Some(word) => word.parse::<u32>().ok(),
@@ -149,7 +150,8 @@ fn node_words<'a>(alloc: Global, matches: &ArgMatches<'a>) -> Result<NodeWords<'
     }))
 }
 
-/// Returns the line and the column in a word, both from 1. Returns `None` if it does not have them.
+/// Returns the line and the column in a word such as `3:14`, both from 1. Returns `None` for any
+/// other word.
 fn numbers_in(word: &str) -> Option<(usize, usize)> {
     let (line, column) = word.split_once(':')?;
     let line = line.parse::<usize>().ok()?;

@@ -1,5 +1,5 @@
-//! Texts, listings, values and translations for a writer that doesn't accept all bytes: only a
-//! prefix is written.
+//! Texts, listings, values and translations for a writer that accepts a limited number of bytes: if
+//! there are more, only a prefix is written.
 
 use crate::endings::Ending;
 use crate::fractions::{FRACTION_SENTENCE, FRACTIONS, translator};

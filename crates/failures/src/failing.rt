@@ -55,7 +55,8 @@ fn fused(alloc: Global, call: u64) -> Fused {
     FuseDevice::new(MemDevice::new(alloc), call)
 }
 
-/// Translates the sentence twice and returns whether the first translation succeeds.
+/// Translates the sentence twice and returns whether the first translation succeeds. Fails with
+/// `Unfit` as `first_succeeds` does.
 fn translates_twice(
     alloc: Global,
     translator: &Translator,
@@ -81,7 +82,7 @@ fn translates_without(
 }
 
 /// Evaluates the sentence's tree twice and returns whether the first evaluation succeeds. Fails
-/// with `Unfit` if the tree's device has changed.
+/// with `Unfit` as `first_succeeds` does, and if the content of the tree's device has changed.
 fn evaluates_twice(
     alloc: Global,
     translator: &Translator,
@@ -173,9 +174,9 @@ fn first_succeeds_without(
     }
 }
 
-/// Returns one more than the number of calls of a device that a run makes. Fails with
-/// `Unfit` if a run with an earlier failing call doesn't end as it should, or if a run makes 999
-/// calls of the device or more, which no run does.
+/// Returns one more than the number of calls of a device that a run makes: the least number of a
+/// failing call with which the first run succeeds. Fails with `Unfit` if two runs don't end as they
+/// should, or if a run makes 999 calls of the device or more, which no run does.
 fn first_unmade_call(
     alloc: Global,
     translator: &Translator,

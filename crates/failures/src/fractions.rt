@@ -1,6 +1,6 @@
-//! Binary fractions: their grammar, and a sentence with its tree. Also functions that build a
-//! translator, that translate and evaluate over given devices, and that parse on a device of which
-//! a given call fails.
+//! Binary fractions: their grammar, and a sentence with its tree. Other functions build a
+//! translator, translate and evaluate over given devices, and parse on a device of which a given
+//! call fails.
 
 use crate::endings::Ending;
 use aggen::Translator;
@@ -84,7 +84,7 @@ fn parsed_without(alloc: Global, translator: &Translator, call: u64) -> Ending {
 }
 
 /// Builds a translator, parses `1` over a device that fails at the row's call, and returns how
-/// `parse_tree` ends. Fails with `Misspelt` if the row is no number.
+/// `parse_tree` ends. Fails with `Misspelt` if the row is not a number.
 pub fn parse_without_answer(alloc: Global, call: &str) -> Result<String, Mistake> {
     let call = number(call)? as u64;
     let translator = translator(alloc, FRACTIONS)?;

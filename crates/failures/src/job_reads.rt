@@ -9,9 +9,8 @@ use std::alloc::Global;
 use std::io::{self, Read};
 use treefile::MemDevice;
 
-/// A reader that returns at most `step` bytes in a read. The first value of `reads_left` is the
-/// number, from 1, of the first read that fails. All later reads fail too. If it is 0, all reads
-/// fail.
+/// A reader that returns at most `step` bytes in a read. At first `reads_left` is the number, from
+/// 1, of the first read that fails (0 is as 1). All later reads fail too.
 #[derive(Drop)]
 struct FalteringReader<'a> {
     bytes: &'a [u8],
@@ -64,9 +63,9 @@ fn is_done(alloc: Global, job: &[u8], step: usize, read: u64) -> Result<bool, Mi
     }
 }
 
-/// Returns one more than the number of reads that a job makes. Fails with `Unfit` if a
-/// job with an earlier failing read doesn't end as it should, or if it makes 999 reads or more,
-/// which no job of the rows does.
+/// Returns one more than the number of reads that a job makes: the least number of a failing read
+/// with which the job succeeds. Fails with `Unfit` as `is_done` does, or if the job makes 999 reads
+/// or more, which no job of the rows does.
 fn first_unmade_read(alloc: Global, job: &[u8], step: usize) -> Result<u64, Mistake> {
     for read in 1..1000 {
         if is_done(alloc, job, step, read)? {

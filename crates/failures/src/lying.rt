@@ -1,5 +1,6 @@
 //! Devices that lie, which means that they return wrong lengths or bytes. Each call over them must
-//! return. If it fails with another fault than O2 (the writer failed), it must write nothing.
+//! return. A translation or an evaluation that fails with another fault than O2 (the writer failed)
+//! must write nothing.
 
 ghost use Rattle.std.specs.Prelude.{[], false, Some};
 
@@ -19,12 +20,12 @@ use treefile::{Device, DeviceFault, Kind, MemDevice};
 enum Lie {
     /// Its length is 2^63.
     Long,
-    /// `len` returns the length less the number of calls so far, or 0 if that is negative.
+    /// `len` returns the length less `calls` (of the device), or 0 if that is negative.
     Shrinking,
-    /// `len` returns the length plus the number of calls so far.
+    /// `len` returns the length plus `calls`.
     Growing,
-    /// A read at an offset above 0 adds the number of calls so far, modulo 5, to each byte. So two
-    /// reads of the same bytes can differ.
+    /// A read at an offset above 0 adds `calls`, modulo 5, to each byte. So two reads of the same
+    /// bytes can differ.
     Changing,
 }
 

@@ -1,4 +1,4 @@
-//! A writer that doesn't accept all bytes.
+//! A writer that accepts a limited number of bytes.
 
 use std::alloc::{AllocError, Global};
 use std::io::{self, Write};
@@ -9,7 +9,7 @@ use std::io::{self, Write};
 pub struct NarrowWriter {
     /// The bytes that were written.
     pub taken: Vec<u8>,
-    /// The number of bytes that are accepted.
+    /// The number of bytes that are accepted in all.
     room: usize,
     /// Whether a write after these bytes fails, instead of accepting no byte.
     fails: bool,

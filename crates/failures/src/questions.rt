@@ -43,7 +43,8 @@ impl<R: Files> Questions for Failures<'_, R> {
     }
 }
 
-/// Answers questions about devices that lie, and about writers that don't accept all bytes.
+/// Answers questions about devices that lie, and about writers that accept a limited number of
+/// bytes. Fails with `Misspelt` for any other verb.
 fn answer_of_lies(alloc: Global, verb: &str, rest: &str) -> Result<String, Mistake> {
     match verb {
         "lie" => lie_answer(alloc, rest),

@@ -1,5 +1,5 @@
-//! Translations over two devices that share values. One call of one device fails: first call 1,
-//! then call 2, and so on.
+//! Translations over two devices in memory that own large values instead of copying their bytes.
+//! One call of one device fails: first call 1, then call 2, and so on.
 
 use crate::fractions::{translated, translator};
 use crate::shared_fuse::SharedFuse;
@@ -8,7 +8,8 @@ use rows::words::{Mistake, first_word, number};
 use std::alloc::Global;
 use treefile::MemDevice;
 
-/// A grammar whose first pass builds tables that the second pass copies down to each node.
+/// A grammar whose first pass builds tables. The second pass passes the whole table down to each
+/// node.
 const TABLES: &str = "start S; symbol S syn out; symbol A syn names, sum inh all;
 S = A { $1.all = $1.names; $0.out = text($1.sum); }
 A = \"x\" A {
@@ -47,8 +48,8 @@ fn devices(alloc: Global, word: &str, call: u64) -> Result<(SharedFuse, SharedFu
 
 /// Translates the sentence twice over the same two devices, of which one fails at one call. Returns
 /// whether that call is one of the second translation. Exactly one of the translations must fail,
-/// with D1 and without output, and `append_parts` must have put a record with shared values on each
-/// device. Fails with `Unfit` otherwise.
+/// with D1 and without output. `append_parts`, which writes records with shared values, must have
+/// been called on each device without failing. Fails with `Unfit` otherwise.
 fn fails_later(
     alloc: Global,
     translator: &Translator,
@@ -88,8 +89,8 @@ fn translated_in_memory(alloc: Global, translator: &Translator) -> Result<String
 }
 
 /// Returns whether a translation makes at least the row's number of calls of a device. Fails with
-/// `Misspelt` if the row names no device or no number, and with `Unfit` as `first_unmade_call`
-/// does.
+/// `Misspelt` if the row names no device or no number. Fails with `Unfit` as `first_unmade_call`
+/// does, and if the translation over devices that don't share values doesn't end with `DONE`.
 pub fn sharing_answer(alloc: Global, spelled: &str) -> Result<String, Mistake> {
     let (word, least) = first_word(spelled);
     let least = number(least)? as u64;

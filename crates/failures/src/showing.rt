@@ -16,9 +16,9 @@ fn shown_over<D: Device>(alloc: Global, text: &str, device: &mut D) -> Result<St
 }
 
 /// Shows the value 14 over a device that fails at the row's call, counted from 1. Returns how
-/// `show_value` ends, and what was written. `show_value` makes eight calls of the device: they
-/// clear it, append to it, return its length, and read it. Fails with `Misspelt` if the row is no
-/// number.
+/// `show_value` ends, and what was written. If no call fails, `show_value` makes eight calls of the
+/// device: it clears the device, appends a header and a frame, and reads the frame and the length.
+/// Fails with `Misspelt` if the row is not a number.
 pub fn show_without_answer(alloc: Global, call: &str) -> Result<String, Mistake> {
     let call = number(call)? as u64;
     let mut device = FuseDevice::new(MemDevice::new(alloc), call);

@@ -1,4 +1,4 @@
-//! Translations before and after a sentence that the same translator rejects.
+//! Translations by one translator, before and after it rejects a sentence.
 
 use crate::fractions::{FRACTION_SENTENCE, FRACTIONS, translated, translator};
 use aggen::Translator;

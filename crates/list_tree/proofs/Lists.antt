@@ -1,4 +1,4 @@
--- Lists beside their encodings.
+-- Lists and their encodings.
 use Rattle.std.proofs.Common.{◌≡◌, ◌∙◌, ℕ, ◌+◌, ◌≤◌, List, [], ◌∷◌, ◌++◌, length, map, refl, sym, ap}
 use Rattle.std.proofs.Common.{append_assoc, arith, length-append}
 use Rattle.std.proofs.lemmas.List.{append-nil, map-append}
@@ -40,7 +40,7 @@ light items encodings is =
 pub few : (items : List Value) (encodings : List ℕ) → IsList items encodings → length items ≤ max_weight
 few items encodings is = short_list (v.List items) items refl is.well
 
--- two lists, one after the other
+-- two lists with encodings, one after the other, are a list with encodings, if it is not too heavy
 pub together : (xs ys : List Value) (a b : List ℕ) → IsList xs a → IsList ys b
     → weight_of (v.List (xs ++ ys)) ≤ max_weight → IsList (xs ++ ys) (a ++ b)
 together xs ys a b is js light = record {

@@ -1,4 +1,4 @@
--- A list beside its encoding. All of this is this project's.
+-- A list and its encoding. All of this is this project's.
 use Rattle.std.specs.Prelude.{◌≡◌, ℕ, List, map}
 use Rattle.ag_value.specs.Spelling.{joined, spelling_of}
 use Rattle.ag_value.specs.Well.{IsWell}

@@ -22,8 +22,8 @@ impl ItemTree {
         }
     }
 
-    /// Returns these items and then those of `after`. Callers pass a tree `after` that is not higher
-    /// than this one; otherwise the result could be unbalanced.
+    /// Returns these items and then those of `after`. Callers pass a tree `after` that is not
+    /// higher than this one; otherwise the result could be unbalanced.
     fn with_after(&self, alloc: Global, after: &ItemTree) -> Result<ItemTree, NoMemory>
         requires { length self.now + length after.now < 2 ^ 64 }
         ensures { IfOk result (λ tree. tree ≡ self.now ++ after.now) }
@@ -37,8 +37,8 @@ impl ItemTree {
         ItemTree::pair(alloc, self.share()?, after.share()?)
     }
 
-    /// Returns the items of `before` and then these. Callers pass a tree `before` that is not higher
-    /// than this one; otherwise the result could be unbalanced.
+    /// Returns the items of `before` and then these. Callers pass a tree `before` that is not
+    /// higher than this one; otherwise the result could be unbalanced.
     fn with_before(&self, alloc: Global, before: &ItemTree) -> Result<ItemTree, NoMemory>
         requires { length before.now + length self.now < 2 ^ 64 }
         ensures { IfOk result (λ tree. tree ≡ before.now ++ self.now) }

@@ -26,8 +26,8 @@ enum ItemNode {
     Fork(Rc<ItemBranch>),
 }
 
-/// A node with two sides: the tree of the first items, and the tree of the items after them. Neither
-/// side is empty.
+/// A node with two sides: the tree of the first items, and the tree of the items after them.
+/// Neither side is empty.
 #[cycle(items)]
 #[derive(Drop)]
 struct ItemBranch {
@@ -35,8 +35,8 @@ struct ItemBranch {
     right: ItemTree,
     /// The number of items of both sides.
     len: usize,
-    /// The number of nodes on the longest way down from this one, itself included, or 255 if there
-    /// are more.
+    /// The number of nodes on the longest way down from this one, itself included, or 255 if this
+    /// number is greater.
     height: u8,
 }
 
@@ -91,8 +91,9 @@ impl ItemTree {
         })
     }
 
-    /// Removes the last `count` items from a vector and returns the tree of them. Fails with
-    /// NoMemory, and may then have removed some of them.
+    /// Removes the last `count` items from a vector and returns the tree of them. Each node has
+    /// half of its items on each side (one more on the left if the number is odd), so the tree is
+    /// balanced. Fails with NoMemory, and may then have removed some of the items.
     pub fn take_last(
         alloc: Global,
         items: &mut Vec<Value>,

@@ -22,16 +22,16 @@ use std::rc::Rc;
 /// for the number of items.
 const HEADER_LENGTH: usize = 5;
 
-/// A well list with several owners: its items in a balanced tree, beside the encodings of the items
-/// in a rope. Contracts see the list of the items. A list that `join` makes of two others shares its
-/// nodes with them, except those on the way to the place where the two lists meet and those that a
-/// rotation changes: these are made anew.
+/// A well list that may have several owners: its items in a balanced tree, and the encodings of the
+/// items in a rope. Contracts see the list of the items. A list that `join` makes of two others
+/// shares its nodes with them, but for two kinds of nodes that are made anew: those on the way to
+/// the place where the two lists meet, and those that a rotation changes.
 #[derive(Drop)]
 pub struct ListTree {
     parts: Rc<ListParts>,
 }
 
-/// The items of a list, beside their encodings.
+/// The items of a list, and their encodings.
 #[derive(Drop)]
 struct ListParts {
     items: ItemTree,
@@ -218,8 +218,9 @@ impl ListTree {
         copy_after(&self.header(), &self.parts().encodings, from, out);
     }
 
-    /// Returns the length of the encoding in bytes, as `weight` does. Takes constant time. The clause
-    /// `bytes` says that each number in the encoding is below 256: contracts see bytes as numbers.
+    /// Returns the length of the encoding in bytes, as `weight` does. Takes constant time. The
+    /// clause `bytes` says that each number in the encoding is below 256: contracts see bytes as
+    /// numbers.
     pub fn encoding_len(&self) -> usize
         ensures len { result ≡ length (spelling_of (v.List self.now)) }
         ensures bytes { (i : ℕ) → slice_index (spelling_of (v.List self.now)) i < 256 }
@@ -290,8 +291,8 @@ fn copy_after(header: &[u8; HEADER_LENGTH], rope: &Rope, from: usize, out: &mut 
     rope.copy_part(0, rest);
 }
 
-/// Returns the number of bytes. It is a function for its clause `bytes`, which says that each of
-/// them is below 256: the clause `bytes` of `encoding_len` needs this.
+/// Returns the number of bytes. `encoding_len` calls this function, and not `len`, because of the
+/// clause `bytes`: each byte is below 256. The clause `bytes` of `encoding_len` follows from it.
 fn byte_count(bytes: &[u8]) -> usize
     ensures len { result ≡ length bytes.now }
     ensures bytes { (i : ℕ) → slice_index bytes.now i < 256 }

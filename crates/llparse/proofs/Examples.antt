@@ -49,7 +49,7 @@ left_recursion_least = record {
   ];
 }
 
--- `x` predicts the symbol's first production, since the first item of that can begin with it
+-- `x` predicts production 0, since the first item of the production can begin with `x`
 pub first_choice : IsChoice left_recursive 0 (ahead.Terminal (Literal 0)) 0
 unfolding left_recursion
 first_choice = (production_more, refl, refl, left_recursion.one_predicts)

@@ -42,7 +42,7 @@ pub data InFollow (g : Grammar) : ℕ → Ahead → Type 0 where
   last : (p : ℕ) (q : Production) {s : ℕ} {x : Ahead} (xs ys : List Item) → IsProduction g p q
       → q.items ≡ xs ++ item.Symbol s ∷ ys → AreNullable g ys → InFollow g q.left x → InFollow g s x
 
--- a look-ahead is in FIRST of items; the end is in none
+-- a look-ahead is in FIRST of items; the end of the sentence is in FIRST of no items
 abbrev pub IsInFirstOf : Grammar → List Item → Ahead → Type 0
 IsInFirstOf g xs (ahead.Terminal a) = InFirstOf g xs a
 IsInFirstOf g xs ahead.End = ⊥

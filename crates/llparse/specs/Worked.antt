@@ -1,5 +1,5 @@
--- Examples: tables, and a grammar with a conflict. Its productions are L = L "x" and L = "x", in which L is symbol 0 and "x" is
--- literal 0. Its list of symbols and its lists of rules are empty, since they don't matter here.
+-- Examples: tables, and a grammar with a conflict. The grammar has the productions L = L "x" and L = "x", in which L is symbol 0
+-- and "x" is literal 0. Its list of symbols and its lists of rules are empty, since they don't matter here.
 use Rattle.std.specs.Prelude.{List, [], ◌∷◌, Some, None}
 use Rattle.ag_grammar.specs.declared.grammar.Item.TheVariants as item
 use Rattle.ag_grammar.specs.declared.grammar.Item.{Item}

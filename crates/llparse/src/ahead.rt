@@ -2,7 +2,8 @@
 
 use ag_grammar::Terminal;
 
-/// The next token of a sentence, or its end (the textbook's look-ahead of one token).
+/// The terminal of the next token of a sentence, or the end of the sentence (the textbook's
+/// look-ahead of one token).
 #[derive(Clone, Copy, Debug, PartialEq, Eq)]
 pub enum Ahead {
     /// A terminal.

@@ -1,4 +1,5 @@
-//! Laws about look-ahead and trees, each the contract of a function that does nothing.
+//! Laws about look-ahead and trees, and worked examples, each the contract of a function that does
+//! nothing.
 
 ghost use Rattle.std.specs.Prelude.{◌≡◌, Some, None};
 ghost use Rattle.ag_grammar.specs.declared.grammar.Terminal.TheVariants.{Class, Literal};

@@ -3,8 +3,8 @@
 //! and attributes by their names. `message_texts` has the texts for each kind of fault.
 //!
 //! The functions that write to a `String` fail if memory is refused. The types `PlainText`,
-//! `QuotedText` and `FoundText` print control characters, white space other than the plain space,
-//! and some invisible characters as escapes, such as `\u{1b}`.
+//! `QuotedText` and `FoundText` print some characters as escapes, such as `\u{1b}`: control
+//! characters, white space other than the plain space, and some invisible characters.
 #![tactic(auto)]
 
 pub mod classes;

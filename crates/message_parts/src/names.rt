@@ -46,7 +46,8 @@ pub fn attribute_named<'a>(grammar: &Grammar, name: &'a str) -> Result<Attribute
     }
 }
 
-/// Returns the number of the first symbol of this name, if there is one.
+/// Returns the number of the symbol of this name, if there is one. (The symbols of an accepted
+/// grammar have different names.)
 fn symbol_number(symbols: &[Symbol], name: &str) -> Option<u16>
     requires { length symbols.now ≤ max_symbols }
     ensures { IfSome result (λ s. IsSymbolNamed symbols.now s name.now) }
@@ -69,8 +70,8 @@ fn has_name(symbol: &Symbol, attr: u16, name: &str) -> bool
     }
 }
 
-/// Returns the number of a symbol's first attribute of this name, if there is one. A symbol of an
-/// accepted grammar has at most `MAX_ATTRIBUTES` attributes.
+/// Returns the number of a symbol's attribute of this name, if there is one. A symbol of an
+/// accepted grammar has at most `MAX_ATTRIBUTES` attributes, and these have different names.
 fn attribute_number(symbol: &Symbol, name: &str) -> Option<u16>
     ensures { IfSome result (λ a. slice_get (attribute_names symbol.now) a ≡ Some name.now) }
 {

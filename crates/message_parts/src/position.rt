@@ -83,7 +83,8 @@ impl<'a> Source<'a> {
         (grammar, sentence)
     }
 
-    /// Returns the longest prefix of the text that is UTF-8.
+    /// Returns the longest prefix of the text that is UTF-8. Texts that are refused since they are
+    /// not UTF-8 have positions too.
     pub fn text(&self) -> &'a str {
         utf8_prefix(self.bytes)
     }

@@ -27,7 +27,8 @@ pub fn locate_in_expression(fault: ExprFault, text: &str) -> Location {
     }
 }
 
-/// Describes X1 to X4 of the text of an expression.
+/// Describes X1 to X4 of the text of an expression. Leaves out what was expected if memory for
+/// finding it is refused.
 pub fn describe_expression(
     alloc: Global,
     parts: &mut Parts,
@@ -128,7 +129,7 @@ fn describe_unexpected(
 }
 
 /// Describes what could be in place of the token that was found. If this token is a name that no
-/// `let` binds, or an occurrence outside a grammar, says this instead.
+/// `let` binds, or an occurrence outside a grammar, writes what is wrong with the token instead.
 fn describe_expected(
     parts: &mut Parts,
     context: &Context<'_>,

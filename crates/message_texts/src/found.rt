@@ -4,8 +4,8 @@ use ag_expr::{Cursor, ExprFault, refusal};
 
 /// Returns the token at an offset in bytes. If no token begins there, returns what looks like a
 /// number or an occurrence (an attribute such as `$1.sum`), for example a number that is too large.
-/// If there is none, returns the characters up to the next separator, at least one. None at the
-/// text's end, and if the offset is inside a character or after the text.
+/// If nothing there looks so, returns the characters up to the next separator, at least one. None
+/// at the text's end, and if the offset is inside a character or after the text.
 pub fn found_at(text: &str, at: usize) -> Option<&str> {
     let rest = text.get(at..)?;
     let mut cursor = Cursor::new(rest);

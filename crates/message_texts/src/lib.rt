@@ -6,11 +6,12 @@
 //! expressions and sentences, and those of grammars except A1, also have a function that locates
 //! them (`locate_..`).
 //!
-//! If memory is refused, some functions fail, and others write less or nothing. Most names of
-//! symbols and attributes are written as they are. Other parts of the input are written by
-//! `PlainText`, `QuotedText` and `FoundText` of `message_parts`. These write escapes, such as
-//! `\u{1b}`, for control characters, for white space other than the plain space, and for the
-//! characters in the list of `is_unseen`. That list doesn't have all invisible characters.
+//! If memory is refused, a function that returns a `Result` fails, unless its comment says that it
+//! writes less or nothing. Most names of symbols and attributes are written as they are. Other
+//! parts of the input are written by `PlainText`, `QuotedText` and `FoundText` of `message_parts`.
+//! These write escapes, such as `\u{1b}`, for control characters, for white space other than the
+//! plain space, and for the characters in the list of `is_unseen`. That list doesn't have all
+//! invisible characters.
 #![tactic(auto)]
 
 pub mod expected;

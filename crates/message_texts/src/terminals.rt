@@ -8,6 +8,7 @@ use message_parts::display::{END, MAX_NAMED, PlainText};
 use std::alloc::AllocError;
 
 /// Writes a terminal (a literal by its text, a class by its name) or the end of the sentence.
+/// Writes nothing for a literal that the grammar doesn't have.
 pub fn write_ahead(out: &mut String, grammar: &Grammar, ahead: Ahead) -> Result<(), AllocError> {
     match ahead {
         Ahead::Terminal(Terminal::Literal(number)) => {

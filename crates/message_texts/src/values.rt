@@ -43,7 +43,7 @@ fn describe_shown(parts: &mut Parts, value: &Value, shown: &str) -> Result<(), A
     }
 }
 
-/// Writes the limit for the size of values, which the error `big` says was exceeded.
+/// Writes the limit of the size of a value, since the error `big` means that a value exceeds it.
 fn write_size(out: &mut String) -> Result<(), AllocError> {
     let (most, max_of_text) = (
         GroupedNumber(MAX_WEIGHT as usize),

@@ -33,7 +33,8 @@ pub struct ConvertedPaths<'a> {
 impl FaultReport {
     /// Returns the report of a fault of the file at `path`, or of its content. The report names the
     /// file if the fault is F1 or D1, or R1, P2 or P3 of the tree in the file (`Fault::Run`). D1
-    /// and NoMemory of a pass are `Fault::Device` and `Fault::NoMemory`, never `Fault::Run`.
+    /// and NoMemory of a pass are `Fault::Device` and `Fault::NoMemory`, never `Fault::Run`, so a
+    /// message about NoMemory names no file.
     pub fn of_file(alloc: Global, fault: Fault, path: &str) -> FaultReport {
         let is_named = matches!(fault, Fault::File | Fault::Device | Fault::Run(_));
         let report = FaultReport::new(alloc, fault);
@@ -96,7 +97,7 @@ impl FaultReport {
         report.or_bare(written)
     }
 
-    /// Returns the report of a fault of the tree in the file of this name, or of the translation of
+    /// Returns the report of a fault of the tree in the file at `path`, or of the translation of
     /// this tree. Reads the file again, from the device `tree`, if a record is damaged (R1).
     pub fn of_tree<D: Device>(
         alloc: Global,
@@ -123,7 +124,8 @@ impl FaultReport {
     /// Returns the report of a fault of converting the tree in an old file. Reads the old file
     /// again, from the device `old`, if a record is damaged (R1). The report names the old file if
     /// that one is damaged or its tree exceeds a limit, or if the fault is D1 and the old file
-    /// can't be read (`can_read`). It names the new file after F1, and after any other D1.
+    /// can't be read (`can_read`). It names the new file after F1, and after any other D1. (The
+    /// caller reports F1 of the old file by `of_file`.)
     pub fn of_old_tree<D: Device>(
         alloc: Global,
         fault: Fault,
@@ -193,8 +195,8 @@ fn locate_fault_of_grammar(fault: &Fault, text: &GrammarText<'_>) -> Location {
     }
 }
 
-/// Returns whether the length of a device and its first byte, if it has one, can be read. (Of a
-/// folder that was opened in place of a file, the length can be read.)
+/// Returns whether a device can be read: its length, and its first byte if it has one. The length
+/// alone is not enough: it can be read if a folder was opened in place of a file.
 fn can_read<D: Device>(device: &mut D) -> bool
     ensures content { LeavesContent (D.is_honest device.new)
         (D.content device.old) (D.content device.new) }

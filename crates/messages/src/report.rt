@@ -12,7 +12,8 @@ pub struct FaultReport {
     pub fault: Fault,
     /// Where the fault is.
     pub location: Location,
-    /// The name of the file that the location is in, or that the fault is about.
+    /// The name of the file: the one that contains the location, or the one that the fault is
+    /// about.
     pub file: Option<String>,
     /// What was expected, what was found, and what to do.
     pub parts: Parts,

@@ -111,7 +111,7 @@ fn further_fault(
 /// Returns the number of the first symbol that is not productive (N4), if there is one. `clauses`
 /// has the clause of each production: its left side is productive if each symbol of its right side
 /// is. The grammar must have none of N1 to N3. So each symbol of a production is declared, and its
-/// number is below the count of declared symbols.
+/// number is below the count of declared symbols, as `Clauses::new` requires.
 fn unproductive(
     alloc: Global,
     raw: &RawGrammar,
@@ -130,7 +130,8 @@ fn unproductive(
 
 /// Returns the number of the first symbol that is not reached (N5), if there is one. `start` is the
 /// number of the start symbol. `edges` has an edge from the left side of each production to each
-/// symbol of its right side. The grammar must have none of N1 to N4.
+/// symbol of its right side. The grammar must have none of N1 to N4: N5 is its first fault only
+/// then.
 fn unreachable(
     alloc: Global,
     raw: &RawGrammar,
@@ -188,9 +189,10 @@ fn first_fault(alloc: Global, raw: &RawGrammar) -> Result<Option<Found>, NoMemor
     structure_fault(alloc, raw, &declared)
 }
 
-/// Returns the number of the start symbol, and the numbered productions. Moves the expressions of
-/// rules into these productions. Each expression lists its occurrences, and has no unbound name
-/// (`listed`).
+/// Returns the number of the start symbol, and the numbered productions. `literals` are the
+/// different literals. Symbols, attributes and literals must be within the limits, so that their
+/// numbers have 16 bits. Moves the expressions of rules into the productions. Each expression lists
+/// its occurrences, and has no unbound name (`listed`).
 fn number_productions(
     alloc: Global,
     symbols: &[RawSymbol],
@@ -211,9 +213,9 @@ fn number_productions(
     Ok((start, productions))
 }
 
-/// Returns the numbered grammar of a raw one. Moves names and expressions into it. `Grammar::new`
-/// requires an accepted grammar: the numbered one is accepted, since the raw one has no fault and
-/// is readable.
+/// Returns the numbered grammar of a raw one. Moves names and expressions into it, and copies each
+/// different literal. `Grammar::new` requires an accepted grammar: the numbered one is accepted,
+/// since the raw one has no fault and is readable.
 fn number(alloc: Global, raw: RawGrammar) -> Result<Grammar, NoMemory>
     requires right { HasNoFault raw }
     requires readable { IsReadable raw }

@@ -18,7 +18,7 @@ pub enum LimitKind {
     Items,
     /// A right side with more than 16 children, which are its symbols and classes. Tree files store
     /// the nodes of children, and nothing for a literal.
-    Stored,
+    Children,
     /// A literal of more than 255 bytes.
     LiteralLength,
     /// More than 1,024 different literals.
@@ -48,9 +48,8 @@ pub enum NormalFault {
     Unproductive(Named),
     /// N5: the first declared symbol that is not reached from the start symbol.
     Unreachable(Named),
-    /// N6: the production with this number (the first field) has no rule for the attribute with
-    /// this number (the third) at this place (the second): a synthesized one at place 0, or an
-    /// inherited one at a later place. Productions and attributes are numbered from 0.
+    /// N6: a production, a place and an attribute, each by its number from 0. The production has no
+    /// rule for this attribute, which is synthesized at place 0, or inherited at a later place.
     RuleMissing(usize, usize, usize),
     /// N7: the target at this offset is that of an earlier rule of the production.
     RuleDoubled(usize),

@@ -1,7 +1,12 @@
-//! Numbers the names of a grammar, and checks that it is accepted: that each symbol and attribute
-//! that it uses exists, that no symbol, and no attribute of one symbol, is declared twice, that its
-//! start symbol has a synthesized `out` and no inherited attribute, that it is complete and normal,
-//! that each symbol derives something and is reachable, and that it is within the limits.
+//! Checks a raw grammar, and replaces its names and literals by numbers. A grammar passes the check
+//! if
+//!
+//! - each symbol and attribute that it uses exists;
+//! - no symbol is declared twice, and no attribute of one symbol is;
+//! - its start symbol has a synthesized `out` and no inherited attribute;
+//! - each symbol derives something and is reachable;
+//! - it is complete and normal, and within the limits.
+//!
 //! docs/THEOREM.md explains these words.
 //!
 //! A function whose error is the type `NoMemory` fails only if memory is refused. No contract says

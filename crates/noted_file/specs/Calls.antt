@@ -16,7 +16,7 @@ initial_event bytes = (0, 0, true, bytes)
 abbrev pub open_event : List ℕ → Event
 open_event path = (1, 0, true, path)
 
--- the length of the file was requested, and `len` was the result; if `ok` is false, the request failed
+-- the length of the file was requested, and `len` was the result; if `ok` is false, the request failed and `len` means nothing
 abbrev pub length_event : Bool → ℕ → Event
 length_event ok len = (2, len, ok, [])
 

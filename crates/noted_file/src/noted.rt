@@ -51,9 +51,9 @@ fn fill_from<F: Read + Seek>(file: &mut F, at: u64, out: &mut [u8]) -> io::Resul
 }
 
 impl<F: Read + Write + Seek + OpenFile> NotedFile<F> {
-    /// Opens the file at `path` with the options `how`, and continues the record `before`. `rt` is
-    /// the runtime, which provides files. Fails with the system's error if the file can't be
-    /// opened; nothing is recorded then.
+    /// Opens the file at `path` with the options `how`. The file's record is `before` with an entry
+    /// for this call. `rt` is the runtime, which provides files. Fails with the system's error if
+    /// the file can't be opened; nothing is recorded then.
     pub fn open<Rt: Files<File = F>>(
         rt: &Rt,
         how: &OpenOptions,

@@ -7,7 +7,9 @@ use std::marker::{Model, PhantomData};
 
 /// The calls on one file with their results, newest first. The oldest entry has an initial content
 /// of the file. No clause says that the file had this content when it was first opened. The record
-/// occupies no memory, since `marker` has no bytes, and `events` exists only for proofs.
+/// occupies no memory, since `marker` has no bytes, and `events` exists only for proofs. The code
+/// does nothing with `marker`: the proofs by hand of `new` and `note` are about a struct with one
+/// field that is not ghost.
 #[derive(Drop)]
 pub struct CallRecord {
     marker: PhantomData<u8>,
@@ -15,6 +17,7 @@ pub struct CallRecord {
 }
 
 impl Model for CallRecord {
+    // only a type with `also_owns` can have a ghost field that is data and not a fact
     ghost also_owns = { λ _. ftrue };
 }
 

@@ -23,7 +23,7 @@ use Rattle.treefile.specs.records.Records.{copies_of, copy_of, left_synthesized,
 use Rattle.treefile.specs.records.Records.{values_up_to}
 use Rattle.origins.specs.Rows.{attribute_count, copied, copies_before, count_of_symbol, table_of}
 
--- where each pass is at most k, all values are there, each at its number
+-- if each pass is at most k, a record of pass k has the values of all attributes, each at its number
 own_value : (k : ℕ) (ps : List ℕ) (e : ℕ → Value) (following : List Value) (a : ℕ) (d : Value) → Each (λ p. p ≤ k) ps
     → a < length ps → get_or (values_up_to k ps e ++ following) a d ≡ e a
 own_value k [] e following a d all less = absurd (omega arith)
@@ -42,11 +42,11 @@ own_length k (p ∷ ps) e all =
     ap (λ b. length (cond b (e 0 ∷ []) [] ++ values_up_to k ps (λ a. e (suc a)))) test
     ∙ ap suc (own_length k ps (λ a. e (suc a)) (λ i n h. all (suc i) n h))
 
--- the value at an index after some values
+-- the value at index n + j of a list is the one at index j after its first n values
 after : (xs ys : List Value) (n j : ℕ) (d : Value) → length xs ≡ n → get_or (xs ++ ys) (n + j) d ≡ get_or ys j d
 after xs ys n j d e = ap (λ (z : ℕ). get_or (xs ++ ys) (z + j) d) (sym e) ∙ get_or-append-add xs ys j d
 
--- each of the first members of a list is a member
+-- what holds of each member of a list holds of each of its first n members
 each_of_first : (P : ℕ → Type 0) (n : ℕ) (xs : List ℕ) → Each P xs → Each P (take n xs)
 each_of_first P zero xs all i x e = absurd (let bad : ⊥ = cc in bad)
 each_of_first P (suc n) [] all i x e = absurd (let bad : ⊥ = cc in bad)
@@ -97,7 +97,7 @@ module _ (g : Grammar) (m : Passes) (k : ℕ) (legal : IsLegal g m) (last : IsLa
   synthesized_last : (s : ℕ) → Each (λ p. p ≤ k) (synthesized_passes g m s)
   synthesized_last s = each_of_first (λ p. p ≤ k) (synthesized_count (slice_get g.symbols s)) (m s) (last s)
 
-  -- the copy of the values of a tree of an item
+  -- the number of values that a record copies from a child is that of `copied`
   copy_length : (x : Item) (t : Tree) (v : Valuation) → Fits g x t → length (copy_of g m k t v) ≡ copied g x
   copy_length (item.Symbol s) (leaf c text) v f = elim f [ ]
   copy_length (item.Terminal (Literal l)) (leaf c text) v f = elim f [ ]
@@ -144,7 +144,7 @@ module _ (g : Grammar) (m : Passes) (k : ℕ) (legal : IsLegal g m) (last : IsLa
   attribute_length : (s : ℕ) → length (m s) ≡ attribute_count g s
   attribute_length s = legal.whole s ∙ symbol_length (slice_get g.symbols s)
 
-  -- what an argument stands for is where it should be
+  -- the value of an argument is at its index in the record
   pub argument_value : (q : Production) (ts : Forest) (v : Valuation) (o : Target) → FitsAll g (stored_items q.items) ts
       → SolvesAll NoRule g ts (children v) → HasKind g q o (used_kind o.place)
       → table_of g q (row g m k q ts v) o.place o.attr ≡ at v o.place o.attr

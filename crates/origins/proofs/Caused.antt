@@ -43,7 +43,7 @@ still_by r e f h same = let one : f ≡ h = λ i k. same k i in
 pub same_itself : (c : ErrorCode) → is_same_error (Some c) (Some c) ≡ true
 same_itself c = eq-eqb (number_of c) (number_of c) refl
 
--- with none exchanged it is,
+-- if a rule's value is an error, the rule has the same error with no argument's error exchanged
 pub still_none : (r : Rule) (e : Table) (c : ErrorCode) → fault_of (value_of r.expr.0 (environment r e)) ≡ Some c
     → is_still r e 0 ≡ true
 unfolding is_still
@@ -52,7 +52,7 @@ still_none r e c error =
     (λ k. ap (λ b. cond b (exchanged (environment r e k)) (environment r e k)) (le-ltb k 0 (omega arith)))
     ∙ ap (λ z. is_same_error z z) error ∙ same_itself c
 
--- and with all exchanged it isn't, where the error doesn't arise in the rule
+-- if no error arises in a rule, the rule doesn't have the same error with the errors of all arguments exchanged
 still_all : (r : Rule) (e : Table) → is_arising e r ≡ false → is_still r e (length r.args) ≡ false
 unfolding arises is_still
 still_all r e quiet =
@@ -68,16 +68,7 @@ still_all r e quiet =
         ap (λ b. cond b (exchanged (environment r e k)) (environment r e k)) (le-ltb k (length r.args) past)
         ∙ sym (stays_clean (environment r e k) clean)
 
--- A rule that doesn't have the same error with none exchanged has no error;
-pub error_free : (r : Rule) (e : Table) → is_still r e 0 ≡ false → fault_of (value_of r.expr.0 (environment r e)) ≡ None
-error_free r e off = by_code r e off (fault_of (value_of r.expr.0 (environment r e))) refl
-  where
-    by_code : (r : Rule) (e : Table) → is_still r e 0 ≡ false → (c : Option ErrorCode)
-        → fault_of (value_of r.expr.0 (environment r e)) ≡ c → fault_of (value_of r.expr.0 (environment r e)) ≡ None
-    by_code r e off None is = is
-    by_code r e off (Some c) is = absurd (both_ways (is_still r e 0) off (still_none r e c is))
-
--- and in one that has it with all exchanged it arises.
+-- if a rule has the same error with the errors of all arguments exchanged, this error arises in the rule
 pub arises_here : (r : Rule) (e : Table) → is_still r e (length r.args) ≡ true → is_arising e r ≡ true
 arises_here r e on = by_test r e on (is_arising e r) refl
   where
@@ -86,7 +77,7 @@ arises_here r e on = by_test r e on (is_arising e r) refl
     by_test r e on true is = is
     by_test r e on false is = absurd (both_ways (is_still r e (length r.args)) (still_all r e is) on)
 
--- where a test turns from true to false
+-- if a test is true of 0 and false of n, it turns from true to false at some k
 turning : (f : ℕ → Bool) (n : ℕ) → f 0 ≡ true → f n ≡ false → (k : ℕ) × (f k ≡ true) × (f (suc k) ≡ false)
 turning f zero on off = absurd (both_ways (f 0) off on)
 turning f (suc n) on off = elim (cases_Bool (f n)) [ inl yet ↦ (n, yet, off) | inr no_more ↦ turning f n on no_more ]
@@ -107,7 +98,7 @@ exchanged_next k env clean j true false ea eb = absurd (apart j k ea eb)
 exchanged_next k env clean j false true ea eb = let same : j ≡ k = turn_at j k ea eb in
     sym (stays_clean (env j) (ap (λ z. fault_of (env z)) same ∙ clean))
 
--- the argument at the turn is an error
+-- the argument k at which `is_still` turns from true to false is an error
 pub not_clean : (r : Rule) (e : Table) (k : ℕ) → is_still r e k ≡ true → is_still r e (suc k) ≡ false
     → fault_of (environment r e k) ≡ None → ⊥
 unfolding is_still
@@ -142,7 +133,7 @@ source_of r e c error quiet =
       error = λ clean. not_clean r e k on off (ap fault_of (ap (value_at e) is) ∙ clean);
     }
 
--- a path one longer
+-- the tree at the end of a path with one more child number is that child of the tree at the end of the path
 tree_snoc : (t : Option Tree) (path : List ℕ) (i : ℕ) → tree_at t (path ++ i ∷ []) ≡ child_of (tree_at t path) i
 tree_snoc t [] i = refl
 tree_snoc t (j ∷ path) i = tree_snoc (child_of t j) path i
@@ -156,7 +147,7 @@ module _ (g : Grammar) (t : Tree) (v : Valuation) where
   abbrev pub Explained : List ℕ → ℕ → Type 0
   Explained path a = (fault_of (values_at v path [] a) ≡ None) ⊎ HasCause g t v path a
 
-  -- the value at a place of a node is that of the instance
+  -- the value of an attribute at a place of a node is that of the attribute of the node at this place
   at_instance : (path : List ℕ) (j a : ℕ) → values_at v (place_path path j) [] a ≡ at (values_at v path) j a
   at_instance path zero a = refl
   at_instance path (suc i) a = ap (λ (w : Valuation). w [] a) (values_snoc v path i)

@@ -23,7 +23,7 @@ use Rattle.origins.specs.declared.walk.Open.{Open}
 reverse_more : {X : Type 0} (x : X) (xs : List X) → reverse (x ∷ xs) ≡ reverse xs ++ x ∷ []
 reverse_more x xs = reverse-append (x ∷ []) xs
 
--- the path below open nodes, the root's first
+-- the path below open nodes, from the numbers of the children in the order from the root down
 way_turned : (d : Direction) (os : List Open) → way d os ≡ map (last_of d) (reverse os)
 way_turned d [] = refl
 way_turned d (o ∷ os) =
@@ -33,12 +33,12 @@ way_turned d (o ∷ os) =
 pub way_of : (d : Direction) (nodes : List Open) → way d (reverse nodes) ≡ map (last_of d) nodes
 way_of d nodes = way_turned d (reverse nodes) ∙ ap (map (last_of d)) (reverse-reverse nodes)
 
--- a child as it is in the list
+-- a child, with its number and its values
 abbrev kid_of : ℕ → Tree → Valuation → Kid
 kid_of n t v = record { number = n; tree = t; values = v }
 
 module _ (g : Grammar) (m : Passes) (k : ℕ) where
-  -- the records of all children
+  -- the records of all children, one child after the other, are those of the list of their trees
   pub kids_bodies : (d : Direction) (n : ℕ) (ts : Forest) (vs : ℕ → Valuation)
       → flat_map (bodies_of_kid g m k d) (in_order d (kids n ts vs)) ≡ prefix_all d (bodies_of_all version_two g m k ts vs)
   kids_bodies LeftToRight n none vs = refl
@@ -56,7 +56,7 @@ module _ (g : Grammar) (m : Passes) (k : ℕ) where
       ∙ ap (λ (bodies : List (List ℕ)). prefix_all RightToLeft (bodies_of_all version_two g m k ts (rest vs)) ++ bodies)
       (append-nil (prefix RightToLeft (bodies_of version_two g m k t (vs 0))))
 
-  -- a child fits the item of its number
+  -- the tree of child i, with its values, is one of item i
   pub kid_recorded : (xs : List Item) (n : ℕ) (ts : Forest) (vs : ℕ → Valuation) (i : ℕ) (kid : Kid) (x : Item) → FitsAll g xs ts
       → SolvesAll NoRule g ts vs → AtEachNodeOf (WellAt (λ p. p ≤ k)) g m ts vs vs → slice_get (kids n ts vs) i ≡ Some kid
       → slice_get xs i ≡ Some x → IsRecorded g m k x kid.tree kid.values
@@ -70,7 +70,7 @@ module _ (g : Grammar) (m : Passes) (k : ℕ) where
   kid_recorded (y ∷ xs) n (more t ts) vs (suc i) kid x f s w at is =
       kid_recorded xs (suc n) ts (rest vs) i kid x f.1 s.1 w.1 at is
 
--- a child has its number
+-- child i of a list that is numbered from n on has the number n + i
 pub kid_number : (n : ℕ) (ts : Forest) (vs : ℕ → Valuation) (i : ℕ) (kid : Kid) → slice_get (kids n ts vs) i ≡ Some kid
     → kid.number ≡ n + i
 kid_number n none vs i kid e = absurd (let bad : ⊥ = cc in bad)
@@ -80,7 +80,7 @@ kid_number n (more t ts) vs zero kid e =
     omega arith
 kid_number n (more t ts) vs (suc i) kid e = let later = kid_number (suc n) ts (rest vs) i kid e in omega arith
 
--- and there are as many as items
+-- there are as many children as items
 pub kids_length : (g : Grammar) (xs : List Item) (n : ℕ) (ts : Forest) (vs : ℕ → Valuation) → FitsAll g xs ts
     → length (kids n ts vs) ≡ length xs
 kids_length g [] n none vs f = refl
@@ -92,7 +92,7 @@ pub order_length : {X : Type 0} (d : Direction) (xs : List X) → length (in_ord
 order_length LeftToRight xs = refl
 order_length RightToLeft xs = length-reverse xs
 
--- the child at an index in the order of the walk
+-- the child at index i in the order of the walk is the one that a pass in this direction visits after i others
 pub ordered_at : {X : Type 0} (d : Direction) (xs : List X) (i : ℕ) (x : X) → slice_get (in_order d xs) i ≡ Some x
     → slice_get xs (nth d (length xs) i) ≡ Some x
 ordered_at LeftToRight xs i x e = e
@@ -134,7 +134,7 @@ module _ (g : Grammar) where
   count_ordered LeftToRight n ts vs = count_kids n ts vs
   count_ordered RightToLeft n ts vs = count_reverse (kids n ts vs) ∙ count_kids n ts vs
 
-  -- where there is no tree there are not any origins
+  -- no path leads to an origin if there is no tree
   pub none_below : (path : List ℕ) (v : Valuation) → HasOrigin g path None v → ⊥
   none_below [] v h = omega arith
   none_below (i ∷ path) v h = none_below path (λ p. v (i ∷ p)) h
@@ -174,7 +174,7 @@ module _ (g : Grammar) where
       let number : suc n + i ≡ n + suc i = omega arith in
       inr (subst (λ z. OccursIn g (kids (suc n) ts (rest vs)) (z ∷ path)) number (occurs_at (suc n) ts (rest vs) i path h))
 
-  -- the child of an origin, among children that are numbered from a number on
+  -- the path leads to an origin in the subtree of one of the children, which are numbered from n on
   pub record IsBelow (n : ℕ) (ts : Forest) (vs : ℕ → Valuation) (path : List ℕ) : Type 0 where
     pub number : ℕ
     pub deeper : List ℕ
@@ -196,7 +196,7 @@ module _ (g : Grammar) where
         })
   ]
 
-  -- an origin below a child is in the children in any order,
+  -- an origin in the subtree of child i occurs in the list of the children, in the order of any direction
   pub occurs_below : (d : Direction) (ts : Forest) (vs : ℕ → Valuation) (i : ℕ) (path : List ℕ)
       → HasOrigin g path (child ts i) (vs i) → OccursIn g (in_order d (kids 0 ts vs)) (i ∷ path)
   occurs_below d ts vs i path h =
@@ -204,7 +204,7 @@ module _ (g : Grammar) where
       occurs_ordered d (kids 0 ts vs) (i ∷ path)
       (subst (λ z. OccursIn g (kids 0 ts vs) (z ∷ path)) number (occurs_at 0 ts vs i path h))
 
-  -- and an origin in them is below one
+  -- an origin that occurs in the list of the children, in any such order, is in the subtree of one of them
   pub below_occurs : (d : Direction) (ts : Forest) (vs : ℕ → Valuation) (path : List ℕ)
       → OccursIn g (in_order d (kids 0 ts vs)) path → IsBelow 0 ts vs path
   below_occurs d ts vs path h = is_below 0 ts vs path (occurs_unordered d (kids 0 ts vs) path h)

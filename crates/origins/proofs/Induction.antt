@@ -53,7 +53,7 @@ start_plain g a start e =
     (subst (λ names. slice_get (map (λ n. Synthesized) start.symbol.syn ++ map (λ n. Inherited) names) a ≡ Some Inherited)
     start.plain h)
 
--- what holds of a child
+-- what holds at each node of the trees of a list holds at each node of tree i of the list
 child_holds : (R : List ℕ → List ℕ → Type 0) (g : Grammar) (m : Passes) (ts : Forest) (path : List ℕ) (n i : ℕ) (t : Tree)
     → HoldsIn R g m ts path n → child ts i ≡ Some t → HoldsAt R g m t (path ++ (n + i) ∷ [])
 child_holds R g m none path n i t h e = absurd (let bad : ⊥ = cc in bad)
@@ -95,7 +95,7 @@ root_holds R g m (item.Terminal (Literal l)) (node p ts) path f h = elim f [ ]
 root_holds R g m (item.Symbol s) (node p ts) path f h = let e : left_passes m (slice_get g.productions p) ≡ m s =
     ap (left_passes m) f.1 ∙ ap m f.2 in subst (R path) e h.0
 
--- something holds of the attributes of a kind of passes at a path
+-- Ok holds of each attribute at the path whose pass satisfies W; ps has the passes of the attributes there
 abbrev pub Of : (List ℕ → ℕ → Type 0) → (ℕ → Type 0) → List ℕ → List ℕ → Type 0
 Of Ok W path ps = (a p : ℕ) → slice_get ps a ≡ Some p → W p → Ok path a
 
@@ -127,7 +127,7 @@ one_closed : (Ok : List ℕ → ℕ → Type 0) (g : Grammar) (ts : Forest) (pat
     → child ts i ≡ Some t → Closed Ok g t (path ++ i ∷ [])
 one_closed Ok g ts path i t h e = subst (λ z. Closed Ok g t (path ++ z ∷ [])) (zero-add i) (child_closed Ok g ts path 0 i t h e)
 
--- it holds of the inherited attributes of an item of passes up to k
+-- Ok holds of those inherited attributes of the item x whose pass is at most k
 abbrev InheritedOk : (List ℕ → ℕ → Type 0) → Grammar → Passes → ℕ → Option Item → List ℕ → Type 0
 InheritedOk Ok g m k x path = (a p : ℕ) → slice_get (item_passes m x) a ≡ Some p → p ≤ k
     → slice_get (item_kinds g x) a ≡ Some Inherited → Ok path a
@@ -254,7 +254,7 @@ module _ (Ok : List ℕ → ℕ → Type 0) (g : Grammar) (m : Passes) (k : ℕ)
   pass_ok : (t : Tree) → Stays Ok g m k t
   pass_ok t = tree_ind (Stays Ok g m k) leaf_stays node_stays t
 
--- what holds of passes of a kind at each node
+-- if Ok holds of the attributes whose pass satisfies W, it holds of those whose pass satisfies X, if X implies W
 holds_weaker : (Ok : List ℕ → ℕ → Type 0) (W X : ℕ → Type 0) (g : Grammar) (m : Passes) → ((p : ℕ) → X p → W p)
     → (t : Tree) (path : List ℕ) → HoldsAt (Of Ok W) g m t path → HoldsAt (Of Ok X) g m t path
 holds_weaker Ok W X g m h t =
@@ -297,6 +297,6 @@ module _ (Ok : List ℕ → ℕ → Type 0) (g : Grammar) (m : Passes) (t : Tree
       (pass_ok Ok g m k accepted.complete accepted.normal legal t (item.Symbol g.start) [] fits closed (ok_below k)
       (λ a p e le y. absurd (start_plain g a accepted.start y)))
 
-  -- what every rule passes on holds of all attributes of a tree
+  -- a property that every rule passes on from its arguments to its target holds of all attributes of a tree
   pub attribute_induction : HoldsAt (λ path ps. (a p : ℕ) → slice_get ps a ≡ Some p → Ok path a) g m t []
   attribute_induction = holds_each Ok g m t [] ok_below

@@ -1,5 +1,5 @@
 -- What is known of the value of an expression without an evaluation.
-use Rattle.std.proofs.Common.{◌≡◌, ℕ, ℤ, zero, suc, pos, negsuc, true, false, List, [], ◌∷◌, map, Option, Some, None, refl, ap}
+use Rattle.std.proofs.Common.{◌≡◌, ℕ, ℤ, zero, suc, pos, negsuc, true, List, [], ◌∷◌, Option, Some, None, refl, ap}
 use Rattle.std.proofs.Common.{◌+◌, ◌<◌, ◌≤◌, arith, drop, get_or, length, sym, subst, ◌∙◌, ◌+ℤ◌, ◌-ℤ◌, ◌*ℤ◌}
 use Rattle.ag_value.specs.declared.value.ErrorCode.{ErrorCode}
 use Rattle.ag_value.specs.declared.value.ErrorCode.TheVariants as error
@@ -17,7 +17,7 @@ use Rattle.ag_grammar.specs.declared.syntax.node.Operator.{Operator}
 use Rattle.ag_grammar.specs.declared.syntax.node.Operator.TheVariants as operator
 use Rattle.ag_grammar.specs.declared.syntax.node.UnaryCall.{UnaryCall}
 use Rattle.ag_grammar.specs.declared.syntax.node.UnaryCall.TheVariants as unary
-use Rattle.ag_grammar.specs.expressions.Evaluation.{Meaning, chain_value, value_in, value_step}
+use Rattle.ag_grammar.specs.expressions.Evaluation.{Meaning, value_in, value_step}
 use Rattle.std.specs.Fmt.{signed_decimal}
 use Rattle.ag_value.specs.operations.Arguments.{either, truth}
 use Rattle.ag_value.specs.operations.Arguments.{fault_at, fault_of, fault_or, first_fault, has_fault, leftmost, strict}
@@ -36,7 +36,7 @@ use Rattle.origins.specs.declared.forms.Known.TheVariants as known
 number_clean : (n : ℤ) → fault_of (value.Num n) ≡ None
 number_clean n = ap fault_at (outs-Num n)
 
--- like values
+-- a value that is like an error is an error
 like_error : (o : Option ErrorCode) (v w : Value) → has_fault o ≡ true → IsLike o v w → has_fault (fault_of w) ≡ true
 like_error None v w e like = absurd (let bad : ⊥ = cc in bad)
 like_error (Some c) v w e like = like
@@ -67,7 +67,7 @@ value-EmptyTable env bound =
     ap (λ (e : Node). value_in e env bound) (sym node_of.rolls-EmptyTable)
     ∙ ap (λ (f : Meaning). f env bound) (fold-roll-Node Meaning value_step Node-F.EmptyTable)
 
--- the leftmost error among arguments
+-- if the first argument is an error, the result is this error
 strict_first : (v : Value) (vs : List Value) (w : Value) (o : Option ErrorCode) → fault_of v ≡ o → has_fault o ≡ true
     → fault_of (strict (v ∷ vs) w) ≡ o
 unfolding leftmost
@@ -89,7 +89,7 @@ strict_one v w e = strict_next v [] w e ∙ strict_none w
 strict_clean : (v w u : Value) → fault_of v ≡ None → fault_of w ≡ None → strict (v ∷ w ∷ []) u ≡ u
 strict_clean v w u e h = strict_next v (w ∷ []) u e ∙ strict_one w u h
 
--- both of two arguments, or all of three, where the first ones are not errors
+-- if the first of two arguments is not an error, and the second one is the error of occurrence k, so is the result
 second_error : (env : ℕ → Value) (k : ℕ) (v w u : Value) → fault_of v ≡ None → Holds env (known.ErrorOf k) w
     → Holds env (known.ErrorOf k) (strict (v ∷ w ∷ []) u)
 second_error env k v w u clean h =

@@ -38,7 +38,7 @@ before_across (i ∷ p) (j ∷ q) (k ∷ r) a b = elim (or_cases (nat_lt i j) (n
       ])
 ]
 
--- the earlier one of two paths comes after neither
+-- the new path does not come before the earlier one of the two
 pub new_after_none : (first : Option (List ℕ)) (path : List ℕ) → is_before path (earlier first path) ≡ false
 new_after_none None path = before_self path
 new_after_none (Some first) path = elim (cases_Bool (is_before path first)) [
@@ -64,7 +64,7 @@ pub now_not_before : (first : Option (List ℕ)) (n : ℕ) (path : List ℕ) →
 now_not_before first zero path some = absurd (omega arith)
 now_not_before first (suc n) path some = new_after_none first path
 
--- the first path is the old one or the new one
+-- P holds of the first path after a node was read, if it holds of the old first path and of the node's path
 pub one_of_both : (P : List ℕ → Type 0) (first : Option (List ℕ)) (n : ℕ) (path : List ℕ) → ((p : List ℕ) → first ≡ Some p → P p)
     → (0 < n → P path) → (p : List ℕ) → first_after first n path ≡ Some p → P p
 one_of_both P first zero path old new p e = old p e
@@ -75,7 +75,7 @@ one_of_both P (Some first) (suc n) path old new p e = elim (cases_Bool (is_befor
   | inr off ↦ (let same : Some first ≡ Some p = ap (λ b. Some (cond b path first)) (sym off) ∙ e in old p same)
 ]
 
--- where there are some, the path is the earlier one
+-- if the node has rules in which an error arises, the first path is the earlier one of the two
 pub first_of_some : (first : Option (List ℕ)) (n : ℕ) (path : List ℕ) → 0 < n
     → first_after first n path ≡ Some (earlier first path)
 first_of_some first zero path some = absurd (omega arith)

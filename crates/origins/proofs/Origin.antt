@@ -1,4 +1,4 @@
--- An error that has a cause comes from an origin: so where a tree has none, no value of its solution is an error.
+-- An error that has a cause comes from an origin. So if a tree has no origin, no value of its solution is an error.
 use Rattle.std.proofs.Common.{ℕ, zero, suc, ◌≡◌, ◌<◌, ◌⊎◌, inl, inr, Bool, true, cond, List, [], ◌∷◌, ◌++◌, Option, Some, None}
 use Rattle.std.proofs.Common.{slice_get, refl, ap, ◌∙◌, sym, subst, arith}
 use Rattle.std.specs.List.{count_by}
@@ -16,7 +16,7 @@ use Rattle.origins.specs.Origins.{HasOrigin, arising_at, child, child_of, origin
 use Rattle.origins.proofs.Caused.{errors_have_causes}
 use Rattle.origins.proofs.Children.{none_below}
 
--- an origin at the end of a path
+-- if the tree at the end of a path has at its root a rule in which an error arises, the path leads to an origin
 origin_at : (g : Grammar) (path : List ℕ) (o : Option Tree) (v : Valuation) → 0 < arising_at g (tree_at o path) (values_at v path)
     → HasOrigin g path o v
 origin_at g [] o v h = h
@@ -75,7 +75,7 @@ zero_from : (n : ℕ) → (0 < n → ⊥) → n ≡ 0
 zero_from zero h = refl
 zero_from (suc n) h = absurd (h (omega arith))
 
--- where no path leads to an origin none is counted,
+-- if no path leads to an origin, the number of rules in which an error arises is 0
 mutual
   no_path : (g : Grammar) (t : Tree) (v : Valuation) → ((path : List ℕ) → HasOrigin g path (Some t) v → ⊥)
       → origin_count g t v ≡ 0
@@ -95,7 +95,7 @@ mutual
       let others = no_paths g ts (rest vs) (λ i path some. h (suc i) path some) in
       omega arith
 
--- and where none is counted no path leads to one
+-- if this number is 0, no path leads to an origin
 mutual
   no_origin : (g : Grammar) (t : Tree) (v : Valuation) (path : List ℕ) → origin_count g t v ≡ 0 → HasOrigin g path (Some t) v → ⊥
   no_origin g (leaf c x) v [] n h = omega arith

@@ -38,7 +38,7 @@ count_same f h (r ∷ rs) same =
     let others = count_same f h rs (λ i x e. same (suc i) x e) in
     sum_by-cons (λ x. cond (f x) 1 0) r rs ∙ omega (arith, first, others) ∙ sym (sum_by-cons (λ x. cond (h x) 1 0) r rs)
 
--- an error arises in a rule by what its arguments are
+-- if the arguments of a rule have the same values in two tables, an error arises in the rule with both or with neither
 arises_same : (r : Rule) (e f : Table)
     → ((k : ℕ) (o : Target) → slice_get r.args k ≡ Some o → e o.place o.attr ≡ f o.place o.attr) → is_arising e r ≡ is_arising f r
 arises_same r e f same =
@@ -60,7 +60,7 @@ row_count g m k q ts v legal last normal fits solves =
     arises_same r (table_of g q (row g m k q ts v)) (at v)
     (λ j o arg. argument_value g m k legal last q ts v o fits solves (normal i r is j o arg)))
 
--- a number in two bytes, and the bytes after it
+-- equal lists of bytes that begin with a number of two bytes have the same number, and the same bytes after it
 numbered_apart : (p r : ℕ) (xs ys : List ℕ) → p < 2 ^ 16 → r < 2 ^ 16 → to_be_bytes w16 p ++ xs ≡ to_be_bytes w16 r ++ ys
     → (p ≡ r) × (xs ≡ ys)
 numbered_apart p r xs ys a b e = (
@@ -70,7 +70,7 @@ numbered_apart p r xs ys a b e = (
   sym (drop_at (to_be_bytes w16 p) xs 2 refl) ∙ ap (drop 2) e ∙ drop_at (to_be_bytes w16 r) ys 2 refl,
 )
 
--- well values have one spelling
+-- the spelling of a well value is not empty; after this lemma: lists of well values with the same spellings are equal
 not_empty : (v : Value) (bytes : List ℕ) → IsWell v → spelling_of v ++ bytes ≡ [] → ⊥
 unfolding read_at
 not_empty v bytes well e =

@@ -1,5 +1,5 @@
 -- Which argument passes an error on to a rule.
-use Rattle.std.proofs.Common.{ℕ, ℤ, suc, ◌≡◌, ◌+◌, inl, inr, Bool, true, false, cond, [], Option, Some, None, slice_get, refl, ap}
+use Rattle.std.proofs.Common.{ℕ, ℤ, suc, ◌≡◌, ◌+◌, inl, inr, Bool, true, false, cond, [], Option, Some, None, refl, ap}
 use Rattle.std.proofs.Common.{◌≤◌, length, arith, ◌∙◌, sym}
 use Rattle.std.specs.Prelude.{nat_eq, nat_lt}
 use Rattle.std.proofs.lemmas.Bool.{cases_Bool, le-ltb, lt-ltb}
@@ -20,7 +20,7 @@ use Rattle.origins.specs.declared.forms.Known.TheVariants as known_as
 use Rattle.origins.proofs.Caused.{not_clean, number_clean, same_itself, stays_clean}
 use Rattle.origins.proofs.Quiet.{exchanged_differs}
 
--- An environment is like itself, and like the one with other errors in place of some.
+-- An environment is like itself, and like the one in which the errors of the first arguments are exchanged.
 alike_itself : (base : ℕ → Value) → AreAlike base base
 alike_itself base = record { each = λ k. like (fault_of (base k)) (base k) refl }
   where
@@ -51,7 +51,7 @@ module _ (r : Rule) (e : Table) (k : ℕ) (known : IsKnown (environment r e) r.e
       ≡ fault_of (exchanged_below n (environment r e) k)
   passed n = (known.holds (exchanged_below n (environment r e)) [] (alike_exchanged (environment r e) n)).0
 
-  -- the same error with those before it exchanged, and another one with it exchanged
+  -- with the errors before argument k exchanged the rule has the same error; with that of k exchanged too it doesn't
   known_before : (o : Option ErrorCode) → fault_of (environment r e k) ≡ o → is_still r e k ≡ true
   unfolding is_still
   known_before None is = absurd (let off : true ≡ false = sym own.1 ∙ ap has_fault is in let bad : ⊥ = cc in bad)
@@ -70,15 +70,15 @@ module _ (r : Rule) (e : Table) (k : ℕ) (known : IsKnown (environment r e) r.e
       ∙ ap (λ o. is_same_error (fault_of (environment r e k)) o) (passed (suc k) ∙ ap fault_of other)
       ∙ exchanged_differs (environment r e k) (fault_of (environment r e k))
 
-  -- the argument passes its error on,
+  -- argument k passes its error on
   pub known_source : IsSource r e k
   known_source = record { before = known_before (fault_of (environment r e k)) refl; after = known_after }
 
-  -- and it is one of the rule's
+  -- if the rule has no argument k, its value is not an error
   pub known_nowhere : length r.args ≤ k → fault_of (value_of r.expr.0 (environment r e)) ≡ None
   known_nowhere past = own.0 ∙ ap fault_of (ap (value_at e) (slice_get_past r.args k past)) ∙ number_clean
 
--- What is known not to be an error is none.
+-- if the value of a rule is known not to be an error, it is not an error
 pub known_clean : (r : Rule) (e : Table) → IsKnown (environment r e) r.expr.0 known_as.Clean
     → fault_of (value_of r.expr.0 (environment r e)) ≡ None
 known_clean r e known = known.holds (environment r e) [] (alike_itself (environment r e))
@@ -90,7 +90,7 @@ known_number r e n known =
 
 pub ruleset known_values = (known_clean, known_number)
 
--- where an argument is not an error, the rule has the same error with one more exchanged
+-- if argument k is not an error, the rule still has the same error with the errors of one argument more exchanged
 pub still_clean : (r : Rule) (e : Table) (k : ℕ) → is_still r e k ≡ true → has_fault (fault_of (environment r e k)) ≡ false
     → true ≡ is_still r e (k + 1)
 still_clean r e k on clean = by_code (fault_of (environment r e k)) refl

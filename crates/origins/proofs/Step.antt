@@ -51,7 +51,7 @@ abbrev pub moved : Open → Open
 moved o = record { production = o.production; children = o.children; visited = o.visited + 1 }
 
 module _ (g : Grammar) (m : Passes) (k : ℕ) (d : Direction) (t : Tree) (v : Valuation) (content : List ℕ) where
-  -- an open node without children to come is left
+  -- an open node without unvisited children is left
   leave_at : (at : ℕ) (o : Open) (os : List Open) (first : Option (List ℕ)) (count : ℕ) (fs : List Family)
       → o.children ≤ o.visited → AreOpen g m k (o ∷ os) fs → ReadsBack version_two content at (pending_bodies g m k d (o ∷ os) fs)
       → count + pending_count g d (o ∷ os) fs ≡ origin_count g t v
@@ -85,7 +85,7 @@ module _ (g : Grammar) (m : Passes) (k : ℕ) (d : Direction) (t : Tree) (v : Va
       → IsSoFar g m k d t v content at (o ∷ os) first count → IsSoFar g m k d t v content at os first count
   leave at o os first count done s = leave_at at o os first count s.families done s.fit s.read s.counted s.there s.pending s.all
 
-  -- an open node's next child comes
+  -- the next child of an open node is visited: its record is read next
   visit_at : (at : ℕ) (o : Open) (os : List Open) (x : Item) (first : Option (List ℕ)) (count : ℕ) (fs : List Family)
       → o.visited < o.children
       → ((q : Production) → IsProduction g o.production q
@@ -170,7 +170,7 @@ module _ (g : Grammar) (m : Passes) (k : ℕ) (d : Direction) (t : Tree) (v : Va
   visit at o os x first count less is s =
       visit_at at o os x first count s.families less is s.fit s.read s.counted s.there s.pending s.all
 
-  -- what is found before an offset is what should be there
+  -- at most one body is before an offset
   same_body : (at : ℕ) (body another : List ℕ) → next_before version_two content at ≡ Ok (Some body)
       → next_before version_two content at ≡ Ok (Some another) → body ≡ another
   same_body at body another e h = let both : ◌≡◌ {A = Result (Option (List ℕ)) FrameFault} (Ok (Some body)) (Ok (Some another)) =
@@ -350,7 +350,7 @@ module _ (g : Grammar) (m : Passes) (k : ℕ) (d : Direction) (t : Tree) (v : Va
       → AreOrigins g t v first count
   end at first count s = end_at at first count s.families s.counted s.there s.all
 
--- the root comes first
+-- at the beginning, the record of the root is read next
 pub begin : (g : Grammar) (m : Passes) (k : ℕ) (t : Tree) (v : Valuation) (content : List ℕ) → IsAccepted g → IsLegal g m
     → IsTreeOf g t → IsFileOfTree version_two g m k t v content
     → IsPending g m k (other (direction_of k)) t v content (length content) (item.Symbol g.start) [] None 0
@@ -372,7 +372,8 @@ begin g m k t v content accepted legal tree is =
       all = λ path h. inl (path, refl, h);
     }
 
--- how far a walk has come, over lists of open nodes with the innermost last
+-- The same steps for each tree of the file. `os` begins with the innermost open node. `old` and `new`, the lists of the code, end
+-- with it.
 pub read_token : (g : Grammar) (d : Direction) (content : List ℕ) (at : ℕ) (x : Item) (os : List Open) (first : Option (List ℕ))
     (count : ℕ) (body : List ℕ) → IsTokenBody body → next_before version_two content at ≡ Ok (Some body)
     → IsNextRecord g d content at x os first count → HasComeTo g d content (before_frame at body) os first count
@@ -395,7 +396,7 @@ read_node g d content at x old new first now count total body p vs accepted is e
     (reverse old) first now count total body p q vs accepted legal last entered.there is.well is.same found entered.count
     entered.first (next m k t v small legal last tree file))
 
--- the same of terms that are equal to these
+-- `HasComeTo` holds for values that are equal to those for which it holds
 pub come_same : (g : Grammar) (d : Direction) (content : List ℕ) (at at2 : ℕ) (os os2 : List Open)
     (first first2 : Option (List ℕ)) (count count2 : ℕ) → at2 ≡ at → os2 ≡ os → first2 ≡ first → count2 ≡ count
     → HasComeTo g d content at os first count → HasComeTo g d content at2 os2 first2 count2
@@ -405,7 +406,7 @@ come_same g d content at at2 os os2 first first2 count count2 a b c e h =
     (subst (λ (z : Option (List ℕ)). HasComeTo g d content at os z count2) (sym c)
     (subst (λ (z : ℕ). HasComeTo g d content at os first z) (sym e) h)))
 
--- the number of the pass in the header
+-- the number of the pass that the reader finds is the one in the header
 pass_is : (content : List ℕ) (pass : ℕ) (b : Bool)
     → ◌≡◌ {A = Result ℕ FrameFault} (cond b (Ok (pass_of content)) (Err NotATreeFile)) (Ok pass) → pass_of content ≡ pass
 pass_is content pass true e = cc

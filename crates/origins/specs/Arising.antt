@@ -1,4 +1,4 @@
--- When an error arises in the rule of a node, rather than being passed on by it from an argument. In these definitions r is a
+-- When an error arises in the rule of a node, rather than being passed on by an argument of the rule. In these definitions r is a
 -- rule, o an argument (its place and its number there), q a production, and v a value. In `arises`, e is an expression. In the
 -- other definitions, e is a table. All of this is this project's.
 use Rattle.std.specs.Prelude.{ℕ, Bool, false, nat_eq, pos, Option, Some, None, slice_get, if◌then◌else◌}

@@ -28,7 +28,7 @@ copied g (item.Symbol s) = synthesized_count (slice_get g.symbols s)
 copied g (item.Terminal (Class c)) = 1
 copied g (item.Terminal (Literal l)) = 0
 
--- the number of copies of the values at the first j of some items
+-- the number of copies that a record has of the values at the first j of some items, all of which are children
 abbrev pub copies_before : Grammar → List Item → ℕ → ℕ
 copies_before g [] j = 0
 copies_before g (x ∷ xs) zero = 0

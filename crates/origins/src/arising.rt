@@ -36,8 +36,8 @@ impl<'a> Row<'a> {
         eval(alloc, &rule.expr, &arguments, &mut meter)
     }
 
-    /// Evaluates a rule with each error among its arguments exchanged, as by `ExchangedErrors`. Fails
-    /// as `evaluate` does.
+    /// Evaluates a rule with each error among its arguments exchanged, as by `ExchangedErrors`.
+    /// Fails as `evaluate` does.
     fn evaluate_exchanged(&self, alloc: Global, rule: &Rule) -> Result<Value, NoMemory>
         requires arguments { length rule.now.args ≡ length rule.now.expr.1 }
         ensures { IfOk result (λ v. v ≡ value_of rule.now.expr.0 (λ k. exchanged (environment rule.now
@@ -163,7 +163,7 @@ impl<'a> Row<'a> {
     /// Returns whether a rule, whose value is the error `code`, has the same error with the errors
     /// among its first `number + 1` arguments exchanged. Requires that it has the same error with
     /// those among the first `number` exchanged. Evaluates the rule only if the argument `number`,
-    /// from 0, is an error. Fails as `evaluate` does.
+    /// from 0, is an error: otherwise one more exchange changes nothing. Fails as `evaluate` does.
     #[tactic(auto, using(crate::proofs::Sources::still_clean), unfolding(crate::specs::Causes::is_still))]
     fn is_still(
         &self,
@@ -189,8 +189,8 @@ impl<'a> Row<'a> {
         Ok(is_same_error(Some(code), error_of(&other)))
     }
 
-    /// Returns what is known of the value of a rule without an evaluation (`Known` lists what can be
-    /// known).
+    /// Returns what is known of the value of a rule without an evaluation. `Known` lists what can
+    /// be known.
     fn known(&self, rule: &Rule) -> Known
         ensures { IsKnown (environment rule.now (table_of self.now.grammar.now
             self.now.production.now self.now.values.now)) rule.now.expr.0 result }

@@ -10,7 +10,7 @@ use treefile::FrameFault;
 /// Why a record was not read.
 #[derive(Clone, Copy, Debug, PartialEq, Eq)]
 pub enum DecodeFault {
-    /// The body is not a record of the item that `record_of` got.
+    /// The body is not a record of the item that `record_of` got, as far as `record_of` checks it.
     Damaged,
     /// Memory was refused.
     NoMemory,

@@ -86,8 +86,8 @@ impl<'a> Row<'a> {
         known
     }
 
-    /// Returns what is known of `number(part)`. If the part is an argument whose value is a text that
-    /// spells a number, this number is known.
+    /// Returns what is known of `number(part)`. If the part is an argument whose value is a text
+    /// that spells a number, this number is known.
     #[cycle(knowing)]
     #[tactic(auto, using(crate::proofs::Knowing::known_unary))]
     fn number_known(&self, rule: &Rule, part: &Node) -> Known
@@ -182,8 +182,8 @@ fn spelled_number(text: &str) -> Option<i64>
     text.parse::<i64>().ok()
 }
 
-/// Returns what is known of a literal. Of a number within the limits of values the number is known,
-/// and of a text within them that it is not an error. Of any other literal nothing is known.
+/// Returns what is known of a literal. Of a number the number is known, and of a text within the
+/// limits of values that it is not an error. Of any other literal nothing is known.
 #[tactic(auto, using(crate::proofs::Knowing::known_literal))]
 fn literal_known(literal: &Literal) -> Known
     ensures { (base : ℕ → AttributeValue) → IsKnown base (node.Literal literal.now) result }
@@ -191,8 +191,8 @@ fn literal_known(literal: &Literal) -> Known
     literal_stated(literal)
 }
 
-/// Returns the same as `literal_known`. The contract is about the value of the literal, which is the
-/// error big or deep if the literal exceeds the limits of values.
+/// Returns the same as `literal_known`. The contract is about the value of the literal, which is
+/// the error big or deep if the literal exceeds the limits of values.
 fn literal_stated(literal: &Literal) -> Known
     ensures { States (fit literal.now) result }
 {
@@ -223,7 +223,8 @@ fn step_known(operator: Operator, left: Known, right: Known) -> Known
     }
 }
 
-/// Returns what is known of the result of an operator for two numbers.
+/// Returns what is known of the result of an operator for two numbers: a sum, a difference or a
+/// product of 64 bits. Of other results nothing is known.
 #[tactic(auto, using(crate::proofs::Knowing::operators))]
 fn operator_known(operator: Operator, left: i64, right: i64) -> Known
     ensures { StepsTo operator (Known.Number left) (Known.Number right) result }
@@ -267,7 +268,8 @@ fn product_known(left: i64, right: i64) -> Known
 }
 
 /// Returns what is known of a call with one argument. If the argument is an error, the result is
-/// this error, except for `iserr`.
+/// this error, except for `iserr`. The result of `iserr`, and that of `text` for a number, is not
+/// an error.
 #[tactic(auto, using(crate::proofs::Knowing::unary_calls))]
 fn unary_known(call: UnaryCall, argument: Known) -> Known
     ensures { CallsTo call argument result }
@@ -314,8 +316,9 @@ fn other_known(first: Known, second: Known) -> Known
     }
 }
 
-/// Returns what is known of `if condition then one else other`. It is `other` if the condition is 0,
-/// and `one` if it is another number. If the condition is an error, the result is this error.
+/// Returns what is known of `if condition then one else other`. The result is `other` if the
+/// condition is 0, and `one` if it is another number. If the condition is an error, the result is
+/// this error.
 #[tactic(auto, using(crate::proofs::Knowing::choices))]
 fn choice_known(condition: Known, one: Known, other: Known) -> Known
     ensures { ChoosesTo condition one other result }

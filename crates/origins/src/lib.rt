@@ -1,5 +1,5 @@
-//! Finds where errors come from in the tree of a tree file of the last pass: the rules in which an error
-//! arises, rather than being passed on by one of the rule's arguments.
+//! Finds where errors come from in a tree whose tree file the last pass wrote: the rules in which
+//! an error arises, rather than being passed on by one of the rule's arguments.
 #![tactic(auto)]
 
 mod arising;

@@ -17,7 +17,7 @@ use treefile::{Kind, MAX_VALUES, split_body};
 pub enum LastRecord {
     /// A node: the number of its production, and its values.
     Node(u16, Items<Value>),
-    /// A token.
+    /// A token. Its text is not read: the record of the token's parent has it too.
     Token,
 }
 

@@ -9,6 +9,9 @@ use ag_value::Value;
 
 /// The values in the record of a node in the file of the last pass: those of its own attributes,
 /// copies of its children's synthesized ones, and the texts of the tokens among its children.
+///
+/// Two invariants: the production has at most 64 items (`few`), so indices of values don't
+/// overflow; and the values are well (`well`), as evaluations require.
 #[derive(Drop)]
 pub struct Row<'a> {
     /// The grammar.

@@ -31,7 +31,7 @@ fn synthesized_count(grammar: &Grammar, symbol: u16) -> usize
     }
 }
 
-/// Returns the number of values that the record of a node has of the child at an item: those of a
+/// Returns the number of values that a node's record copies from the child at an item: those of a
 /// symbol's synthesized attributes, the text of a token, and none for a literal.
 fn copied(grammar: &Grammar, item: Item) -> usize
     ensures count { result ≡ copied grammar.now item }
@@ -44,7 +44,8 @@ fn copied(grammar: &Grammar, item: Item) -> usize
     }
 }
 
-/// Returns the number of values that a record copies from the first `children` children of a right side.
+/// Returns the number of values that a node's record copies from the first `children` children of a
+/// right side. Literals are not children.
 fn copies_before(grammar: &Grammar, items: &[Item], children: u16) -> usize
     requires { length items.now ≤ max_items }
     ensures count { result ≡ copies_before grammar.now (stored_items items.now) children }

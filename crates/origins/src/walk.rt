@@ -21,8 +21,9 @@ use backreader::Back;
 use std::alloc::Global;
 use treefile::Device;
 
-/// A bound of the number of turns of the loop in `find_origins`, for a tree of `MAX_NODES` nodes: one
-/// for each record but the root's, one to leave each node, and one in which no node is open.
+/// A bound on the number of turns of the loop in `find_origins`, for a tree of `MAX_NODES` nodes:
+/// one turn for each record but the root's, at most one to leave each node, and one in which no
+/// node is open.
 const MAX_TURNS: u32 = 2 * MAX_NODES + 1;
 
 /// Where errors arise in a tree.
@@ -99,15 +100,15 @@ fn is_before(path: &[u16], other: &[u16]) -> bool
 pub(crate) struct Open {
     /// The number of its production.
     pub(crate) production: u16,
-    /// The number of its children.
+    /// The number of its children. Literals are not children.
     pub(crate) children: u16,
     /// The number of children that were visited.
     pub(crate) visited: u16,
 }
 
 impl Open {
-    /// Returns the number, from 0 and from the left, of the child that was visited last. If none was
-    /// visited, returns the number of the child that is visited first.
+    /// Returns the number, from 0 and from the left, of the child that was visited last. If none
+    /// was visited, returns the number of the child that is visited first, or 0 without children.
     pub(crate) fn last(self, direction: Direction) -> u16
         ensures { result ≡ last_of direction self }
     {
@@ -214,7 +215,8 @@ impl Walk {
     }
 
     /// Enters a node whose record was read: counts its rules in which an error arises, and adds it
-    /// to the open nodes. Fails as `Origins::add_node` does.
+    /// to the open nodes. Fails as `Origins::add_node` does, and with NoMemory if memory is
+    /// refused.
     fn enter(
         &mut self,
         alloc: Global,
@@ -286,9 +288,10 @@ impl Walk {
         }
     }
 
-    /// Visits the next child of the innermost open node, or leaves the node if all its children were
-    /// visited. The caller removed `node` from the list of open nodes. It is put back before a child is
-    /// read. Fails as `read` does, and with R1 if the grammar does not have the node's production.
+    /// Visits the next child of `node`, or leaves `node` if all its children were visited. `node`
+    /// was the innermost open node, and the caller has removed it from the list of open nodes.
+    /// Before a child is read, `node` is put back. Fails as `read` does. Would fail with R1 if the
+    /// grammar lacked the node's production or its next child; in `find_origins` it has both.
     fn turn<D: Device>(
         &mut self,
         alloc: Global,
@@ -331,9 +334,9 @@ impl Walk {
         self.read(alloc, context, item, device)
     }
 
-    /// Ends the walk when no node is open. Fails with R1 if bytes are left between the header and the
-    /// records that were read, with D1 if a call of the device fails, and with NoMemory if memory is
-    /// refused.
+    /// Ends the walk when no node is open. Fails with R1 if there are bytes between the header and
+    /// the records that were read, with D1 if a call of the device fails, and with NoMemory if
+    /// memory is refused.
     fn end<D: Device>(mut self, device: &mut D) -> Result<Origins, WalkFault>
         requires ready { IsReady (D.is_honest device.old) (D.content device.old) self.back }
         ensures found { IfOk result (λ found. found ≡ self.found) }
@@ -374,7 +377,7 @@ pub fn find_origins<D: Device>(
         (D.failures device.old) (D.failures device.new) (IsErrOf result WalkFault.Device) }
 {
     let back = Back::start(alloc, device)?;
-    // a file that is read from its end has the children in the direction opposite to that of its pass
+    // read from its end, a file has the children in the direction opposite to that of its pass
     let context = WalkContext {
         grammar,
         direction: Direction::of_pass(back.pass()).turned(),

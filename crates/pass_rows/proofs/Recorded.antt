@@ -1,11 +1,10 @@
 -- Reading the body of a record.
 use Rattle.std.specs.List.{flat_map}
-use Rattle.std.specs.Int.{to_be_bytes, w16}
 use Rattle.std.specs.Int.Signed.{mag}
-use Rattle.std.specs.Prelude.{IfOk, OnOk}
+use Rattle.std.specs.Prelude.{OnOk}
 use Rattle.std.proofs.Common.{ℕ, ℤ, zero, suc, ◌≡◌, ◌+◌, ◌-◌, ◌^◌, ◌<◌, ◌≤◌, Bool, true, false, nat_le, if◌then◌else◌, List, []}
 use Rattle.std.proofs.Common.{◌∷◌, ◌++◌, ◌||◌, All, Some, slice_get, length, take, drop, get_or, Result, Ok, Err, refl, ap, ◌∙◌}
-use Rattle.std.proofs.Common.{sym, subst, arith, append_assoc, append-nil, length-append, length-drop, length-take, pos, negsuc}
+use Rattle.std.proofs.Common.{sym, arith, append_assoc, append-nil, length-append, length-drop, length-take, pos, negsuc}
 use Rattle.std.proofs.lemmas.Bool.{le-leb, leb-true, lt-leb, lt-ltb}
 use Rattle.std.proofs.lemmas.Grind.{flat_map-append}
 use Rattle.std.proofs.lemmas.List.{take_all, take_rest}
@@ -26,13 +25,13 @@ use Rattle.treefile.specs.records.Listed.{copied_count, copies_count, count_up_t
 use Rattle.treefile.specs.records.Records.{values_up_to}
 use Rattle.treefile.proofs.records.Spelled.{spelled_apart}
 use Rattle.treefile.proofs.records.Values.{count_of_values, values_well}
-use Rattle.treefile.specs.records.TreeFile.{body_from, kind_byte}
+use Rattle.treefile.specs.records.TreeFile.{body_from}
 use Rattle.passcode.specs.Settings.{Setting}
 use Rattle.pass_rows.specs.declared.reading.record.RecordFault.{RecordFault}
 use Rattle.pass_rows.specs.Places.{Table, copied_passes, copies, row_passes}
-use Rattle.pass_rows.specs.reading.Reading.{AllWell, AreTaken, AreUntaken, IsNodeBody, IsNodeRead, IsNoNode, IsNoNodeBody}
+use Rattle.pass_rows.specs.reading.Reading.{AllWell, AreTaken, IsNodeBody, IsNodeRead, IsNoNode, IsNoNodeBody}
 use Rattle.pass_rows.specs.reading.Reading.{IsNoRow}
-use Rattle.pass_rows.specs.reading.Reading.{IsTaken, IsUntaken, PrependsTo, one_value}
+use Rattle.pass_rows.specs.reading.Reading.{IsTaken, PrependsTo, one_value}
 
 -- A signed number of 64 bits is well.
 pub number_well : (z : ℤ) → mag z < 2 ^ 63 → IsWell (Num z)
@@ -50,10 +49,6 @@ number_well z small =
 -- 0 is well.
 pub zero_well : IsWell (Num (pos 0))
 zero_well = number_well (pos 0) (omega arith)
-
--- Equal lists begin with each other.
-pub occur_alone : (old new : List Value) → new ≡ old → PrependsTo old new
-occur_alone old new same = ([], same ∙ sym (append-nil old))
 
 -- Beginning with a list is transitive.
 pub occur_on : (old now new : List Value) → PrependsTo old now → PrependsTo now new → PrependsTo old new
@@ -114,7 +109,7 @@ taken_later k pass bytes old new one more row =
       only = λ w others well is. sym (is ∙ ap (λ b. flat_map spelling_of (if b then w ∷ [] else []) ++ others) r);
     }
 
--- The values of attributes, with one more at the beginning.
+-- The values f of attributes, with one more value v before them.
 abbrev pub cons : Value → (ℕ → Value) → ℕ → Value
 cons v f zero = v
 cons v f (suc a) = f a
@@ -163,20 +158,6 @@ more_taken read write p ps bytes rest left old mid new one more =
           more.only (λ a. h (suc a)) others (λ a. well (suc a)) (sym first);
     }
 
-pub first_untaken : (read p : ℕ) (ps bytes : List ℕ) → IsUntaken read p bytes → AreUntaken read (p ∷ ps) bytes
-first_untaken read p ps bytes nothing h others well is =
-    nothing (h 0) (flat_map spelling_of (values_up_to read ps (λ a. h (suc a))) ++ others) (well 0)
-    (is ∙ spelled_on (one_value read p (h 0)) (values_up_to read ps (λ a. h (suc a))) others)
-
-pub others_untaken : (read write p : ℕ) (ps bytes rest : List ℕ) (old mid : List Value) → IsTaken read write p bytes rest old mid
-    → AreUntaken read ps rest → AreUntaken read (p ∷ ps) bytes
-others_untaken read write p ps bytes rest old mid one nothing h others well is =
-    let following = flat_map spelling_of (values_up_to read ps (λ a. h (suc a))) ++ others in
-    nothing (λ a. h (suc a)) others (λ a. well (suc a))
-    (sym
-    (one.only (h 0) following (well 0)
-    (is ∙ spelled_on (one_value read p (h 0)) (values_up_to read ps (λ a. h (suc a))) others)))
-
 -- Bytes are not a row if the bytes after the first value are not a row of the other values.
 pub others_no_row : (read write p : ℕ) (ps bytes rest : List ℕ) (old mid : List Value) → IsTaken read write p bytes rest old mid
     → IsNoRow read ps rest → IsNoRow read (p ∷ ps) bytes
@@ -187,16 +168,7 @@ others_no_row read write p ps bytes rest old mid one none h well is =
     (one.only (h 0) (flat_map spelling_of others) (well 0)
     (is ∙ flat_map-append spelling_of (one_value read p (h 0)) others)))
 
--- The text of a token is taken as the value of one attribute of pass 0.
-pub text_taken : (read write : ℕ) (bytes rest : List ℕ) (old new : List Value) → IsTaken read write 0 bytes rest old new
-    → AreTaken read write (0 ∷ []) bytes rest old new
-text_taken read write bytes rest old new one =
-    more_taken read write 0 [] bytes rest rest old new new one (none_taken read write rest new new refl)
-
-pub text_untaken : (read : ℕ) (bytes : List ℕ) → IsUntaken read 0 bytes → AreUntaken read (0 ∷ []) bytes
-text_untaken read bytes nothing = first_untaken read 0 [] bytes nothing
-
--- The values at items, with those of one more at the beginning.
+-- The values e at items, with those (f) at one more item before them.
 abbrev pub first_row : (ℕ → Value) → Table → Table
 first_row f e zero = f
 first_row f e (suc j) = e j
@@ -205,7 +177,7 @@ first_well : (f : ℕ → Value) (e : Table) → ((a : ℕ) → IsWell (f a)) �
 first_well f e g h zero a = g a
 first_well f e g h (suc j) a = h j a
 
--- The values of attributes with passes ps are followed by others: a valuation of the others.
+-- g has the values of attributes with passes ps, and then of others: the values of the others.
 abbrev after_of : List ℕ → (ℕ → Value) → ℕ → Value
 after_of [] g = g
 after_of (p ∷ ps) g = after_of ps (λ a. g (suc a))
@@ -223,7 +195,7 @@ values_parted k (p ∷ ps) qs g =
     (append_assoc (one_value k p (g 0)) (values_up_to k ps (λ a. g (suc a)))
     (values_up_to k qs (after_of ps (λ a. g (suc a)))))
 
--- A valuation of both.
+-- The values f of attributes with passes ps, and then the values g of others.
 abbrev joined : List ℕ → (ℕ → Value) → (ℕ → Value) → ℕ → Value
 joined [] f g = g
 joined (p ∷ ps) f g = cons (f 0) (joined ps (λ a. f (suc a)) g)
@@ -241,7 +213,7 @@ values_joined k (p ∷ ps) qs f g =
     ap (λ vs. one_value k p (f 0) ++ vs) (values_joined k ps qs (λ a. f (suc a)) g)
     ∙ sym (append_assoc (one_value k p (f 0)) (values_up_to k ps (λ a. f (suc a))) (values_up_to k qs g))
 
--- The copies at the items of a right side, as a table. Literals have no place in it.
+-- The copies g at the items of a right side, as a table. Literals have no place in it.
 abbrev table_of : Setting → List Item → (ℕ → Value) → Table
 table_of c [] g = λ j. g
 table_of c (item.Symbol s ∷ xs) g = first_row g (table_of c xs (after_of (copied_passes c (item.Symbol s)) g))
@@ -271,7 +243,7 @@ copies_parted c k (item.Terminal (Class d) ∷ xs) g =
     ∙ ap (λ vs. values_up_to k (0 ∷ []) g ++ vs) (copies_parted c k xs (after_of (0 ∷ []) g))
 copies_parted c k (item.Terminal (Literal l) ∷ xs) g = copies_parted c k xs g
 
--- The values of a table as a valuation of the copies.
+-- The copies at the items of a right side, from a table: the converse of `table_of`.
 abbrev listed : Setting → List Item → Table → ℕ → Value
 listed c [] e = e 0
 listed c (item.Symbol s ∷ xs) e = joined (copied_passes c (item.Symbol s)) (e 0) (listed c xs (λ j. e (suc j)))
@@ -372,13 +344,6 @@ pub node_read : (c : Setting) (s p : ℕ) (body spellings : List ℕ) (old new :
     → IsNodeRead c s p body old new
 node_read c s p body spellings old new b taken = row_read c s p b.production body spellings old new b.there b.left b.same taken
 
--- The body of a node that begins with the bytes of another body.
-pub longer_body : (p : ℕ) (head rest body : List ℕ) → head ≡ body_from Node p [] → body ≡ head ++ rest
-    → body ≡ body_from Node p rest
-longer_body p head rest body is_head is_body =
-    is_body ∙ ap (λ (xs : List ℕ). xs ++ rest) is_head
-    ∙ ap (λ (xs : List ℕ). kind_byte Node ∷ xs) (ap (λ (xs : List ℕ). xs ++ rest) (append-nil (to_be_bytes w16 p)))
-
 -- A body that is not a node's body is not a node's record.
 pub no_node : (c : Setting) (s : ℕ) (body : List ℕ) → length c.grammar.productions ≤ 65536 → IsNoNodeBody c.grammar s body
     → IsNoNode c s body
@@ -417,10 +382,6 @@ pub no_row_left : (read write : ℕ) (ps bytes rest : List ℕ) (old new : List 
     → (length rest ≡ 0 → ⊥) → IsNoRow read ps bytes
 no_row_left read write ps bytes rest old new taken some h well is =
     some (ap length (sym (taken.only h [] well (is ∙ sym (append-nil (flat_map spelling_of (values_up_to read ps h)))))))
-
-pub no_row_taken : (read : ℕ) (ps bytes : List ℕ) → AreUntaken read ps bytes → IsNoRow read ps bytes
-no_row_taken read ps bytes nothing h well is =
-    nothing h [] well (is ∙ sym (append-nil (flat_map spelling_of (values_up_to read ps h))))
 
 -- A list of well values is the values of attributes if its length is their number of passes up to k.
 valued : (k : ℕ) (ps : List ℕ) (vs : List Value) → length vs ≡ count_up_to k ps → All IsWell vs
@@ -500,17 +461,9 @@ pub same_err : {A B : Type 0} (e f : RecordFault) → ◌≡◌ {A = Result A Re
     → ◌≡◌ {A = Result B RecordFault} (Err e) (Err f)
 same_err e f is = let same : e ≡ f = cc in ap (λ (e : RecordFault). Err e) same
 
-pub nothing_taken : (read write : ℕ) (ps bytes : List ℕ) (old : List Value) → ps ≡ [] → AreTaken read write ps bytes bytes old old
-nothing_taken read write ps bytes old is =
-    subst (λ (ps : List ℕ). AreTaken read write ps bytes bytes old old) (sym is) (none_taken read write bytes old old refl)
-
 pub on_ok : {A F : Type 0} {P Q : Type 0} (r : Result A F) → (P → Q) → OnOk r P → OnOk r Q
 on_ok (Ok a) f h = f h
 on_ok (Err e) f h = h
-
-pub if_ok : {A F : Type 0} {P Q : A → Type 0} (r : Result A F) → ((a : A) → P a → Q a) → IfOk r P → IfOk r Q
-if_ok (Ok a) f h = f a h
-if_ok (Err e) f h = h
 
 pub prefix_is : {X : Type 0} (xs : List X) (d : X) → 1 ≤ length xs → get_or xs 0 d ∷ take (length xs - 1) (drop 1 xs) ≡ xs
 prefix_is [] d h = absurd (omega arith)

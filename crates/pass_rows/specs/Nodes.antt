@@ -1,5 +1,5 @@
--- An open node before and after its instructions. Letters: p is a number, x an open node, and j a place. All definitions are
--- this project's.
+-- An open node at its first instruction, and after an instruction. Letters: p is a number, x an open node, and j a place. All
+-- definitions are this project's.
 use Rattle.std.specs.Prelude.{ℕ, ◌+◌}
 use Rattle.pass_rows.specs.declared.open_node.OpenNode.{OpenNode}
 
@@ -7,7 +7,7 @@ use Rattle.pass_rows.specs.declared.open_node.OpenNode.{OpenNode}
 abbrev pub first_at : (production base : ℕ) → OpenNode
 first_at p base = record { production = p; child = 0; place = 0; at = 0; base = base }
 
--- A node after its next instruction. The number p is that in the record of the child that was read last.
+-- A node after its next instruction, which enters no child. The number p is that in the record of the child that was read last.
 abbrev pub after_step : OpenNode → ℕ → OpenNode
 after_step x p = record { production = x.production; child = p; place = x.place; at = x.at + 1; base = x.base }
 

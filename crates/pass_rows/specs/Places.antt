@@ -1,8 +1,8 @@
 -- The remaining instructions of a node, the visited items of a right side, and the values of a node and of
 -- its children. Letters: c is a setting, q a production, x an item (in `rest_of` an open node), xs are items, j is a place (in
 -- `in_children` and `AgreesSoFar` a child, counted from 0), a an attribute, s a symbol, d a class or a direction, e a table, f
--- the values of a node, and k and p are passes. In `stored` and `AgreesSoFar` s is a table too. All definitions are this
--- project's.
+-- the values of a node, k and p are passes, and i and n numbers of elements or of children. In `stored` and `AgreesSoFar` s is a
+-- table too. All definitions are this project's.
 use Rattle.std.specs.Prelude.{ℕ, suc, ◌≡◌, ◌+◌, ◌-◌, ◌<◌, ◌≤◌, ◌⊎◌, List, [], ◌∷◌, ◌++◌, Some, slice_get, length, take, drop}
 use Rattle.std.specs.List.{flat_map}
 use Rattle.ag_value.specs.declared.value.Value.{Value}
@@ -59,7 +59,8 @@ copied_passes c (item.Terminal (Literal l)) = []
 abbrev pub row_passes : Setting → Production → List ℕ
 row_passes c q = c.passes q.left ++ flat_map (copied_passes c) q.items
 
--- The copies of the values at some items, of attributes of passes up to k, from left to right.
+-- The copies of the values at some items, of attributes of passes up to k, from left to right. e has the values by item, counted
+-- from 0, and attribute.
 abbrev pub copies : Setting → ℕ → List Item → Table → List Value
 copies c k [] e = []
 copies c k (x ∷ xs) e = values_up_to k (copied_passes c x) (e 0) ++ copies c k xs (λ j. e (suc j))
@@ -84,8 +85,8 @@ AgreesSoFar c q n e s = (j a p : ℕ) (x : Item) → slice_get (stored_items q.i
 abbrev pub Roots : Direction → ℕ → ℕ → (ℕ → Valuation) → Table → Type 0
 Roots d n i ws e = (b a : ℕ) → b < i → ws b [] a ≡ e (suc (leftmost d n i + b)) a
 
--- The values that are kept after a record was read: the row of a node, and nothing of a token, whose text is
--- among the copies.
+-- The values that are kept after the record of an item was read: the row of a node, and nothing of a token, whose text is among
+-- the copies. `old` are the stored values before the record was read, and `new` those after it.
 abbrev pub kept_values : Item → (old new : List Value) → List Value
 kept_values (item.Symbol s) old new = new
 kept_values (item.Terminal t) old new = old

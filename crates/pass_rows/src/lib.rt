@@ -17,8 +17,9 @@
 //!   whose record was read last comes directly after, so the child's values have slots too.
 //! - *Layout* of a production: its instructions in pass k, the number of values in the row of a
 //!   node and their passes, its places, and the slots of its rules. It is a `ProductionRow`, with a
-//!   `PlaceRow` for each place. These two types are not rows of values. The type `Layout` has the
-//!   layouts of all productions, and the hints.
+//!   `PlaceRow` for each place. These two types are not rows of values, nor are the results of the
+//!   methods `rows` of an assignment and of code. The type `Layout` has the layouts of all
+//!   productions, and the hints.
 //! - *Hint*: the slot of a stored value that may be equal to one that is to be read.
 //! - *Open* node: one that the pass has entered, and whose instructions are not finished.
 #![tactic(auto)]

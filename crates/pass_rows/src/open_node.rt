@@ -6,16 +6,16 @@ ghost use Rattle.pass_rows.specs.Nodes.{first_at, left_at, after_step};
 /// An open node: one that the pass has entered, and whose list of instructions is not finished.
 #[derive(Clone, Copy, PartialEq, Eq)]
 pub struct OpenNode {
-    /// The number of its production.
+    /// The number of the node's production.
     pub production: u16,
     /// The number in the record of the child that was read last: that of the child's production or
-    /// class. It is 0 if none was read.
+    /// class. It is 0 before a child is read.
     pub child: u16,
-    /// The place of the child that the pass entered last. It is 0 if it has entered none.
+    /// The place of the child that the pass entered last, or 0 if it has entered none.
     pub place: u16,
     /// The index of the next instruction in the node's list.
     pub at: usize,
-    /// The index at which its row begins among the stored values.
+    /// The index at which the node's row begins among the stored values.
     pub base: usize,
 }
 
@@ -40,8 +40,8 @@ impl OpenNode {
         }
     }
 
-    /// Returns the node after its next instruction, which does not enter a child. `child` is the
-    /// new value of the field `child`.
+    /// Returns the node after its next instruction, which is not `Go`. `child` is the new value of
+    /// the field `child`.
     pub fn after_step(self, child: u16) -> OpenNode
         requires { self.at + 1 < 2 ^ 64 }
         ensures { result ≡ after_step self child }
@@ -55,7 +55,7 @@ impl OpenNode {
         }
     }
 
-    /// Returns the node after its next instruction, which enters the child at this place.
+    /// Returns the node after its next instruction, the `Go` that enters the child at this place.
     pub fn left_at(self, place: u16) -> OpenNode
         requires { self.at + 1 < 2 ^ 64 }
         ensures { result ≡ left_at self place }

@@ -1,4 +1,4 @@
-//! The reasons for which a pass fails.
+//! The reasons for which a pass or an upgrade fails.
 
 ghost use Rattle.std.specs.Prelude.{◌≡◌};
 ghost use Rattle.pass_rows.specs.Faults.{run_fault_of_device, run_fault_of_frame, run_fault_of_turn};
@@ -12,12 +12,11 @@ use treefile::{DeviceFault, FrameFault};
 /// documents what its devices contain after a failure.
 #[derive(Clone, Copy, Debug, PartialEq, Eq)]
 pub enum RunFault {
-    /// R1: the content that is read is not the file of a tree of the grammar. A pass k, and a run of
-    /// all passes from k on, expects a file of pass k - 1. `upgrade` expects one of version 1 and
-    /// pass 0. The offset in bytes is 0 if the content does
-    /// not begin as a tree file of the expected version, and 4 if it is the file of another pass.
-    /// Otherwise it is the end of the frame that shows the damage, or the offset at which a frame
-    /// should end.
+    /// R1: the content that is read is not the file of a tree of the grammar. A pass k, and a run
+    /// of all passes from k on, expects a file of pass k - 1. `upgrade` expects one of version 1
+    /// and pass 0. The offset in bytes is 0 if the content does not begin as a tree file of the
+    /// expected version, and 4 if it begins as the file of another pass. Otherwise it is the end of
+    /// the frame that shows the damage, or the offset at which a frame should end.
     Damaged(u64),
     /// P2: the file encodes no tree of at most `MAX_DEPTH` levels (`MAX_REVERSED_LEVELS` for
     /// `upgrade`): the node of the next record would have a greater level.

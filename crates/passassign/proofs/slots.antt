@@ -1,4 +1,4 @@
--- The table of attributes, and the rows of dependencies.
+-- The table of attributes with its slots and rows, and the dependencies between slots.
 pub mod Few
 pub mod Linked
 pub mod Lists

@@ -1,4 +1,4 @@
--- Lists of strikes: adding to them, and good ones.
+-- Lists of good strikes, those that a search finds, and chains.
 pub mod Adding
 pub mod BothWays
 pub mod Chained

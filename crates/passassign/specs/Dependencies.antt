@@ -68,13 +68,13 @@ IsByArgument places head j i o u =
 abbrev pub head_of : ℕ → ℕ → Rule → ℕ → Strike
 head_of p r rule s = record { symbol = s; attr = rule.target.attr; production = p; rule = r; arg = 0 }
 
--- u is a dependency of rule r of production p
+-- u is a dependency of `rule`, which is rule r of production p; `places` has the item at each place of the production
 abbrev pub IsByRule : List Item → ℕ → ℕ → Rule → Dependency → Type 0
 IsByRule places p r rule u =
     (s : ℕ) × (symbol_of (slice_get places rule.target.place) ≡ Some s)
     × OfEach (IsByArgument places (head_of p r rule s) rule.target.place) rule.args u
 
--- u is a dependency of production p
+-- u is a dependency of q, which is production p
 abbrev pub IsByProduction : ℕ → Production → Dependency → Type 0
 IsByProduction p q u = OfEach (IsByRule (places_of q) p) q.rules u
 

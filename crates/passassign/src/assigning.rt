@@ -108,8 +108,9 @@ fn make_pass(
     Ok(struck.strikes)
 }
 
-/// Returns the certificate of the attributes without a pass, with the strikes of the last two
-/// passes. Directions alternate, so the pass of `first` had the direction of the next pass.
+/// Returns the certificate of the attributes without a pass. `first` and `second` are the strikes
+/// of the last two passes, in their order. Directions alternate, so the pass of `first` had the
+/// direction of the next pass.
 fn certificate_of(
     alloc: Global,
     progress: &PassesSoFar,

@@ -16,7 +16,8 @@ use ag_value::NoMemory;
 use std::alloc::Global;
 
 /// A dependency of a rule's target on an argument of the rule (Knuth 1968). Both are attributes of
-/// symbols: an argument that is the text of a token is known before all passes, and makes none.
+/// symbols. An argument that is the text of a token is known before all passes, so the target does
+/// not depend on it.
 #[derive(Clone, Copy, PartialEq, Eq)]
 pub(crate) struct Dependency {
     /// The strike of the target by this argument.
@@ -105,8 +106,8 @@ fn append_arguments(
 
 /// Returns the arguments of a rule: one for each of the distinct occurrences in its expression. The
 /// result of `occurrences` is not used. The call is there for its contract, which says that the
-/// occurrences are distinct (`different`). So the rule has at most `max_rules` arguments, and 16
-/// bits can index them.
+/// occurrences are distinct (`different`). So the arguments are distinct too. Each is one of at
+/// most 16 attributes at one of at most 17 places, so 16 bits can index them.
 fn arguments(rule: &Rule) -> &[Target]
     ensures lent { result.now ≡ rule.now.args }
     ensures different { AreDifferent rule.now.expr.1 }

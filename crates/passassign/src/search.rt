@@ -79,9 +79,10 @@ pub(crate) struct Struck {
     pub marks: Vec<bool>,
 }
 
-/// Returns whether the child at place `second` is the one at place `first`, or a pass in the
-/// direction visits it later. A rule with a target at `first` can't use what this pass computes at
-/// `second`. False if a place is 0, which is not a child. Does not allocate.
+/// Returns whether the child at place `second` is the one at place `first`, or comes after that one
+/// in the direction. In this case, what a pass in the direction computes at `second` comes too late
+/// for its rules with a target at `first`. Returns false if a place is 0, which is not a child.
+/// Does not allocate.
 pub fn is_same_or_later(direction: Direction, first: u16, second: u16) -> bool
     ensures { IsTrue result ↔ IsSameOrLater direction first second }
 {
@@ -176,8 +177,8 @@ fn strikes_of(
 
 /// Returns the strikes of a pass in a direction, and marks of the struck attributes. `states` is
 /// the table before the pass. The strikes of targets that a dependency bars come first, in the
-/// order of the dependencies. The strikes of targets that depend on a struck attribute follow, in
-/// the order in which those attributes are struck.
+/// order of the dependencies. Then, for each struck attribute in the order of striking, the strikes
+/// of the targets that depend on it follow, except those that are struck already.
 pub(crate) fn search(
     alloc: Global,
     dependencies: &Dependencies,

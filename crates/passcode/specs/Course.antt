@@ -53,7 +53,7 @@ IsVisited q k n j = (t : ℕ) × (t < n) × (j ≡ place_of q k t)
 
 -- In state s of pass k, an argument at place j that has pass p has got its value. One of three facts holds: p is an earlier pass;
 -- the argument is on the left side; or it is at a child in which pass k has run. (`IsAvailable` adds that p is at most k.) An
--- argument on the left side is inherited, since the grammar is normal, so its value was set before the pass came to this node.
+-- argument on the left side is inherited, since the grammar is normal, so its value was set before the node's list begins.
 abbrev pub IsFinal : Production → ℕ → State → ℕ → ℕ → Type 0
 IsFinal q k s j p = (p < k) ⊎ ((j ≡ 0) ⊎ IsVisited q k (run_count s.phase s.turn) j)
 

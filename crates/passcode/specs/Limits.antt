@@ -7,9 +7,9 @@ use Rattle.ag_grammar.specs.grammars.AttributeGrammar.{item_at}
 use Rattle.ag_grammar.specs.grammars.Passes.{Passes, HasPass, IsLegalFor, item_passes}
 use Rattle.passcode.specs.Course.{arity}
 
--- The production can be planned, that is, `generate` can make its lists: the numbers of its places, of its rules and of the
--- attributes at each place are within the limits, each attribute is computed by at most one rule, and each rule uses only
--- arguments that it may use.
+-- The production can be planned, that is, `generate` can make its lists: the numbers of its children, of its rules and of the
+-- attributes at each place are within the limits, at most one rule computes an attribute at a place, and each rule whose target
+-- has a pass uses only arguments that it may use.
 pub record IsPlanned (m : Passes) (q : Production) : Type 0 where
   pub places : arity q ≤ max_children
   pub rules : length q.rules ≤ max_rules

@@ -24,7 +24,7 @@ is_same o w = cond (nat_eq o.place w.place) (nat_eq o.attr w.attr) false
 abbrev pub rule_for : Production → Target → Option ℕ
 rule_for q o = position (λ u. is_same u.target o) q.rules
 
--- the instruction of a rule, unless it was run
+-- the instruction that computes o by the rule whose number is the third argument; none if there is no rule, or if it was run
 abbrev pub remaining_instruction : List ℕ → Target → Option ℕ → List Instr
 remaining_instruction done o None = []
 remaining_instruction done o (Some r) = cond (list_any (nat_eq r) done) [] (set_or_def o.place o.attr r ∷ [])
@@ -33,7 +33,7 @@ remaining_instruction done o (Some r) = cond (list_any (nat_eq r) done) [] (set_
 abbrev pub remaining_for : Passes → Production → ℕ → List ℕ → Target → List Instr
 remaining_for m q k done o = cond (is_pass k (pass_at m q o)) (remaining_instruction done o (rule_for q o)) []
 
--- these instructions for the attributes at a place, in the order of their numbers
+-- the instructions of `remaining_for` for each attribute at place j, in the order of the attributes' numbers
 abbrev pub remaining_at : Passes → Production → ℕ → List ℕ → ℕ → List Instr
 remaining_at m q k done j = flat_map (λ a. remaining_for m q k done (record { place = j; attr = a }))
     (range_with_len 0 (length (item_passes m (item_at q j))))

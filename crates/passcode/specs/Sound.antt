@@ -1,4 +1,4 @@
--- The conditions that `passrun` relies on when it runs a pass (this project's).
+-- The conditions that `pass_rows` and `passrun` rely on when a pass runs (this project's).
 use Rattle.std.specs.Prelude.{ℕ, suc, ◌≡◌}
 use Rattle.ag_grammar.specs.declared.grammar.Production.{Production}
 use Rattle.ag_grammar.specs.grammars.Accepted.{IsAccepted}

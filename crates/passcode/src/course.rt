@@ -96,7 +96,9 @@ impl<'a> ListContext<'a> {
     }
 
     /// Appends the instruction that computes an attribute at a place, if the attribute has this
-    /// pass and a rule computes it. Fails with NoMemory if memory is refused.
+    /// pass and a rule computes it. Other productions have the rules for the inherited attributes
+    /// of the left side and the synthesized ones of children. In the contracts of these methods
+    /// `[]` means that no rule was run before. Fails with NoMemory if memory is refused.
     fn append_instruction(&self, list: &mut Vec<Instr>, target: Target) -> Result<(), NoMemory>
         requires { length self.now.production.now.rules ≤ max_rules }
         ensures { OnOk result (list.new.items ≡ list.old.items ++ remaining_for
@@ -110,8 +112,8 @@ impl<'a> ListContext<'a> {
         Ok(())
     }
 
-    /// Appends the instructions that compute the attributes at a place that have this pass, in the
-    /// order of their numbers. Fails with NoMemory if memory is refused.
+    /// Appends the instructions by which this production computes attributes at a place in this
+    /// pass, in the order of the attributes' numbers. Fails with NoMemory if memory is refused.
     fn append_instructions(&self, list: &mut Vec<Instr>, place: u16) -> Result<(), NoMemory>
         requires { IsPlanned (passes_of self.now.assignment.now) self.now.production.now }
         ensures { OnOk result (list.new.items ≡ list.old.items ++ remaining_at

@@ -45,17 +45,17 @@ fn lists_of(
     Ok(lists)
 }
 
-/// Returns the code of an accepted grammar under a legal assignment: a list of instructions for each
-/// production and each pass up to the assignment's greatest.
+/// Returns the code of an accepted grammar under a legal assignment: a list of instructions for
+/// each production and each pass up to the assignment's greatest.
 ///
 /// A list has, for each place of the right side in the pass's direction, the `Get`; if a symbol is
 /// there, the `Set`s in the order of their attributes, and the `Go`; and the `Put`. Then come the
 /// `Def`s in the order of their attributes, and `End`. The `Set`s and `Def`s are those of the
 /// attributes that have the list's pass.
 ///
-/// Fails with NoMemory if the allocator refuses memory. Allocates only the code. For each list it looks
-/// up each attribute of the left side and of each child that is a symbol once, and searches for the
-/// attribute's rule only if the attribute has the list's pass.
+/// Fails with NoMemory if the allocator refuses memory. Allocates only the code. For each list it
+/// looks up each attribute of the left side and of each child that is a symbol once. It searches
+/// for the attribute's rule only if the attribute has the list's pass.
 pub fn generate(alloc: Global, grammar: &Grammar, assignment: &Assignment) -> Result<Code, NoMemory>
     requires { IsLegal grammar.now (passes_of assignment.now) }
     ensures agrees { IfOk result (Agrees grammar.now (passes_of assignment.now)) }

@@ -1,6 +1,7 @@
 //! The phase of a node while a pass runs its list.
 
-/// The phase of a node of a symbol: how far its list was run at the current child, or that it has ended.
+/// The phase of a node of a symbol: how far its list was run at the current child, or that the list
+/// has ended.
 #[derive(Clone, Copy, PartialEq, Eq)]
 pub enum Phase {
     /// Between two children, before the first one, or after the last one and before `End`.

@@ -57,7 +57,8 @@ continues_on s content (body ∷ bodies) at count start ((level, x) ∷ todo) le
     (continues_on s content bodies (before_frame at body) (suc count) start
     (before_others (other (direction_of s.pass)) (suc level) h.0 todo) left few on read.1 h.3)
 
--- The fault at which reading stops after a number of bodies: damage at the offset, or an exceeded limit.
+-- Reading stops for a fault (the last argument) at the offset `at`, after `count` bodies, with the children `todo` still to be
+-- read: it finds damage there, or a limit is exceeded.
 abbrev Stops : Source → List ℕ → (at count : ℕ) → Pending → RunFault → Type 0
 Stops s content at count todo (fault.Damaged there) =
     (there ≡ at) × IsWithin s todo count × Breaks s.version s.grammar s.passes s.pass todo (next_before s.version content at)
@@ -104,7 +105,7 @@ never_stops s content body at count level x ys todo fault.TooManyNodes le less f
 never_stops s content body at count level x ys todo fault.Device le less found is stops = stops
 never_stops s content body at count level x ys todo fault.NoMemory le less found is stops = stops
 
--- Reading from one offset stops for at most one fault.
+-- Reading from one offset stops for at most one fault, wherever it stops.
 one_stop : (s : Source) (content : List ℕ) (bodies others : List (List ℕ)) (from at there count : ℕ) (todo left rest : Pending)
     (e f : RunFault) → IsNumbered s.grammar → ReadsTo s.version content from bodies at
     → ReadsTo s.version content from others there
@@ -150,7 +151,7 @@ one_stop s content (body ∷ bodies) (another ∷ others) from at there count
     (omega arith)
     (subst (λ n. Stops s content at n left e) sum stops) (subst (λ n. Stops s content there n rest f) sum' stops')
 
--- The content does not begin as a tree file.
+-- If reading the header fails, the content does not begin as a tree file.
 no_file : (is : Bool) (pass : ℕ) (f : FrameFault) → (if is then Ok pass else Err frame_fault.NotATreeFile) ≡ Err f
     → (is ≡ false) × (f ≡ frame_fault.NotATreeFile)
 no_file true pass f e = absurd cc
@@ -160,8 +161,8 @@ is_file : (is : Bool) (pass n : ℕ) → (if is then Ok pass else Err frame_faul
 is_file true pass n e = (refl, cc)
 is_file false pass n e = absurd cc
 
--- A source is usable: a record can number its productions, the version's files can be read, and their records
--- have room.
+-- A source is usable: a record has room for the number of each production, files of the version can be read, and no
+-- record has more values than the version allows.
 pub record IsDecidable (s : Source) : Type 0 where
   pub few : IsNumbered s.grammar
   pub usable : IsUsable s.version
@@ -174,7 +175,7 @@ decidable c sound =
     record { few = fits.0; usable = version_two_usable; fits = fits.1 }
 
 module _ (s : Source) (sound : IsDecidable s) where
-  -- Reading up to an offset.
+  -- If reading arrives at an offset (`ArrivesAt`), it has read so far in the words of treefile (`ReadSoFar`).
   pub way_to : (content : List ℕ) (at : ℕ) (todo : Pending) (h : ArrivesAt s content at todo)
       → ReadSoFar s.version s.grammar s.passes s.pass content at (length h.bodies) todo
   way_to content at todo h =
@@ -249,13 +250,14 @@ module _ (s : Source) (sound : IsDecidable s) where
 
 -- ---- at most one fault shows
 
--- The header of a content shows a fault, or reading stops for one.
+-- The header of a content shows no fault, and reading stops for one.
 abbrev ShowsOnWay : Source → List ℕ → RunFault → Type 0
 ShowsOnWay s content f =
     IsReadable s content
     × ((todo : Pending) × (at : ℕ) × (arrival : ArrivesAt s content at todo)
     × Stops s content at (length arrival.bodies) todo f)
 
+-- The header of a content shows a fault, or reading stops for one.
 abbrev ShowsSomewhere : Source → List ℕ → RunFault → Type 0
 ShowsSomewhere s content f =
     ((is_tree_file s.version content ≡ false) × (f ≡ fault.Damaged 0))

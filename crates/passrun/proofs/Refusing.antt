@@ -1,4 +1,4 @@
--- The reasons for which a fault holds.
+-- Why the faults R1, P2 and P3 of a pass are true of the content that it reads.
 use Rattle.std.specs.Option.{option_map}
 use Rattle.std.specs.Prelude.{IsTrue}
 use Rattle.std.proofs.Common.{ℕ, suc, ◌≡◌, ◌+◌, ◌-◌, Bool, true, List, [], ◌∷◌, ◌++◌, Option, Some, None, Ok, Err, is_some, Bor}
@@ -39,13 +39,14 @@ use Rattle.passrun.proofs.Damage.{broken, decidable, unstarted}
 use Rattle.passrun.proofs.steps.Steps.{get_first}
 use Rattle.passrun.proofs.steps.MachineSteps.{Answers, begins_so, got_place}
 
--- A body was returned.
+-- If a returned option is `Some`, it has a body.
 pub some_lent : (found : Option (Bor (List ℕ))) → is_some found ≡ true
     → (body : List ℕ) × (option_map (λ (b : Bor (List ℕ)). b.now) found ≡ Some body)
 some_lent (Some body) e = (body.now, refl)
 some_lent None e = absurd cc
 
--- When the record of a child is fetched, that child is the first to be read, with the copy of its values.
+-- When the machine m, at the node x, fetches the record of the child at place j, that child is the first to be read from the
+-- content. `row` describes the child's place, and `values` are those of the child's copies in x's row.
 record FirstCome (c : Setting) (content : List ℕ) (m : Machine) (x : OpenNode) (j : ℕ) (row : PlaceRow) : Type 0 where
   values : ℕ → Value
   left : Pending
@@ -68,7 +69,7 @@ read_row c (item.Terminal (Class d)) p body old new h = (Text h.1.text ∷ [], h
 read_row c (item.Terminal (Literal l)) p body old new h = elim h [ ]
 
 module _ (c : Setting) (sound : IsSound c) where
-  -- The first child to be read when the record of a child is fetched.
+  -- At a `Get`, the child is the first to be read (`FirstCome`).
   first_come : (honest : Bool) (content : List ℕ) (m : Machine) (x : OpenNode) (j : ℕ) (row : PlaceRow)
       → RunsFrom c honest content m (Some x) → slice_get (list_at c x.production) x.at ≡ Some (instr.Get j)
       → Answers c x j (Some row) → honest ≡ true → FirstCome c content m x j row
@@ -107,7 +108,7 @@ module _ (c : Setting) (sound : IsSound c) where
       (length m.waiting.items + 1) content m.back z.left f z.readable z.here z.count
       (subst (λ n. IsUnfetched c row.item n content m.back f) count (h w))
 
-  -- The record of a child does not agree with its copy.
+  -- If the record of a child does not agree with the child's copy, the content is damaged.
   pub get_differs : (honest : Bool) (content : List ℕ) (m : Machine) (x : OpenNode) (j p n : ℕ) (row : PlaceRow)
       (back : BackState) (read ours theirs : List Value) (from start : ℕ) (answer : Bool) → RunsFrom c honest content m (Some x)
       → slice_get (list_at c x.production) x.at ≡ Some (instr.Get j) → Answers c x j (Some row)
@@ -132,7 +133,7 @@ module _ (c : Setting) (sound : IsSound c) where
       disagreed c sound row.item p (suc (length m.waiting.items + 1)) content h.body m.back.progress.at z.left m.values.items read
       h.taken z.values (λ same. not_true (other.1 same)) z.readable z.here (omega arith) (omega arith) (h.found w)
 
-  -- The content does not begin as a tree file.
+  -- If reading the header fails, the fault is true of the content: it does not begin as a tree file.
   pub not_started : (content : List ℕ) (view : BackState → ℕ) (f : FrameFault)
       → ReadsAs view (Err f) (pass_in version_two content) → IsRunFault c content (run_fault_of_frame f)
   not_started content view frame_fault.NotATreeFile exact =
@@ -151,7 +152,7 @@ module _ (c : Setting) (sound : IsSound c) where
       unfetched c sound (item.Symbol c.grammar.start) None 0 content state [] f readable here fresh
       (subst (λ s. IsUnfetched c (item.Symbol s) 0 content state f) is h)
 
-  -- No child is to be read, and a frame is left.
+  -- If no child is to be read and a frame is left, the content is damaged.
   pub left_over : (content : List ℕ) (at : ℕ) (body : List ℕ) → IsReadable (source c) content → ArrivesAt (source c) content at []
       → next_before version_two content at ≡ Ok (Some body) → IsDamaged (source c) content at
   left_over content at body readable here found =
@@ -169,7 +170,7 @@ module _ (c : Setting) (sound : IsSound c) where
   end_refused content at view frame_fault.Device readable here exact = tt
   end_refused content at view frame_fault.NoMemory readable here exact = tt
 
-  -- All records of a tree were read.
+  -- When the root is done, no child is to be read.
   pub end_come : (honest : Bool) (content : List ℕ) (to_honest : Bool) (to : List ℕ) (m : Machine)
       → RunsBetween c honest content to_honest to m None
       → WhenHonest honest (IsReadable (source c) content × ArrivesAt (source c) content m.back.progress.at [])

@@ -1,6 +1,6 @@
 -- Why a content is the file of no tree, or of no tree within the limits, and the offset at which that shows. A file is read from
 -- its end, and this offset is the first one at which damage is met or a limit is exceeded. In these definitions s is a source,
--- and `at` an offset in bytes from 0. All definitions are this project's.
+-- c a setting, d a direction, and `at` an offset in bytes from 0. All definitions are this project's.
 use Rattle.std.specs.Prelude.{ℕ, suc, ◌≡◌, ◌≢◌, ◌<◌, ◌≤◌, ◌⊎◌, List, [], ◌∷◌, length, true, false}
 use Rattle.ag_grammar.specs.declared.direction.Direction.{Direction}
 use Rattle.ag_grammar.specs.grammars.AttributeGrammar.{Grammar}
@@ -36,9 +36,9 @@ pub record IsReadable (s : Source) (content : List ℕ) : Type 0 where
   pub begins : is_tree_file s.version content ≡ true
   pub number : pass_of content ≡ s.pass
 
--- Reading some bodies turns the list of children to be read (the third argument, `todo`) into the list `left`. In such a list
--- each child x.1 has its level x.0. Each body is a record of the first child, whose level is within the limit, and the children
--- of this node, in the direction d, replace it in the list.
+-- Reading some bodies turns the list of children to be read (the third argument, `todo`) into the list `left`. An entry x of such
+-- a list has a child x.1 and its level x.0. Each body is a record of the first child, and its level is within the limit. In the
+-- list, the children of this child replace it, in the direction d.
 abbrev pub Leaves : Source → Direction → Pending → List (List ℕ) → Pending → Type 0
 Leaves s d todo [] left = todo ≡ left
 Leaves s d [] (body ∷ bodies) left = ⊥
@@ -60,14 +60,14 @@ pub record ArrivesAt (s : Source) (content : List ℕ) (at : ℕ) (todo : Pendin
   pub records : AreRecords s bodies todo
   pub few : length bodies ≤ s.nodes
 
--- After `count` bodies, the first child to be read exceeds neither the limit of levels nor that of nodes.
+-- After `count` bodies, the first child to be read, if there is one, exceeds neither the limit of levels nor that of nodes.
 abbrev pub IsWithin : Source → Pending → (count : ℕ) → Type 0
 IsWithin s [] count = Unit {0}
 IsWithin s (x ∷ xs) count = (x.0 ≤ s.depth) × (count < s.nodes)
 
 -- Reading meets damage at an offset that it reaches, and no limit is exceeded there. One of four facts holds: no frame ends
--- there, or a frame whose body is not a record of the first child to be read, or a frame though no child is to be read, or the
--- header though a child is still to be read.
+-- there; the frame that ends there has a body that is not a record of the first child to be read; a frame ends there, but no
+-- child is to be read; or the header ends there, but a child is still to be read.
 abbrev pub BreaksAt : Source → List ℕ → ℕ → Type 0
 BreaksAt s content at =
     (todo : Pending) × (arrival : ArrivesAt s content at todo) × IsWithin s todo (length arrival.bodies)
@@ -81,7 +81,8 @@ ShowsAt s content at =
     ⊎ (((is_tree_file s.version content ≡ true) × (pass_of content ≢ s.pass) × (at ≡ 4))
     ⊎ (IsReadable s content × BreaksAt s content at))
 
--- The limit of levels is exceeded before damage is met: reading reaches a child at a deeper level.
+-- The limit of levels is exceeded before damage is met: at the offset `at`, the child `next` is to be read at the level `level`,
+-- which is deeper than the limit, and after it `others`.
 pub record ExceedsDepth (s : Source) (content : List ℕ) : Type 0 where
   pub readable : IsReadable s content
   pub at : ℕ
@@ -91,8 +92,8 @@ pub record ExceedsDepth (s : Source) (content : List ℕ) : Type 0 where
   pub arrival : ArrivesAt s content at ((level, next) ∷ others)
   pub deep : s.depth < level
 
--- The limit of nodes is exceeded before damage is met: as many bodies were read as the limit allows, and a
--- child within the limit of levels is still to be read.
+-- The limit of nodes is exceeded before damage is met: as many bodies were read as the limit allows, and a child within the limit
+-- of levels is still to be read. The fields are as in `ExceedsDepth`.
 pub record ExceedsNodes (s : Source) (content : List ℕ) : Type 0 where
   pub readable : IsReadable s content
   pub at : ℕ

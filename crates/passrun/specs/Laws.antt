@@ -1,5 +1,6 @@
 -- The statements of the laws. All definitions are this project's. The letters: g is a grammar, m the passes of its attributes, k
--- the number of a pass, t a tree, u are values of its attributes. `which`, a, b and `sum` are as in `HasRunAll`.
+-- the number of a pass, t a tree, u are values of its attributes. `last`, `start`, `which`, a, b, `evals` and `sum` are as in
+-- `HasRunAll`.
 use Rattle.std.specs.Prelude.{ℕ, suc, ◌≤◌, ◌≡◌, ◌-◌, List}
 use Rattle.ag_grammar.specs.grammars.Accepted.{IsAccepted}
 use Rattle.ag_grammar.specs.grammars.AttributeGrammar.{Grammar}
@@ -68,6 +69,6 @@ ValuesAreTheSolution =
     → (h : HasRunAll g m 0 last start which a b evals sum) (t : Tree) (u : Valuation) (tree : IsTreeOf g t)
     (file : IsFileOfTree version_two g m 0 t u start) → IsTheSolution g m t (h.runs t u tree file).values
 
--- The greatest number in the rows of an assignment is its last pass.
+-- No attribute has a later pass than the greatest number in the rows of an assignment (`IsLastPass`).
 abbrev pub GreatestIsLast : Type 0
 GreatestIsLast = (last : ℕ) (rows : List (List ℕ)) → IsGreatest last rows → IsLastPass last (passes_of rows)

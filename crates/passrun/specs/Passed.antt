@@ -34,11 +34,11 @@ pub record IsPassed (c : Setting) (content to : List ℕ) (count evals : ℕ) : 
   pub nodes : count ≡ node_count tree
   pub rules : evals ≡ rules_of_pass c.passes c.write c.grammar tree
 
--- A pass runs between two devices: its transcript (the bodies read and written, `Transcript`) agrees with the reader (`state`)
--- and the writer (`out`). `honest` and `content` are those of the first device, `to_honest` and `to` those of the second. Each
--- body that was read is a record of the node that was expected next. The open nodes (`stack`, the innermost first) still have the
--- children `todo` to read. `values` are the values in memory, `root` is the number in the root's record, and `evals` the number
--- of rules that were evaluated.
+-- The pass of the setting c runs between two devices: its transcript (the bodies read and written, `Transcript`) agrees with the
+-- reader (`state`) and the writer (`out`). `honest` and `content` are those of the first device, `to_honest` and `to` those of
+-- the second. Each body that was read is a record of the node that was expected next. The open nodes (`stack`, the innermost
+-- first) still have the children `todo` to read. `values` are the values in memory, `root` is the number in the root's record,
+-- and `evals` the number of rules that were evaluated.
 pub record IsRunning (c : Setting) (root : ℕ) (honest : Bool) (content : List ℕ) (to_honest : Bool) (to : List ℕ)
     (state : BackState) (out : writing.Progress) (values : List Value) (stack : List OpenNode) (evals : ℕ) : Type 0 where
   pub transcript : Transcript

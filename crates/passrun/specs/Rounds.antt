@@ -33,18 +33,19 @@ abbrev pub other_last : Last → Last
 other_last A = B
 other_last B = A
 
--- A pass ran from the device that has the last file to the other one, and did not change the content that it
--- read.
+-- The pass of the setting c ran from the device that has the last file to the other one, and did not change the content that it
+-- read. a and b are the contents before the pass, and a_new and b_new those after it. `count` and `evals` are as in `IsPassed`.
 pub record IsPassedOn (c : Setting) (last : Last) (a b a_new b_new : List ℕ) (count evals : ℕ) : Type 0 where
   pub passed : IsPassed c (last_content last a b) (other_content last a_new b_new) count evals
   pub kept : last_content last a_new b_new ≡ last_content last a b
 
--- The sums of the counts with one more pass: the number of nodes is that of the pass.
+-- The counts `sum` of some passes together with those of one more, `passed`. The number of nodes is that of this pass.
 abbrev pub one_more : Passed → Passed → Passed
 one_more sum passed = record { nodes = passed.nodes; read = sum.read + passed.read; written = sum.written + passed.written }
 
--- The counts of `count` passes after pass k over a tree: they evaluated as many rules as the tree has in these passes, and each
--- pass read and wrote as many records as the tree has nodes. The number of nodes is 0 if no pass ran.
+-- The counts of `count` passes after pass k over the tree t. They evaluated `evals` rules: as many as the tree has in these
+-- passes. `sum` has the other counts: each pass read and wrote as many records as the tree has nodes. Its number of nodes is 0 if
+-- no pass ran.
 pub record HasCounted (g : Grammar) (m : Passes) (t : Tree) (k count evals : ℕ) (sum : Passed) : Type 0 where
   pub evals_are : evals ≡ sum_of_passes (λ p. rules_of_pass m p g t) k count
   pub none : count ≡ 0 → sum.nodes ≡ 0
@@ -76,9 +77,9 @@ pub record HasRunAll (g : Grammar) (m : Passes) (k last : ℕ) (start : List ℕ
   pub fresh : last ≡ k → last_content which a b ≡ start
   pub nothing : last ≡ k → (which ≡ A) × (evals ≡ 0) × (sum ≡ record { nodes = 0; read = 0; written = 0 })
 
--- The solution of a tree was computed: the content `last` is the file of its last pass, and `previous` that of the
--- pass before it (if there is one), with the only values that satisfy each equation at each node (Knuth 1968;
--- Jazayeri and Walter 1975).
+-- The solution of a tree was computed: the content `last` is the tree's file of the last pass, whose number is `passes`, and
+-- `previous` that of the pass before it (if there is one). The values v in them are the only ones that satisfy each equation at
+-- each node (Knuth 1968; Jazayeri and Walter 1975).
 pub record LeavesSolution (g : Grammar) (m : Passes) (passes : ℕ) (t : Tree) (v : Valuation)
     (last previous : List ℕ) : Type 0 where
   pub solution : IsTheSolution g m t v

@@ -1,8 +1,8 @@
 //! Runs the passes of a plan over a tree file. One pass reads the file of the previous pass from
 //! its end, computes the attributes of the pass, and writes the file of the pass (after Jazayeri
 //! and Walter 1975). All passes run in sequence, alternating between two devices. Of the tree, a
-//! pass keeps only the values of the nodes on the path from the root to the current node, and of
-//! their children; the tree files are on the devices.
+//! pass keeps in memory only the rows of the nodes on the path from the root to the current node,
+//! and the row of the child whose record was read last. The tree files are on the devices.
 //!
 //! `lib.rt` of `pass_rows` explains the words setting, node, level, place, known, row, copies,
 //! slot, layout, hint and open node. Words of this crate:

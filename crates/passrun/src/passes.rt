@@ -43,7 +43,8 @@ fn last_pass(plan: &Plan) -> u16
     plan.assignment().passes()
 }
 
-/// What the next pass runs with: the allocator, its setting, and the device that has the last file.
+/// What the next pass runs with: the allocator, the setting of the pass, and the device that has
+/// the last file.
 #[derive(Clone, Copy)]
 struct NextPass<'a> {
     alloc: Global,
@@ -105,7 +106,9 @@ fn next_pass<D: Device>(
     }
 }
 
-/// Returns the counts after one more pass: its number of nodes, and the sums of the records.
+/// Returns the counts after one more pass: the number of nodes of this pass, and the sums of
+/// records read and written. `sum` has the counts of the passes before, and `passed` those of this
+/// pass.
 fn one_more(sum: Passed, passed: Passed) -> Passed
     requires read { sum.read + passed.read < 2 ^ 64 }
     requires written { sum.written + passed.written < 2 ^ 64 }
@@ -120,9 +123,10 @@ fn one_more(sum: Passed, passed: Passed) -> Passed
 
 /// Runs the passes of a plan for a grammar from pass `first` to the greatest, in sequence. `first`
 /// is a number from 1 to one more than the greatest pass. The passes alternate between two devices:
-/// `a` has the file of pass `first` - 1, pass `first` writes its own file to `b`, the next pass
-/// reads that and writes to `a`, and so on. Evaluates each rule of these passes once at each node
-/// of its production. The meter counts these evaluations, and may be at most 2^62 before the call.
+/// pass `first` reads the file of pass `first` - 1 from `a` and writes its own file to `b`, the
+/// next pass reads that and writes to `a`, and so on. Evaluates each rule of these passes once at
+/// each node of its production. The meter counts these evaluations, and may be at most 2^62 before
+/// the call.
 ///
 /// Returns the device that has the file of the last pass, with the number of nodes of the
 /// tree, and the numbers of records read and written in all passes together. If `first` is one more
@@ -136,8 +140,8 @@ fn one_more(sum: Passed, passed: Passed) -> Passed
 /// hold if both devices return the bytes that were written to them. Fails with D1 (`Device`) if a
 /// call of one of the devices failed, and with `NoMemory` if memory cannot be allocated.
 ///
-/// Pass `first` overwrites the content of `b`, and the next pass the file on `a`, which is kept if at
-/// most one pass runs. After a failure the device that the failed pass was to read still has its
+/// Pass `first` overwrites the content of `b`, and the next pass the file on `a`, which is kept if
+/// at most one pass runs. After a failure the device that the failed pass was to read still has its
 /// content: what `a` had if pass `first` failed, and otherwise the file that the pass before the
 /// failed one wrote. The other device has the content from before the failed pass, or a prefix of a
 /// tree file. Uses the memory of one pass at a time.

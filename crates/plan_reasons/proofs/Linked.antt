@@ -17,7 +17,7 @@ use Rattle.plan_reasons.specs.Links.{AppendsLink, AreChainLinks, IsGeometry, IsL
 use Rattle.plan_reasons.specs.declared.links.Geometry.TheVariants as geometry
 use Rattle.plan_reasons.specs.declared.links.Link.{Link}
 
--- the link of what a strike names
+-- the link of a strike, found by the production, the rule and the argument that the strike names
 pub link_of_named : (g : Grammar) (x : Strike) (q : Production) (u : Rule) (o : Target) (r : Option Link) → Names g x q u o
     → IsLinkAt q u o x r → IsLinkOrNone g x r
 link_of_named g x q u o (Some l) names (strike, target, argument, symbol, attr) = record {
@@ -42,7 +42,7 @@ link_of_named g x q u o None names none = λ n.
     (subst (λ (p : Production). item_at p o.place ≡ Some (item.Symbol n.symbol)) (sym first)
     (subst (λ (t : Target). item_at n.production t.place ≡ Some (item.Symbol n.symbol)) (sym third) n.item))
 
--- links of the first strikes of a list
+-- these are the links of the first n strikes of the list xs
 pub record AreLinksUpTo (g : Grammar) (xs : List Strike) (n : ℕ) (links : List Link) : Type 0 where
   pub count : length links ≡ n
   pub each : (k : ℕ) (x : Strike) (l : Link) → slice_get xs k ≡ Some x → slice_get links k ≡ Some l → IsLinkOf g x l
@@ -73,7 +73,7 @@ links_whole g xs n links most least h = record {
   each = h.each;
 }
 
--- a good strike names an attribute
+-- a good strike names an argument that is an attribute of a symbol
 good_names : (g : Grammar) (d : Direction) (candidate struck : Attributes) (x : Strike) → IsGoodWhere g d candidate struck x
     → NamesAttribute g x
 good_names g d candidate struck x good = go (item_at good.production good.argument.place) refl good.reason
@@ -107,6 +107,6 @@ pub chain_links : (g : Grammar) (d : Direction) (candidate : Attributes) (s a : 
 chain_links g d candidate s a chain links is related =
     record { chain = chain; is_chain = is; are_links = related (chain_names g d candidate chain is.chain) }
 
--- an argument at the target's child or at a later one is at a later one if it is not at the target's
+-- if an argument is at the target's child or at a later child, and not at the target's place, it is at a later child
 pub later_ahead : (d : Direction) (j i : ℕ) → IsSameOrLater d j i → (i ≡ j → ⊥) → IsGeometry d j i geometry.Later
 later_ahead d j i ahead other = (ahead, elim ahead.2 [ inl same ↦ absurd (other same) | inr before ↦ before ])

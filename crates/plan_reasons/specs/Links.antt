@@ -54,8 +54,8 @@ IsLinkAt q u o x (Some l) =
 abbrev pub AppendsLink : Grammar → Strike → (old new : List Link) → Type 0
 AppendsLink g x old new = NamesAttribute g x → (l : Link) × IsLinkOf g x l × (new ≡ old ++ l ∷ [])
 
--- The links of a chain, in the chain's order. The chain begins with a strike of attribute a of symbol s. `candidate` says which
--- attributes no earlier pass computes (for a certificate: which are in its set).
+-- The links of a chain, in the chain's order. The chain begins with a strike of attribute a of symbol s. `candidate` holds of the
+-- attributes that no earlier pass computes (for a certificate: of those in its set).
 pub record AreChainLinks (g : Grammar) (d : Direction) (candidate : Attributes) (s a : ℕ) (links : List Link) : Type 0 where
   pub chain : List Strike
   pub is_chain : IsChainOf g d candidate s a chain

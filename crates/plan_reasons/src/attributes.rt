@@ -54,6 +54,7 @@ impl fmt::Display for OccurrenceName<'_> {
 
 /// Returns the attributes of the symbols of a grammar, symbol by symbol in declared order. Those of
 /// a symbol are in the order of their numbers: the synthesized ones, then the inherited ones.
+/// Requires at most 256 symbols, so that the number of each symbol fits in 16 bits.
 pub(crate) fn attributes_of(alloc: Global, symbols: &[Symbol]) -> Result<Vec<Attribute>, NoMemory>
     requires { length symbols.now ≤ max_symbols }
 {

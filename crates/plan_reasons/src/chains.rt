@@ -86,8 +86,9 @@ impl LeastPlan<'_> {
 
     /// Returns the links that show why a pass can't compute an attribute that has a later pass:
     /// those of the strikes that `Strikes::chain_of` returns. These strikes are a chain if the
-    /// field `strikes` has the strikes of the assignment, and `grammar` is its grammar. The result
-    /// is empty if the pass does not strike the attribute. Fails if memory is refused.
+    /// field `strikes` has the strikes of the assignment, and `grammar` is the assignment's
+    /// grammar. The result is empty if the pass does not strike the attribute. Fails if memory is
+    /// refused.
     pub fn links(
         &self,
         alloc: Global,

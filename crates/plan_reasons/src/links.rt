@@ -27,8 +27,8 @@ pub enum Geometry {
     AtHand,
 }
 
-/// A strike, with the parts of the grammar that it names: a rule that a pass can't evaluate, and
-/// one of its arguments that is an attribute of a symbol. A `Target` is an attribute at a place of
+/// A strike, with the parts of the grammar that it names: a rule that a pass can't evaluate, and an
+/// argument of this rule that is an attribute of a symbol. A `Target` is an attribute at a place of
 /// the production, by the numbers of the place and of the attribute. Place 0 is the left side, and
 /// the places from 1 are the children.
 #[derive(Clone, Copy)]
@@ -60,8 +60,8 @@ impl Link {
     }
 }
 
-/// Returns where an argument at place `second` is, for a pass of a direction. The target of its
-/// rule is at place `first`.
+/// Returns where an argument is, for a pass of a direction. The target of the rule is at place
+/// `first`, and the argument at place `second`.
 fn geometry_of(direction: Direction, first: u16, second: u16) -> Geometry
     ensures { IsGeometry direction first second result }
 {

@@ -1,4 +1,4 @@
--- The meaning for a plan of the tests of all its parts.
+-- An assignment and code are a plan if the tests of all their parts pass.
 use Rattle.std.proofs.Common.{ℕ, ◌≡◌, ◌+◌, ◌-◌, ◌<◌, ◌≤◌, List, [], Some, slice_get, get_or, length, map, option_map, inl, inr}
 use Rattle.std.proofs.Common.{ap, ◌∙◌, sym, refl, arith}
 use Rattle.std.proofs.lemmas.List.{length-map}
@@ -34,7 +34,7 @@ plan_of g rows code shape allowed agree = record {
   agrees = λ p k q xs is list. rw (let e : k ≡ k - 1 + 1 = let one = list.0 in omega arith in e) (agree p q is (k - 1) xs list.1);
 }
 
--- a pass number in an assignment of the right shape
+-- the greatest pass of an assignment of the right shape is at most 8,192
 most_of : (g : Grammar) (rows : List (List ℕ)) → HasNumbers g rows → (n : ℕ) → IsGreatest n rows → n ≤ max_passes
 most_of g rows numbers n greatest = elim greatest.there [
   | inl e ↦ omega arith
@@ -46,7 +46,7 @@ mapped_at : {A B : Type 0} (f : A → B) (xs : List A) (i : ℕ) (x : A) → i <
     → slice_get (map f xs) i ≡ Some (f x)
 mapped_at f xs i x less is = slice_get-map f xs i ∙ ap (option_map f) (slice_get_read xs (length xs) i x refl less is)
 
--- a row of a table, as it is read
+-- the elements that a function reads at an index of a table are those of the row there
 pub items_at : {A : Type 0} (rows : List (Vec A)) (i : ℕ) (v : Vec A) (xs : List A) → i < length rows → v ≡ get_or rows i v
     → xs ≡ v.items → slice_get (map (λ (w : Vec A). w.items) rows) i ≡ Some xs
 items_at {A} rows i v xs less is items = mapped_at (λ (w : Vec A). w.items) rows i v less is ∙ ap Some (sym items)
@@ -55,7 +55,7 @@ pub row_is : (rows : List (Vec (Vec Instr))) (i : ℕ) (v : Vec (Vec Instr)) →
     → slice_get (rows_of rows) i ≡ Some (row_of v.items)
 row_is rows i v less is = mapped_at (λ (w : Vec (Vec Instr)). row_of w.items) rows i v less is
 
--- the lists of a production, as they are read
+-- the lists that a function reads at the index of a production are the production's, at most 8,192 of them
 pub lists_at : (g : Grammar) (rows : List (List ℕ)) (code : Lists) (lists : List (Vec (Vec Instr))) (qs : List Production) (i : ℕ)
     (v : Vec (Vec Instr)) (xs : List (Vec Instr)) → HasShape g rows code → rows_of lists ≡ code → qs ≡ g.productions
     → i < length qs → v ≡ get_or lists i v → xs ≡ v.items → (row_of xs ≡ lists_of code i) × (length xs ≤ max_passes)

@@ -1,5 +1,5 @@
-//! Runs a list of instructions through the states of a node (`Course.antt` of `passcode`), and
-//! finds the first instruction that may not come next.
+//! Computes the state of a node before each instruction of a list (`Course.antt` of `passcode`),
+//! and finds the first instruction that may not come next in its state.
 
 ghost use Rattle.std.specs.Prelude.{ℕ, ◌≡◌, ◌<◌, ◌≤◌, ◌↔◌, IsTrue, Some, length};
 ghost use Rattle.ag_grammar.specs.Lists.{Has};

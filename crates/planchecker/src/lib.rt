@@ -1,6 +1,6 @@
 //! Checks of plans and of certificates. A plan is a legal assignment of passes and code that agrees
-//! with it. One kind of certificate shows that an assignment is the least one, the other that a
-//! grammar has no legal assignment.
+//! with it, both of the grammar's shape. One kind of certificate shows that an assignment is the
+//! least one, the other that a grammar has no legal assignment.
 #![tactic(auto)]
 
 mod certificate;

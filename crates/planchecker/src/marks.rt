@@ -11,8 +11,8 @@ use ag_grammar::limits::{MAX_ATTRIBUTES, MAX_SYMBOLS};
 const MAX_SLOTS: usize = MAX_SYMBOLS * MAX_ATTRIBUTES;
 
 /// Marks of attributes: one byte for each attribute that a grammar may have. The mark of attribute
-/// a of symbol s, both numbered from 0, is at index `s * MAX_ATTRIBUTES + a`. Contracts see the array
-/// as a list of any length, so the clauses `full` state its length.
+/// a of symbol s, both numbered from 0, is at index `s * MAX_ATTRIBUTES + a`. Contracts see the
+/// array as a list of any length, so the clauses `full` state its length.
 #[derive(Drop)]
 pub(crate) struct Marks {
     pub slots: [bool; MAX_SLOTS],

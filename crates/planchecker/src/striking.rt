@@ -3,8 +3,8 @@
 //!
 //! A strike names an attribute, a rule for it and an argument of that rule. It is good if this
 //! argument is a reason why the pass can't compute the attribute: the argument was struck before,
-//! or it is a candidate at the same child as the rule's target or at a child that the direction
-//! visits later.
+//! or it is a candidate at the same child as the rule's target or at a child that the pass visits
+//! later.
 
 ghost use Rattle.std.specs.Prelude.{ℕ, ◌≡◌, ◌↔◌, IfSome, IsSome, IsTrue, Some, slice_get, take};
 ghost use Rattle.ag_grammar.specs.declared.direction.Direction.{Direction as TheDirection};
@@ -20,16 +20,18 @@ use ag_grammar::{Direction, Grammar, Item, Production, Target};
 use passassign::{Strike, is_same_or_later};
 
 /// The candidates for a pass (attributes without an earlier pass), and those of them that the pass
-/// has to strike, since they have a later pass or none. The members `later` and `is_later` are about
-/// those to strike.
+/// has to strike, since they have a later pass or none. The members `later` and `is_later` are
+/// about those to strike.
 pub(crate) trait Candidates {
     /// The direction of the pass.
     ghost direction: { Self → TheDirection };
 
-    /// Whether attribute a of symbol s is a candidate, by these two numbers in the order s, a.
+    /// `candidates x s a` is the statement that attribute a of symbol s is a candidate, by the
+    /// value x of the type.
     ghost candidates: { Self → ℕ → ℕ → Type 0 };
 
-    /// Whether the pass has to strike attribute a of symbol s.
+    /// `later x s a` is the statement that the pass has to strike attribute a of symbol s, by the
+    /// value x.
     ghost later: { Self → ℕ → ℕ → Type 0 };
 
     /// Returns the direction of the pass.
@@ -44,8 +46,8 @@ pub(crate) trait Candidates {
     fn is_later(&self, symbol: u16, attr: u16) -> bool
         ensures { IsTrue result ↔ later self.now symbol attr };
 
-    /// The statement that an attribute that the pass has to strike is a candidate. Each type that
-    /// implements the trait has its proof.
+    /// The statement that each attribute that the pass has to strike is a candidate. An `impl` of
+    /// the trait contains the proof for its type.
     ghost within: { (x : Self) (s a : ℕ) → later x s a → candidates x s a };
 }
 

@@ -27,7 +27,7 @@ pub fn read_input<R: Files + Input>(
 }
 
 /// Returns the report of a fault of reading an input. After F1 the report names the file. For
-/// standard input its fault is J2 instead of F1.
+/// standard input, the report has the fault J2 in place of F1.
 pub fn report_of_input(alloc: Global, fault: Fault, input: InputPath<'_>) -> FaultReport {
     match (fault, input) {
         (Fault::File, InputPath::Standard) => FaultReport::new(alloc, Fault::Job(JobFault::Read)),
@@ -36,8 +36,7 @@ pub fn report_of_input(alloc: Global, fault: Fault, input: InputPath<'_>) -> Fau
     }
 }
 
-/// Reads a grammar, and returns its translator. Fails if the grammar can't be read or is refused,
-/// and if memory is refused.
+/// Reads a grammar, and returns its translator. Fails as `read_input` and `build_translator` do.
 pub fn read_translator<R: Files + Input>(
     rt: &R,
     alloc: Global,
@@ -47,8 +46,8 @@ pub fn read_translator<R: Files + Input>(
     build_translator(alloc, Source::new(grammar.name(), bytes.as_slice()))
 }
 
-/// Returns the translator of the grammar in a text. Fails if the grammar is refused, and if memory
-/// is refused.
+/// Returns the translator of the grammar in a text. Fails with the report of the fault with which
+/// `Translator::build` fails: the grammar is refused, or memory is.
 pub fn build_translator(alloc: Global, grammar: Source<'_>) -> Result<Translator, FaultReport> {
     match Translator::build(alloc, grammar.bytes) {
         Ok(translator) => Ok(translator),

@@ -18,7 +18,8 @@ const MAX_LINKS: usize = 40;
 const MAX_NAMES: u32 = 1_000;
 
 /// Writes a translation to the file at `path`:
-/// - prints it if this is a regular file that is also standard output;
+/// - prints it if the file is a regular one that is also standard output, which a new file would
+///   not be;
 /// - appends it to a file that is not a regular one, and to any existing file whose path begins
 ///   with /dev/ (but not /dev/shm/) or /proc/;
 /// - replaces any other file by a new one with its mode, and creates a missing file, in both cases
@@ -64,7 +65,8 @@ fn put<R: Files + Print>(rt: &R, alloc: Global, path: &str, bytes: &[u8]) -> Res
 }
 
 /// Returns whether a path begins with /dev/ or /proc/, where the system has devices and open files.
-/// Links are not followed. Returns false for /dev/shm/, where programs make files.
+/// (A path such as /dev/fd/3 means an open file. A new file in its place would not be the open
+/// one.) Links are not followed. Returns false for /dev/shm/, where programs make files.
 fn is_of_system(path: &str) -> bool {
     let is_device = path.starts_with("/dev/") && !path.starts_with("/dev/shm/");
     is_device || path.starts_with("/proc/")

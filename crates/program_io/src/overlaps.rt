@@ -55,9 +55,9 @@ pub fn check_inputs<R: Files>(
     Ok(())
 }
 
-/// Fails if the output at `path` is one of the inputs or, if there is a folder `work`, a work file
-/// in it. The output is a translation's file, or the tree file that `parse` or `upgrade` writes.
-/// Fails if memory is refused.
+/// Fails if the output at `path` is one of `inputs` or, if there is a folder `work`, a work file in
+/// it. The output is a translation's file, or the tree file that `parse` or `upgrade` writes. (For
+/// `upgrade`, `inputs` does not contain the old tree file.) Fails if memory is refused.
 pub fn check_output<R: Files>(
     rt: &R,
     alloc: Global,
@@ -75,8 +75,8 @@ pub fn check_output<R: Files>(
     }
 }
 
-/// Fails if one of the files at the paths `outputs` is one of those at the paths `inputs`, and if
-/// memory is refused. Does not compare the outputs with work files: `check_output` does.
+/// Fails if one of the regular files at the paths `outputs` is one of those at the paths `inputs`,
+/// and if memory is refused. Does not compare the outputs with work files: `check_output` does.
 pub fn check_outputs<R: Files>(
     rt: &R,
     alloc: Global,

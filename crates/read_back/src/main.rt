@@ -1,8 +1,8 @@
 //! `read_back [--old] PATH` reads a tree file from its end and prints the number of its records;
 //! with `--old` the file is one of version 1. `benches/run` measures the program, and
-//! `tests/refused-memory` runs it once for each of its requests for memory, and refuses the
-//! request. A call of the reader for which memory was refused is named on standard error and made a
-//! second time.
+//! `tests/refused-memory` runs it once for each request for memory that it makes, and refuses this
+//! request. If memory for a call of the reader is refused, the program names the call on standard
+//! error and makes it a second time, to test that a call can be repeated after NoMemory.
 #![tactic(auto)]
 
 ghost use Rattle.std.specs.Prelude.{IfOk};
@@ -74,9 +74,9 @@ fn run<R: Env + Eprint + Files + AllocGlobal>(rt: &R, alloc: Global) -> Result<u
     }
 }
 
-/// Returns the number of records of the tree file of a device. A call of the reader for which
-/// memory was refused is made a second time. Fails as `start_twice` does, or as `Back::back` does.
-/// The fault of a second call ends the reading, NoMemory too.
+/// Returns the number of records of the tree file of a device. Makes a call of the reader a second
+/// time if memory for it was refused. Fails as `start_twice` does, or as `Back::back` does. The
+/// fault of a second call ends the reading, NoMemory too.
 fn records<R: Eprint, D: Device>(
     rt: &R,
     alloc: Global,

@@ -98,7 +98,7 @@ pub out_within : (g : Grammar) (assignment : List (List ℕ)) (code : Lists) (la
 out_within g assignment code last a p body new plan greatest out read =
     slice_get_within new a (read.values a) (out_in_row g assignment code last a p body new plan greatest out read)
 
--- the record that was read is one of the pass before
+-- the record that was read with the setting of pass `last` + 1 is one of the file of pass `last`
 record_of : (g : Grammar) (assignment : List (List ℕ)) (code : Lists) (last p : ℕ) (body : List ℕ) (new : List Value)
     → (read : IsNodeRead (setting_of g (assignment, code) (last + 1)) g.start p body [] new)
     → IsNodeRecord version_two g (passes_of assignment) (last + 1 - 1) g.start body p read.production read.values
@@ -140,7 +140,7 @@ root_read g assignment code last a p body new x plan greatest out read is =
       value = same ∙ sym is;
     }
 
--- if no record of the start symbol was read, the body is not the root's
+-- if the body is not the record of a node of the start symbol in the file of pass `last`, it is not a root's record
 pub no_root : (g : Grammar) (assignment : List (List ℕ)) (code : Lists) (last : ℕ) (body : List ℕ) → IsGreatest last assignment
     → IsNoNode (setting_of g (assignment, code) (last + 1)) g.start body → (x : Value) → IsRootRecord g assignment body x → ⊥
 no_root g assignment code last body greatest nothing x root =
@@ -233,7 +233,7 @@ tree_is_found g assignment code last t v content accepted plan greatest fits is 
       },
     )
 
--- The result for any content is the translation if it is the file of a tree.
+-- What the result means for any content (`FindsText`) implies what it means for the file of a tree (`MatchesRoot`).
 pub found_matches_root : (g : Grammar) (assignment : List (List ℕ)) (code : Lists) (content : List ℕ)
     (r : Result (List ℕ) OutFault) → IsAccepted g → IsPlan g assignment code → FindsText g assignment content r
     → MatchesRoot g assignment content r

@@ -135,8 +135,8 @@ fn last_value<D: Device>(
 }
 
 /// Returns the translation, if it is a text: the value of the root's `out` in the file of the last
-/// pass, which is on the device. Reads only the last record of the file, which in the file of a
-/// tree is the root's.
+/// pass, which is on the device. Reads the header and the last record of the file, which in the
+/// file of a tree is the root's.
 ///
 /// Fails with O1 NoText and the value if it is a number, a list, a table or an error. Fails with B1
 /// NotATreeFile if there are fewer than 6 bytes or the first four are not `AGT2`. Otherwise fails

@@ -1,13 +1,14 @@
 -- A slice into which a part of a rope is being copied.
 use Rattle.std.proofs.Common.{◌≡◌, ◌≤◌, ◌+◌, ◌-◌, ℕ, suc, ◌∷◌, List, ◌++◌, [], length, take, drop, refl, sym, ap, ◌∙◌, arith}
 use Rattle.std.proofs.Common.{length-append, append_assoc}
-use Rattle.std.proofs.lemmas.List.{append-nil, drop-append-le, drop-drop, drop_all, drop_at, length-drop, length-take-le}
+use Rattle.std.proofs.lemmas.List.{drop-append-le, drop-drop, drop_at, length-drop, length-take-le}
 use Rattle.std.proofs.lemmas.List.{take-append-le, take_all}
 use Rattle.std.proofs.lemmas.Slice.{take-put_mid, take-put_mid_below, drop-put_mid}
 use borrow.Rule.Slice.PartMut.{put_mid}
 
--- The bytes of `out` from index `at` to index `end` are still to be copied: those of the rope from index `from` on. Then `out`
--- is `whole`.
+-- The bytes of `out` from index `at` to index `end` are still to be filled, with those of the rope from index `from` on. After
+-- that `out` is `whole`. In the lemmas the rope has the sides l and r, and each lemma states what is still to be copied after a
+-- step of the loop.
 pub record IsCopying (at end from : ℕ) (rope out whole : List ℕ) : Type 0 where
   pub whole_is : take at out ++ (take (end - at) (drop from rope) ++ drop end out) ≡ whole
   pub ordered : at ≤ end
@@ -134,23 +135,3 @@ right_copied at end from k middle m rope l r x out whole h e f le g n i =
       within = omega (arith, h.within, h.ordered);
       available = omega arith;
     }
-
--- the last piece was copied
-pub last_copied : (at end from k : ℕ) (piece x out whole : List ℕ) → IsCopying at end from piece out whole → k ≡ end - at
-    → x ≡ take k (drop from piece) → put_mid at k out x ≡ whole
-last_copied at end from k piece x out whole h e i =
-    let after : drop k (drop at out) ≡ drop end out =
-    drop-drop k at out ∙ ap (λ j. drop j out) (omega (arith, h.ordered)) in
-    ap (λ (t : List ℕ). take at out ++ (t ++ drop k (drop at out))) (i ∙ ap (λ j. take j (drop from piece)) e)
-    ∙ ap (λ (t : List ℕ). take at out ++ (take (end - at) (drop from piece) ++ t)) after ∙ h.whole_is
-
--- at first all bytes are to be copied
-pub first_copying : (from : ℕ) (rope out : List ℕ) → from + length out ≤ length rope
-    → IsCopying 0 (length out) from rope out (take (length out) (drop from rope))
-first_copying from rope out le = record {
-  whole_is = ap (λ (t : List ℕ). take (length out - 0) (drop from rope) ++ t) (drop_all (length out) out (omega arith))
-      ∙ append-nil (take (length out - 0) (drop from rope)) ∙ ap (λ i. take i (drop from rope)) (omega arith);
-  ordered = omega arith;
-  within = omega arith;
-  available = omega arith;
-}

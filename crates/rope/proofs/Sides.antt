@@ -10,19 +10,20 @@ same_right : (l r l' r' : List ℕ) → l ++ r ≡ l' ++ r' → length l ≡ len
 same_right l r l' r' e n =
     sym (drop_at l r (length l) refl) ∙ (ap (λ (t : List ℕ). drop (length l) t) e ∙ drop_at l' r' (length l) (sym n))
 
--- two lists have the same length, and are equal exactly if two other lists, of which they are parts, are
+-- While `self` and `other` are compared, the lists `one` and `another` are left to compare: they have the same length, at most
+-- that of `self`, and are equal exactly if `self` and `other` are.
 pub record IsComparing (self other one another : List ℕ) : Type 0 where
   pub answer : (one ≡ another) ↔ (self ≡ other)
   pub len : length one ≡ length another
   pub fewer : length one ≤ length self
 
--- two lists, each cut into a left and a right side, and both left sides have the same length
+-- two lists, cut into the sides l and r, and l' and r'; both left sides have the same length
 pub record AreCut (one another l r l' r' : List ℕ) : Type 0 where
   pub first : one ≡ l ++ r
   pub second : another ≡ l' ++ r'
   pub len : length l ≡ length l'
 
--- the left sides are equal
+-- if the left sides are equal, the right sides are left to compare
 pub left_same : (self other one another l r l' r' : List ℕ) → IsComparing self other one another → AreCut one another l r l' r'
     → l ≡ l' → IsComparing self other r r'
 left_same self other one another l r l' r' h c e =
@@ -37,7 +38,7 @@ left_same self other one another l r l' r' h c e =
       fewer = omega (arith, h.fewer);
     }
 
--- the right sides are equal
+-- if the right sides are equal, the left sides are left to compare
 pub right_same : (self other one another l r l' r' : List ℕ) → IsComparing self other one another → AreCut one another l r l' r'
     → r ≡ r' → IsComparing self other l l'
 right_same self other one another l r l' r' h c e =
@@ -69,7 +70,7 @@ sum_taken n m xs =
     ∙ (ap (λ (t : List ℕ). t ++ drop n (take (n + m) xs)) (take-take n (n + m) xs (omega arith))
     ∙ ap (λ (t : List ℕ). take n xs ++ t) (drop-take n m xs))
 
--- one more block is equal
+-- if the first n elements of two lists are equal, and the next m, then so are the first n + m
 pub more_same : (n m : ℕ) (xs ys : List ℕ) → take n xs ≡ take n ys → take m (drop n xs) ≡ take m (drop n ys)
     → take (n + m) xs ≡ take (n + m) ys
 more_same n m xs ys e f =

@@ -109,8 +109,8 @@ fn same_by_blocks(one: &Rope, another: &Rope) -> bool
     true
 }
 
-/// Returns whether two ropes have the same `count` bytes from index `at` on. `count` must be at most
-/// the length of a block.
+/// Returns whether two ropes have the same `count` bytes from index `at` on. `count` must be at
+/// most the length of a block, and both ropes must have `count` bytes from that index on.
 fn same_block(one: &Rope, another: &Rope, at: usize, count: usize) -> bool
     requires block { count ≤ 1024 }
     requires one { at + count ≤ length one.now }

@@ -37,8 +37,9 @@ impl Rope {
 }
 
 /// Returns the rope with `bytes` added at the beginning of its first piece, or `None` if the piece
-/// is more than `levels` nodes below the root or would have more than `MAX_PIECE` bytes. The result
-/// shares all other pieces with `rope`. Fails with AllocError.
+/// is more than `levels` nodes below the root or would have more than `MAX_PIECE` bytes. `rope` is
+/// unchanged, since it may have other owners: the piece and the nodes above it are new ones in the
+/// result, which shares all other pieces with `rope`. Fails with AllocError.
 fn extend_first(
     alloc: Global,
     bytes: &[u8],
@@ -64,8 +65,9 @@ fn extend_first(
 }
 
 /// Returns the rope with `bytes` added at the end of its last piece, or `None` if the piece is more
-/// than `levels` nodes below the root or would have more than `MAX_PIECE` bytes. The result shares
-/// all other pieces with `rope`. Fails with AllocError.
+/// than `levels` nodes below the root or would have more than `MAX_PIECE` bytes. As with
+/// `extend_first`, `rope` is unchanged, and the result shares all other pieces with it. Fails with
+/// AllocError.
 fn extend_last(
     alloc: Global,
     rope: &Rope,

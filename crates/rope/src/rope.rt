@@ -111,8 +111,8 @@ impl Rope {
         }
     }
 
-    /// Returns the rope for one more owner. Takes no memory. Fails with AllocError if the rope has
-    /// 2^64 - 1 owners.
+    /// Returns a rope with the same root, which gets one more owner. Takes no memory. Fails with
+    /// AllocError if the root has 2^64 - 1 owners.
     pub fn share(&self) -> Result<Rope, AllocError>
         ensures { IfOk result (λ rope. rope ≡ self.now) }
     {

@@ -29,8 +29,8 @@ pub trait Questions {
 
 /// Runs the rows on standard input. Prints each wrong line with its number, from 1, and then the
 /// number of right answer lines. Fails if standard input can't be read, if standard output can't be
-/// written, or if memory for lines and texts is refused. (If memory for an answer is refused, its
-/// line is printed as a wrong one, with `NoMemory`.)
+/// written, or if memory for a line, a message or the rest of an answer is refused. (If memory for
+/// an answer or a current text is refused, its line is printed as a wrong one, with `NoMemory`.)
 pub fn try_rows<R: Input + Print, Q: Questions>(
     rt: &R,
     alloc: Global,

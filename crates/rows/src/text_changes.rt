@@ -69,7 +69,8 @@ fn write_times(alloc: Global, text: &mut String, rest: &str) -> Result<(), Mista
     Ok(())
 }
 
-/// Appends `count` copies of a text without `#` and `@`. In each copy, `~` becomes a space.
+/// Appends `count` copies of a text without `#` and `@`. In each copy, `~` becomes a space. The
+/// copies are alike, so one is made and then repeated.
 fn write_alike(
     alloc: Global,
     text: &mut String,

@@ -5,7 +5,7 @@ use hex::{FromHexError, decode, encode};
 use std::alloc::{AllocError, Global};
 use std::fmt::Debug;
 
-/// Why a row has no answer.
+/// Why a line could not be run.
 #[derive(Clone, Copy, Debug)]
 pub enum Mistake {
     /// A word of the row is unknown, missing, or not the number or the bytes that it has to be.

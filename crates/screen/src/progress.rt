@@ -9,18 +9,18 @@ use std::rt::Clock;
 use std::time::Duration;
 use treefile::{Device, DeviceFault};
 
-/// How long a translation takes before its progress is shown, in milliseconds.
+/// The time from the beginning of a translation until its first line is due, in milliseconds.
 const DELAY: u64 = 2_000;
 
-/// How long a line is shown before the next one, in milliseconds.
+/// The time from a line until the next one is due, in milliseconds.
 const INTERVAL: u64 = 200;
 
 /// The number of calls that append for each reading of the clock, while a sentence is parsed.
 const APPENDS: u32 = 256;
 
 /// The progress of a translation. After two seconds, calls of the devices show a line on standard
-/// error, which says that the sentence is parsed or, in a pass, the number of the pass and the
-/// percentage of its input file that has been read. Failed writes of the line are ignored.
+/// error. The line says that the sentence is being parsed or, in a pass, the number of the pass and
+/// the percentage of its input file that has been read. Failed writes of the line are ignored.
 #[derive(Drop)]
 pub struct Progress<'a, R> {
     rt: &'a R,
@@ -59,7 +59,8 @@ impl<'a, R: Clock + Eprint> Progress<'a, R> {
         self.written.set(self.written.get().saturating_add(1));
     }
 
-    /// Returns the number of the pass whose tree file is written; 0 while the sentence is parsed.
+    /// Returns the number of the pass whose tree file was begun last: 0 while the sentence is
+    /// parsed, and before the first tree file is begun.
     fn pass(&self) -> u16 {
         self.first
             .saturating_add(self.written.get())
@@ -80,8 +81,8 @@ impl<'a, R: Clock + Eprint> Progress<'a, R> {
         }
     }
 
-    /// Shows a line if one is due. A pass reads its input file, of `length` bytes, from the end,
-    /// and now reads at the offset `at`, in bytes.
+    /// Shows a line if one is due. A pass reads its input file, of `length` bytes, from the end.
+    /// The bytes from offset `at` on count as read.
     fn note_read(&self, at: u64, length: u64) {
         if self.is_due() {
             let line = ProgressLine::Reading {

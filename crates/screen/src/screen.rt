@@ -83,9 +83,9 @@ impl Screen {
         Some(Progress::new(rt, began, passes, first))
     }
 
-    /// Prints a message on standard error, in one line. If messages are quiet, prints only one
-    /// about a misused command line. If memory for the marked line is refused, prints the message
-    /// unmarked. A failure to print is ignored: the exit status still depends on the fault.
+    /// Prints a message on standard error, in one line. If messages are quiet, prints it only if it
+    /// is about a misused command line. If memory for the marked line is refused, prints the
+    /// message unmarked. A failure to print is ignored: the exit status still depends on the fault.
     pub fn print<R: Eprint>(self, rt: &R, alloc: Global, report: &FaultReport) {
         if self.is_quiet && !matches!(report.fault, Fault::Usage) {
             return;
@@ -135,8 +135,8 @@ fn marked_line(alloc: Global, report: &FaultReport) -> Option<String> {
     format!(in alloc; "{NUMBER}{number}{END}{offset}{before}{PLACE}{place}{END}{after}").ok()
 }
 
-/// Returns the number of bytes of what is marked of a fault: its text up to the first space. A
-/// colon before that space, as in `usage: ..`, is not marked.
+/// Returns the number of bytes of what is marked of a fault: its text up to the first space, or all
+/// of it if there is no space. A colon before that space, as in `usage: ..`, is not marked.
 fn number_len(fault: &str) -> usize {
     match fault.split_once(' ') {
         Some((word, _)) => word.trim_end_matches(':').len(),

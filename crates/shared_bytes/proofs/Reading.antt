@@ -76,12 +76,13 @@ all_read place at done content out h le =
     sym (take_all (length out) out (omega arith))
     ∙ (ap (λ i. take i out) (sym e) ∙ (h.same ∙ ap (λ i. take i (drop at content)) e))
 
--- at first none was
+-- before the first piece, no byte was read
 pub none_at_first : (at : ℕ) (content out : List ℕ) → HasRead 0 at 0 content out
 none_at_first at content out = record { within = omega arith; same = refl; reached = λ less. omega arith }
 
--- The own bytes before a splice, the splice, and what comes after it, where own byte number `base` is the first one of
--- a body that begins at offset `at`. The own bytes from index `from` on are at offset `place` of the body.
+-- A step of reading a body, at its splice g. The body begins at offset `at` of the list, after `base` own bytes. It has the own
+-- bytes `own` and the bytes `content`. From offset `place` on, `content` has the own bytes from index `from` of `own` up to g,
+-- then the bytes of g, then the own bytes after g with the splices `rest`.
 pub record IsTurn (base at from place : ℕ) (own content : List ℕ) (g : Splice) (rest : List Splice) : Type 0 where
   pub from_here : base ≤ g.own
   pub forward : from ≤ g.own - base

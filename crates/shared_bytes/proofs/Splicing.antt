@@ -223,21 +223,6 @@ splices_within base at end total [] h = omega (arith, h.1)
 splices_within base at end total (g ∷ gs) h = let more = splices_within g.own (g.at + length g.bytes) end total gs h.3 in
     omega (arith, h.2)
 
--- where a list is cut after a prefix that is known
-pub prefix_cut : (whole prefix rest x : List ℕ) → whole ≡ prefix ++ rest → length prefix ≡ length x → take (length x) whole ≡ x
-    → whole ≡ x ++ rest
-prefix_cut whole prefix rest x e l t =
-    e ∙ ap (λ (ys : List ℕ). ys ++ rest)
-    (sym (take_at prefix rest (length x) l) ∙ (ap (λ (ys : List ℕ). take (length x) ys) (sym e) ∙ t))
-
--- where a list is cut inside a prefix that is known
-pub prefix_cut_inside : (whole prefix rest own x : List ℕ) (n : ℕ) → whole ≡ prefix ++ rest → length prefix ≡ n
-    → take (length own) whole ≡ own → n ≤ length own → take n own ≡ x → whole ≡ x ++ rest
-prefix_cut_inside whole prefix rest own x n e l t le is =
-    let a : take n whole ≡ take n own = sym (take-take n (length own) whole le) ∙ ap (λ (ys : List ℕ). take n ys) t in
-    let b : prefix ≡ x = sym (take_at prefix rest n l) ∙ (ap (λ (ys : List ℕ). take n ys) (sym e) ∙ (a ∙ is)) in
-    e ∙ ap (λ (ys : List ℕ). ys ++ rest) b
-
 -- the own bytes before a splice and the splice are copied
 pub one_copied : (base from next : ℕ) (own out : List ℕ) (g : Splice) (rest : List Splice) → base + from ≤ g.own
     → next ≡ g.own - base

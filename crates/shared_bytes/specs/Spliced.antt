@@ -30,6 +30,6 @@ CutAt base at (g ∷ gs) (suc k) o pos = CutAt g.own (g.at + length g.bytes) gs 
 abbrev pub IsBeforeSplice : List Splice → ℕ → ℕ → Type 0
 IsBeforeSplice gs k own = (x : Splice) → k < length gs → x ≡ get_or gs k x → own ≤ x.own
 
--- a splice of a list that is appended to another list, which has `own` own bytes and `at` bytes in all
+-- the splice that g becomes if its list is appended to another list, which has `own` own bytes and `at` bytes in all
 abbrev pub shift : ℕ → ℕ → Splice → Splice
 shift own at g = record { own = own + g.own; at = at + g.at; bytes = g.bytes }

@@ -44,9 +44,9 @@ impl<'a> Model for Body<'a> {
         × (b.base + length b.own.now < 2 ^ 64) };
 }
 
-/// Returns the number of own bytes of the whole list before `offset`, if no splice is between the
-/// offsets `start` and `offset`, which the caller checks. It is `from`, the number of own bytes
-/// before `start`, plus the number of bytes from `start` to `offset`. Returns `None` if `offset` is
+/// Returns the number of own bytes of the whole list before `offset`: `from`, the number of those
+/// before the offset `start`, plus the number of bytes from `start` to `offset`. This is right if
+/// no splice is between the two offsets, which the callers check. Returns `None` if `offset` is
 /// before `start`, or if the number would exceed `end`.
 fn own_from(from: usize, start: u64, end: usize, offset: u64) -> Option<usize>
     ensures following { IfSome result (λ own. from ≤ own) }

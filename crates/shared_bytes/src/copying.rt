@@ -11,8 +11,8 @@ use ag_carried::Encoded;
 /// next byte is not in the piece.
 ///
 /// The piece is a run of own bytes or an encoding. `place` is its offset in the body, and `len` its
-/// number of bytes. The slice has `size` bytes. It is to hold the bytes of the body from offset `at`
-/// on, and has the first `done` of them.
+/// number of bytes. The slice has `size` bytes. It is to hold the bytes of the body from offset
+/// `at` on, and has the first `done` of them.
 fn next_part(place: u64, len: usize, at: u64, done: usize, size: usize) -> Option<(usize, usize)>
     requires within { done ≤ size }
     requires room { at + size < 2 ^ 64 }

@@ -12,7 +12,8 @@ use std::alloc::{AllocError, Global};
 use std::marker::Model;
 
 /// A growing list of bytes: own ones in one vector, and between them the encodings of shared values
-/// (large ones, shared texts and trees), which are not copied. Contracts see the list of all bytes.
+/// (those of more than 24 bytes, and those of shared texts and trees), which are not copied.
+/// Contracts see the list of all bytes.
 #[derive(Drop)]
 pub struct SharedBytes {
     alloc: Global,
@@ -138,8 +139,8 @@ impl SharedBytes {
         self.len = 0;
     }
 
-    /// Appends all bytes of `other`. Copies its own bytes, and becomes one more owner of each of its
-    /// shared values. Fails with NoMemory; then nothing changes.
+    /// Appends all bytes of `other`. Copies the own bytes of `other`, and becomes one more owner of
+    /// each of its shared values. Fails with NoMemory; then nothing changes.
     pub fn append_all(&mut self, other: &SharedBytes) -> Result<(), NoMemory>
         ensures ok { OnOk result (self.new ≡ self.old ++ other.now) }
         ensures err { OnErr result (self.new ≡ self.old) }
@@ -207,8 +208,8 @@ impl SharedBytes {
     }
 }
 
-/// Returns the splices of a list that is appended to another list, which has `own` own bytes and
-/// `at` bytes in all. Fails with AllocError.
+/// Returns each splice of a list as `Splice::shifted` does, for a list that is appended to another
+/// one, which has `own` own bytes and `at` bytes in all. Fails with AllocError.
 fn shifted(
     alloc: Global,
     splices: &[Splice],

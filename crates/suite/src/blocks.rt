@@ -55,8 +55,8 @@ fn device_of(bytes: Vec<u8>) -> CountingDevice {
 }
 
 /// Returns a header and two frames: the record of a name with this number of letters, and a node
-/// without values. (It is no tree's file, since the node has no copy of the name. A reader of
-/// frames doesn't look at that.)
+/// without values. (It is not the file of a tree, since the node has no copy of the name. A reader
+/// of frames doesn't look at that.)
 fn file_of_name(alloc: Global, letters: u32) -> Result<Vec<u8>, AllocError> {
     let mut bytes = Vec::from_slice(alloc, b"AGT2\0\0\x01\0\0\x01")?;
     bytes.extend_from_slice(&letters.to_be_bytes())?;
@@ -114,9 +114,9 @@ fn lent(
 }
 
 /// Returns the result of `lent`. After NoMemory, which comes only if the system refuses memory to
-/// the tests, it calls `lent` a second time, as a caller of `back` may. If the second call lends a
-/// body of at most `FITS` bytes, it returns NoMemory all the same: a reader needs no memory for
-/// such a body, so the first call must not fail.
+/// the tests, calls `lent` a second time, as a caller of `back` may, and returns the second result.
+/// The exception is a body of at most `FITS` bytes: a reader needs no memory for such a body, so
+/// the first call must not fail, and NoMemory is returned.
 fn lent_at_last(
     back: &mut Back,
     device: &mut CountingDevice,
@@ -147,8 +147,8 @@ fn write_bodies_of_file(
     write_bodies(&mut started?, &mut device, lines)
 }
 
-/// Writes the lengths of the bodies that a reader lends, and the first result that is not a body,
-/// in a line. Writes at most 10 results.
+/// Writes a line with the lengths of the bodies that a reader lends, and the first result that is
+/// not a body. Writes at most 10 results; if these are all bodies, the line has no end.
 fn write_bodies(
     back: &mut Back,
     device: &mut CountingDevice,

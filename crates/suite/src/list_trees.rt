@@ -1,16 +1,16 @@
-//! Tests of list trees for what no clause states: that each call succeeds, and that the trees are
-//! balanced.
+//! Tests of list trees. No clause states that each call succeeds, and that the trees are balanced.
+//! Other assertions repeat clauses.
 
 use ag_value::{NoMemory, Value, ValueFault, decode};
 use list_tree::ListTree;
 use std::alloc::Global;
 use std::process::Abort;
-use std::test::Fail;
 
 /// The number of items of a long list.
 const LONG: u16 = 4096;
 
-/// Returns the list of one number, which is below 65,536.
+/// Returns the list of one number. `from_list` requires a well list. Decoding the list's encoding
+/// makes one, since `decode` returns well values.
 fn single(alloc: Global, number: u16) -> Result<ListTree, ValueFault> {
     let [high, low] = number.to_be_bytes();
     let encoding = [2, 0, 0, 0, 1, 0, 0, 0, 0, 0, 0, 0, high, low];
@@ -90,8 +90,8 @@ fn an_encoding_is_that_of_the_flat_list(rt: HostRuntime) -> Result<(), ValueFaul
     Ok(())
 }
 
-/// Compares a list with a longer one that was made of it, the longer one with a rebuilt and with a
-/// flat copy of itself, and the shorter one with another owner of it.
+/// Compares a list with a longer one that was made of it. Compares the longer one with a rebuilt
+/// tree, the shorter one with another owner of it, and both with a flat copy of the longer one.
 fn compare_versions(
     rt: &impl Abort,
     alloc: Global,

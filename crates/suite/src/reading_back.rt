@@ -69,10 +69,10 @@ pub(crate) fn file_of(alloc: Global, productions: &[u8]) -> Result<Vec<u8>, Allo
     Ok(bytes)
 }
 
-/// Returns the first fault of a reader, the fault of the next call if that fails too, and the
-/// number of bodies that were lent. If the reader does not start, no call follows. Returns `None`
-/// if the reader lends all bodies, or 100 of them, without a fault. Fails the test if a first fault
-/// is NoMemory.
+/// Reads bodies until a call of the reader fails. Returns this first fault, then the fault of the
+/// next call if that fails too, and the number of bodies that were lent. If the reader does not
+/// start, there is no next call. Returns `None` if the reader lends all bodies, or 100 of them,
+/// without a fault. Fails the test if the first fault is NoMemory.
 fn refusal_of<D: Device>(
     alloc: Global,
     device: &mut D,
@@ -95,8 +95,8 @@ fn refusal_of<D: Device>(
     Ok(None)
 }
 
-/// Reads a device that contains three bodies and may fail at one call. Returns whether it did not
-/// fail. Checks that after a failure a new reader lends all three bodies.
+/// Reads a device that contains three bodies and may fail at one call. Returns whether no call
+/// failed. Checks that after a failure a new reader lends all three bodies.
 fn reads_all<D: Device>(rt: &impl Abort, alloc: Global, device: &mut D) -> Result<bool, Fail> {
     let Some((fault, again, records)) = refusal_of(alloc, device)? else {
         return Ok(true);
@@ -108,7 +108,8 @@ fn reads_all<D: Device>(rt: &impl Abort, alloc: Global, device: &mut D) -> Resul
     Ok(false)
 }
 
-/// Lets the device fail at call 1, then at call 2, and so on, until the reader makes fewer calls.
+/// Lets the device fail at call 1, then at call 2, and so on, until the reader makes too few calls
+/// to reach the failing one.
 #[test]
 fn a_device_that_fails_at_each_call(rt: HostRuntime) -> Result<(), Fail> {
     for call in 1..100 {

@@ -1,9 +1,8 @@
-//! Tests of table trees for what no clause states: that each call succeeds, and that the trees are
-//! balanced.
+//! Tests of table trees. No clause states that each call succeeds, and that the trees are balanced.
+//! Other assertions repeat clauses.
 
-use ag_value::{Items, NoMemory, Text, Value};
-use std::alloc::{AllocError, Global};
-use std::test::Fail;
+use ag_value::{NoMemory, Value};
+use std::alloc::Global;
 use table_tree::{PutFault, TableTree};
 
 /// Puts the number 7 at the key that spells `key` with at least four hexadecimal digits.

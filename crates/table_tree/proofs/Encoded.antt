@@ -133,8 +133,8 @@ piece_after ps before p after offset rest piece s le e is =
 
 -- ---- copying a part
 
--- The first `done` bytes of `out`, which has `size` bytes, are those of `bytes` from index `from` on. If there is room for
--- more, the next one is not one of the first five.
+-- The first `done` bytes of `out`, which has `size` bytes, are those of `bytes` from index `from` on. If `out` has room for more,
+-- the next byte to copy is after the first five of `bytes`, the header.
 pub record IsCopied (from done : ℕ) (out bytes : List ℕ) (size : ℕ) : Type 0 where
   pub length_is : length out ≡ size
   pub within : done ≤ length out

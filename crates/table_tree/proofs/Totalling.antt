@@ -1,11 +1,10 @@
 -- The totals of the parts of a table.
-use Rattle.std.proofs.Common.{◌≡◌, ℕ, ◌+◌, ◌<◌, ◌≤◌, List, [], ◌∷◌, ◌++◌, map, refl, ◌∙◌}
+use Rattle.std.proofs.Common.{◌≡◌, ℕ, ◌+◌, ◌≤◌, List, [], ◌∷◌, ◌++◌, map, refl, ◌∙◌}
 use Rattle.std.proofs.Common.{arith, length-append}
 use Rattle.std.proofs.Common.{true, false, nat_lt, Option, Some, None, Err}
 use Rattle.std.proofs.lemmas.Bool.{le-ltb, lt-ltb}
 use Rattle.std.proofs.lemmas.List.Sums.{sum_by-cons}
 use Rattle.ag_value.specs.operations.Fitting.{fit}
-use Rattle.ag_value.specs.declared.value.ErrorCode.TheVariants.{Big, Deep}
 use Rattle.ag_value.specs.declared.value.Value.{Value}
 use Rattle.ag_value.specs.declared.value.Value.TheVariants as v
 use Rattle.ag_value.specs.Measure.{depth_of, weight_of, weight_of_pair, max_value_depth, max_weight}
@@ -67,7 +66,8 @@ totals_alone p t n b d = record {
   depth_is = omega arith;
 }
 
--- the totals of a well table in which a key has a value
+-- Bounds of the totals of a well table after one pair was put into it, before the check of the limits. There are at most
+-- 3,145,732 bytes: the old table has at most 1,048,576, and the new pair at most 2,097,156 (`entry_light`).
 pub record AreBounded (totals : Totals) : Type 0 where
   pub few : totals.pairs ≤ totals.bytes
   pub light : totals.bytes ≤ 3145732
@@ -84,7 +84,7 @@ with_bounded key x ps t a are one light well =
     let e = weight-Table ps in
     record { few = let f = few_pairs (with_pair key x ps) in omega arith; light = omega arith }
 
--- the encoding of an entry is short
+-- the encoding of an entry has at most 2,097,156 bytes: 4 for the key's length, and 1,048,576 each for the key and the value
 pub entry_light : (key : List ℕ) (value : Value) (bytes : List ℕ) (depth : ℕ) → IsEntry key value bytes depth
     → weight_of_pair (key, value) ≤ 2097156
 entry_light key value bytes depth is = let short = is.short in let light = is.well.light in omega arith

@@ -11,9 +11,9 @@ use ag_value::NoMemory;
 use std::alloc::Global;
 use std::rc::Rc;
 
-/// Returns the table of the pairs of `left`, the pair of `entry` and the pairs of `right`. `entry`
-/// is in its root, unless one side is higher than the other by at least two levels: then a
-/// rotation, or a double one, takes the root from the higher side. Fails with NoMemory.
+/// Returns the table of the pairs of `left`, the pair of `entry` and the pairs of `right`. The root
+/// has `entry`, unless one side is higher than the other by at least two levels: then a rotation,
+/// or a double one, takes the root from the higher side. Fails with NoMemory.
 pub(crate) fn balanced(
     alloc: Global,
     left: TableTree,

@@ -45,7 +45,8 @@ impl TableTree {
         Some(one == another)
     }
 
-    /// Returns whether the pairs of another table from `index` on begin with those of this one.
+    /// Returns whether the pairs of another table from `index` on begin with those of this one. By
+    /// the clause `small`, the indexes of these pairs can't overflow.
     fn is_part(&self, other: &TableTree, index: usize) -> bool
         requires within { index + length self.now ≤ length other.now }
         requires small { length other.now < 2 ^ 64 }

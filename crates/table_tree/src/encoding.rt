@@ -100,8 +100,9 @@ impl TableTree {
     }
 
     /// Returns the bytes from `offset` on (counted from 0 in the joined encodings of the pairs) up
-    /// to the end of the largest block that contains this offset. If no block contains it, returns
-    /// those up to the end of the pair's encoding that contains it. The result is not empty.
+    /// to the end of the largest block that contains this offset. If no block contains the offset,
+    /// returns the bytes up to the end of the encoding of one pair, the one at the offset. The
+    /// result is not empty.
     fn piece_at(&self, offset: usize) -> &[u8]
         requires { offset < length (joined (map spelling_of_pair self.now)) }
         ensures { IsPiece (drop offset (joined (map spelling_of_pair self.now))) result.now }

@@ -84,7 +84,8 @@ impl Entry {
         self.bytes.as_slice()
     }
 
-    /// Returns the totals of this pair alone.
+    /// Returns the totals of this pair alone. By the clause `light`, the totals of a table and of
+    /// one more pair can be added without overflow, before they are compared with the limits.
     #[inline(always)]
     pub(crate) fn totals(&self) -> Totals
         ensures totals { AreTotals (self.now ∷ []) result }
@@ -127,8 +128,8 @@ fn encoded_pair(alloc: Global, key: &str, value: &Value) -> Result<Vec<u8>, NoMe
     Ok(bytes)
 }
 
-/// Returns the number of bytes. The clause `bytes` says that each of them is below 256. It is for
-/// the proofs of the clauses `bytes` of `Entry::totals` and `TableTree::encoding_len`.
+/// Returns the number of bytes. The clause `bytes` says that each of them is below 256. The proofs
+/// of the clauses `bytes` of `Entry::totals` and `TableTree::encoding_len` use this clause.
 #[inline(always)]
 pub(crate) fn byte_count(bytes: &[u8]) -> usize
     ensures len { result ≡ length bytes.now }

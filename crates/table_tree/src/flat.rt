@@ -11,8 +11,8 @@ use std::alloc::Global;
 use std::rc::Rc;
 
 impl TableTree {
-    /// Moves the pairs of a well table into a tree. Fails with NoMemory; the pairs are
-    /// then dropped.
+    /// Moves the pairs of a well table into a tree. Fails with NoMemory; the pairs are then
+    /// dropped.
     pub fn from_table(alloc: Global, pairs: Items<(Text, Value)>) -> Result<TableTree, NoMemory>
         requires { IsWell (v.Table pairs) }
         ensures { IfOk result (λ table. table ≡ pairs) }

@@ -64,8 +64,8 @@ impl TableTree {
     /// Returns the fault of the table in which the entry's key has the entry's value: TooDeep if
     /// its depth exceeds 64, otherwise TooHeavy if its weight exceeds 1,048,576, and otherwise
     /// `None`. Takes constant time if all pairs of this table and the entry together are within
-    /// these limits. Otherwise the way to the key is visited, since a pair with this key would be
-    /// replaced.
+    /// these limits. Otherwise visits the way to the key: if the table has a pair with this key,
+    /// the entry replaces this pair, and the new table may be within the limits.
     fn fault_with(&self, entry: &Entry) -> Option<PutFault>
         ensures fault { IsFaultOf (with_pair entry.now.0 entry.now.1 self.now) result }
         ensures well { IsWell (v.Table self.now) }

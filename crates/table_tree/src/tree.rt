@@ -34,8 +34,8 @@ const MIN_SHORT_BLOCK: usize = 192;
 const MAX_SHORT_BLOCK: usize = 512;
 
 /// A well table: its pairs in the order of their keys, as a balanced tree whose nodes may have
-/// several owners. Contracts see the list of the pairs. A table that `put` makes of another shares
-/// all nodes with it but those on the way to the key, which are made anew.
+/// several owners. Contracts see the list of the pairs. The table that `put` returns has new nodes
+/// on the way to the key, and shares all others with the old table.
 #[cycle(tree)]
 #[derive(Drop)]
 pub struct TableTree {
@@ -168,8 +168,9 @@ impl TableTree {
         }
     }
 
-    /// Returns the number of levels. That it is at most 1.45 · log2(n + 2) for n pairs is tested,
-    /// and not proved. The functions that balance trees call it, and so do tests.
+    /// Returns the number of levels, or 255 if there are more. That it is at most
+    /// 1.45 · log2(n + 2) for n pairs is tested, and not proved. The functions that make and
+    /// balance nodes call it, and so do tests.
     pub fn height(&self) -> u8 {
         match &self.node {
             TableNode::Leaf => 0,

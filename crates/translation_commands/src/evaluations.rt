@@ -99,7 +99,7 @@ impl<R: Files + Input + Print + Eprint + Clock> EvaluationRun<'_, R> {
     }
 
     /// Translates the tree in an opened tree file, and writes the translation. Calls
-    /// `evaluate_file` if no progress can be shown and the passes write to memory.
+    /// `evaluate_file` if the passes write to memory and the screen doesn't show the progress.
     fn run_file<W: Write>(
         &self,
         tree: &mut FileDevice<R::File>,

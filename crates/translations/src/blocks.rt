@@ -27,7 +27,7 @@ V = \"x\" V { $0.c = 0; }
 V = { $0.c = 0; }
 ";
 
-/// The number of nodes of the sentence's tree that have a record. (Literals have none.)
+/// The number of nodes of the sentence's tree. Each has a record. (Literals are not nodes.)
 const NODES: u64 = 65_536;
 
 /// The length in bytes of a frame whose record is a node without values: 3 bytes of kind and
@@ -46,7 +46,7 @@ fn sentence(alloc: Global) -> Result<String, AllocError> {
 
 /// Returns the number of frames that were read, and the number of appends without the first
 /// `before` ones. `bytes` is the number of bytes that were read, all of frames of `FRAME` bytes,
-/// and `puts` is the number of all appends.
+/// and `puts` is the number of all appends. Each append is a header or a frame.
 fn frames_answer(alloc: Global, bytes: u64, puts: u64, before: u64) -> Result<String, AllocError> {
     let (read, put) = (bytes / FRAME, puts.saturating_sub(before));
     format!(in alloc; "{read} read, {put} put")
@@ -55,10 +55,10 @@ fn frames_answer(alloc: Global, bytes: u64, puts: u64, before: u64) -> Result<St
 /// Returns whether each file of a device was read at least 112 times after its header, and at least
 /// 400 frames were appended between two successive ones of these reads, except before the last one.
 ///
-/// The frames of the tree's nodes fill 112 blocks of 4,096 bytes, so with fewer reads one of them
+/// The frames of the tree's nodes fill 112 blocks of 4,096 bytes, so with fewer reads one read
 /// would be longer than a block. A block has about 585 frames. Before the next read a pass has
-/// appended all of them but those of open nodes. At most 140 nodes are open at a time, since the
-/// tree has 140 levels.
+/// appended the frames of all nodes of the block that are no longer open. At most 140 nodes are
+/// open at a time, since the tree has 140 levels.
 fn is_by_blocks(device: &CountingDevice<'_>) -> bool {
     device.fewest_reads() >= 112 && device.least_gap() >= 400
 }

@@ -11,7 +11,7 @@ use treefile::{Device, DeviceFault, MemDevice};
 struct Reading {
     /// The number of reads after the header.
     reads: u64,
-    /// The number of appends before the last read.
+    /// The number of appends before the last read, to all devices that share the count.
     puts: u64,
     /// The number of appends between the last two reads, or `u64::MAX` before the second read.
     last_gap: u64,

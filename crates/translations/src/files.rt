@@ -1,4 +1,4 @@
-//! Answers questions about the file that `show_value` writes, and about `bytes_of`. This reads at
+//! Answers questions about the file that `show_value` writes, and about `bytes_of`, which reads at
 //! most 1,048,577 bytes from a reader: one more than the text of a grammar or a sentence may have.
 
 use aggen::{bytes_of, show_value};
@@ -25,7 +25,7 @@ pub fn file_answer(alloc: Global, text: &str) -> Result<String, Mistake> {
 }
 
 /// Returns the number of bytes that `bytes_of` reads from a reader of the text. Fails with `Unfit`
-/// if it fails.
+/// if `bytes_of` fails.
 pub fn source_answer(alloc: Global, text: &str) -> Result<String, Mistake> {
     match bytes_of(alloc, text.as_bytes()) {
         Ok(bytes) => Ok(format!(in alloc; "{} bytes", bytes.len())?),

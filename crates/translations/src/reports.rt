@@ -7,7 +7,7 @@ use rows::words::{Mistake, bytes_of, printed};
 use std::alloc::{AllocError, Global};
 use treefile::MemDevice;
 
-/// Returns a text, quoted, or only its length in bytes if it has more than 64.
+/// Returns a text, quoted, or only its length if it has more than 64 bytes.
 fn text_answer(alloc: Global, text: &str) -> Result<String, AllocError> {
     if text.len() > 64 {
         return format!(in alloc; "{} bytes", text.len());

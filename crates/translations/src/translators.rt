@@ -23,8 +23,8 @@ pub fn translator(alloc: Global, text: &str) -> Result<Translator, Mistake> {
     }
 }
 
-/// Returns the number of nodes that have a record and the tree's file of a sentence, or the fault
-/// of the grammar or of the sentence as it prints.
+/// Returns the number of nodes of a sentence's tree and the bytes of its tree file, or the fault of
+/// the grammar or of the sentence as it prints.
 pub fn parse_tree_answer(alloc: Global, text: &str, sentence: &str) -> Result<String, Mistake> {
     match Translator::build(alloc, text.as_bytes()) {
         Ok(translator) => tree_answer(alloc, &translator, sentence),

@@ -24,9 +24,10 @@ use value_reasons::{ExplainedTree, NodeRequest, write_errors};
 /// whole.
 const WIDTH: usize = 60;
 
-/// Prints the values of a node of a tree file with the rules that computed them. With `--errors`
-/// prints the rules of the tree in which errors arise instead. Reads the grammar, then the
-/// sentence, if there is one, and then the whole tree file. Prints nothing before that.
+/// Prints the values of a node of a tree file, or those that the command line names, with the rules
+/// that computed them. With `--errors` prints the rules of the tree in which errors arise instead.
+/// Reads the grammar, then the sentence, if the command line names one, and then the whole tree
+/// file. Prints nothing before that.
 ///
 /// Fails:
 /// - if an input can't be read or is refused, if the tree file is damaged, and if its tree exceeds

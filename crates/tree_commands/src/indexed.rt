@@ -32,7 +32,7 @@ pub fn read_index<D: Device>(
 }
 
 /// Returns the report of a fault of reading the tree file at `path`, or of printing. The report
-/// names the file after R1, P2, P3 and D1.
+/// names the file if the fault is R1, P2, P3 or D1.
 pub fn report_of_tree(alloc: Global, fault: ShowFault, path: &str) -> FaultReport {
     let fault = match fault {
         ShowFault::Tree(fault) => fault_of(fault),

@@ -49,9 +49,9 @@ impl TreeSentence<'_> {
     /// - between two tokens, to the innermost node whose tokens include both;
     /// - before the first token and after the last one, to the root.
     ///
-    /// Fails with S1 to S4 if the sentence is not a list of tokens. Fails if it does not have the
-    /// position, if its tokens are not the tree's, if a record is damaged or can't be read, and if
-    /// memory is refused.
+    /// Fails with S1 to S4 if the sentence can't be scanned. Fails if the sentence does not have
+    /// the position, if its tokens are not the tree's, if a record is damaged or can't be read, and
+    /// if memory is refused.
     pub fn node_at<D: Device>(
         self,
         alloc: Global,

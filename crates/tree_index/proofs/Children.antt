@@ -21,7 +21,7 @@ use Rattle.tree_index.specs.Nodes.{record_of}
 reverse_more : {X : Type 0} (x : X) (xs : List X) → reverse (x ∷ xs) ≡ reverse xs ++ x ∷ []
 reverse_more x xs = reverse-append (x ∷ []) xs
 
--- a child as it is in the list
+-- a child with its values, as `kids` lists it
 abbrev kid_of : Tree → Valuation → Subtree
 kid_of t v = record { tree = t; values = v }
 
@@ -65,7 +65,7 @@ length_both : {X : Type 0} (d : Direction) (xs ys : List X) → length (both d x
 length_both LeftToRight xs ys = length-append xs ys
 length_both RightToLeft xs ys = omega (arith, length-append ys xs)
 
--- there are as many as are counted
+-- `nodes_of` has as many nodes as `node_count` counts
 mutual
   pub nodes_length : (d : Direction) (t : Tree) (v : Valuation) → length (nodes_of d t v) ≡ node_count t
   nodes_length d (leaf c x) v = refl
@@ -103,7 +103,7 @@ pub order_length : {X : Type 0} (d : Direction) (xs : List X) → length (in_ord
 order_length LeftToRight xs = refl
 order_length RightToLeft xs = length-reverse xs
 
--- the child at an index in the order of the reading
+-- the element at index i in the order of a direction is that at index `nth d (length xs) i` from the left
 pub ordered_at : {X : Type 0} (d : Direction) (xs : List X) (i : ℕ) (x : X) → slice_get (in_order d xs) i ≡ Some x
     → slice_get xs (nth d (length xs) i) ≡ Some x
 ordered_at LeftToRight xs i x e = e

@@ -21,7 +21,7 @@ pub none_before : (g : Grammar) (kinds : List NodeKind) → count_before g kinds
 none_before g [] = refl
 none_before g (what ∷ kinds) = refl
 
--- those of one node more
+-- before node n + 1 are the tokens before node n, and the own tokens of node n
 pub before_next : (g : Grammar) (kinds : List NodeKind) (n : ℕ) → count_before g kinds (n + 1)
     ≡ count_before g kinds n + own_count g (slice_get kinds n)
 before_next g [] n = refl
@@ -69,7 +69,7 @@ before_prefix : (g : Grammar) (xs ys : List Subtree) (n : ℕ) → length xs ≡
 before_prefix g xs ys n is = subst (λ (i : ℕ). count_before g (map kind_at (xs ++ ys)) i ≡ own_counts g xs) is
     (before_length g xs ys)
 
--- those of a subtree
+-- the tokens between a node and the end of its subtree are those of the subtree
 pub subtree_tokens : (g : Grammar) (k : ℕ) (t : Tree) (v : Valuation) (index : TreeIndex) (number : ℕ) (tree : Tree)
     (w : Valuation) → HasNodes k t v index → IsSubtreeAt (back_from k) (nodes_of (back_from k) t v) number tree w
     → count_before g index.kinds.items (number + node_count tree) ≡ count_before g index.kinds.items number + token_count g tree
@@ -99,7 +99,7 @@ pushed P [] x each last (suc i) n is = absurd (let bad : ⊥ = cc in bad)
 pushed P (y ∷ xs) x each last zero n is = each zero n is
 pushed P (y ∷ xs) x each last (suc i) n is = pushed (λ j m. P (suc j) m) xs x (λ j m e. each (suc j) m e) last i n is
 
--- the difference of two counts
+-- the count at the end of a subtree minus that at its beginning is the number of its tokens
 pub has_tokens : (index : TreeIndex) (counts : TokenCounts) (number size end first last count : ℕ)
     → size_of index number ≡ Some size → end ≡ number + size → slice_get counts.before.items number ≡ Some first
     → slice_get counts.before.items end ≡ Some last → (first ≤ last) × (count ≡ last - first)
@@ -114,7 +114,7 @@ has_tokens index counts number size end first last count of_size at_end at_first
     let below = subtree_tokens g k t v index number tree w has s in
     omega arith
 
--- the same of a difference, where there is one
+-- if a fact holds of the difference b - a whenever a is at most b, it holds of the result of a checked subtraction
 pub if_tokens : (P : ℕ → Type 0) (r : Option ℕ) (a b : ℕ) → SomeIff r (a ≤ b) (b - a)
     → ((n : ℕ) → (a ≤ b) × (n ≡ b - a) → P n) → IfSome r P
 if_tokens P None a b is each = tt

@@ -1,4 +1,4 @@
--- Where a node has no child in an index, it has none in the tree.
+-- If `child` finds no child at a place in the index, the node has none there in the tree.
 use Rattle.std.proofs.Common.{◌≡◌, ℕ, zero, suc, ◌+◌, ◌<◌, ◌≤◌, ◌^◌, List, [], ◌∷◌, ◌++◌, Option, None, Some, length, drop}
 use Rattle.std.proofs.Common.{slice_get, refl, ap, sym, subst, ◌∙◌, arith}
 use Rattle.std.specs.Option.{IfNone}
@@ -47,7 +47,7 @@ next_child index number before child k t v p ts w later has less s =
           (later k t v p ts w has (omega arith) s),
     )
 
--- its subtree ends before the number of nodes
+-- the number of this child and the size of its subtree are together at most the number of nodes
 child_within : (index : TreeIndex) (number before child : ℕ) (k : ℕ) (t : Tree) (v : Valuation) (p : ℕ) (ts : Forest)
     (w : Valuation) → HasLater index number before child → HasNodes k t v index → before < length (kids ts (children w))
     → IsSubtreeAt (back_from k) (nodes_of (back_from k) t v) number (node p ts) w → (size : ℕ) × (size_of index child ≡ Some size)
@@ -93,7 +93,7 @@ out_of [] i more = refl
 out_of (x ∷ xs) zero more = absurd (omega arith)
 out_of (x ∷ xs) (suc i) more = out_of xs i (omega arith)
 
--- a child has a place up to their count
+-- a node has no child at a place greater than the number of its children
 past_count : (g : Grammar) (x : Item) (tree : Tree) (w : Valuation) (place count : ℕ) → Fits g x tree
     → HasCount g (Some (kind_at (record { tree = tree; values = w }))) count → count < place → child_in tree w place ≡ None
 past_count g x tree w zero count fits counted more = absurd (omega arith)
@@ -109,7 +109,7 @@ pub few_children : (g : Grammar) (index : TreeIndex) (number place count : ℕ) 
 few_children g index number place count counted more k t v x tree w has few fits s = past_count g x tree w place count fits
     (subst (λ (o : Option NodeKind). HasCount g o count) (kind_there k t v index number tree w has s) counted) more
 
--- a child that the index does not find
+-- `HasNoLater` says that the node has at most `before` children, but it has more: this case does not occur
 none_later : (g : Grammar) (index : TreeIndex) (number before count place k : ℕ) (t : Tree) (v : Valuation) (x : Item)
     (tree : Tree) (w : Valuation) → HasCount g (Some (kind_at (record { tree = tree; values = w }))) count → before < count
     → HasNoLater index number before → HasNodes k t v index → node_count t < 2 ^ 32 → Fits g x tree
@@ -129,7 +129,7 @@ no_child g index number before count place counted less none k t v x tree w has 
     (subst (λ (o : Option NodeKind). HasCount g o count) (kind_there k t v index number tree w has s) counted) less none has few
     fits s
 
--- a fact that holds in any case also holds if there is no number
+-- a fact that holds in any case also holds if r is `None`
 pub if_none : (r : Option ℕ) (P : Type 0) → P → IfNone r P
 if_none None P h = h
 if_none (Some n) P h = tt

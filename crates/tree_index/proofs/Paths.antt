@@ -80,7 +80,7 @@ child_at_end g index places number place child at is k t v has tree =
       numbered = kid.2;
     }
 
--- one node is at the end of some places
+-- at most one node is at the end of some places
 one_at_end : (places : List ℕ) (t : Tree) (v : Valuation) (a b : Subtree) → IsAtEndOf places t v a
     → IsAtEndOf places t v b → a ≡ b
 one_at_end [] t v a b first second = first ∙ sym second

@@ -64,11 +64,11 @@ ends_length content [] (b ∷ bodies) a = elim a [ ]
 ends_length content (x ∷ ends) [] a = elim a [ ]
 ends_length content (x ∷ ends) (b ∷ bodies) a = ap suc (ends_length content ends bodies a.1)
 
--- the number of an open node, or of one that is open below it
+-- the number of an open node that is not the innermost one, o, is that of one of the others
 number_or : (i : ℕ) (o : OpenRecord) (os : List OpenRecord) → IsOpenNumber i (o ∷ os) → (i ≡ o.number → ⊥) → IsOpenNumber i os
 number_or i o os h n = elim h [ inl a ↦ absurd (n a) | inr b ↦ b ]
 
--- a size more, that of the node which comes next
+-- one more size is added: that of the node that comes next, or any size if this node is open
 sizes_more : (all so_far : List ℕ) (s : ℕ) (os : List OpenRecord) → AreSizes all so_far os
     → (get_or all (length so_far) 0 ≡ s) ⊎ IsOpenNumber (length so_far) os → AreSizes all (so_far ++ s ∷ []) os
 sizes_more all so_far s os sizes last i less = elim (cases_eq i (length so_far)) [
@@ -100,7 +100,7 @@ sizes_closed all so_far o os s is sizes i less =
       ]
     ]
 
--- what is found before an offset is what should be there
+-- at most one body ends at an offset
 same_body : (content : List ℕ) (at : ℕ) (body another : List ℕ) → next_before version_two content at ≡ Ok (Some body)
     → next_before version_two content at ≡ Ok (Some another) → body ≡ another
 same_body content at body another e h = let both : ◌≡◌ {A = Result (Option (List ℕ)) FrameFault} (Ok (Some body))
@@ -121,7 +121,7 @@ four_bytes count number n is same few = omega arith
 four_bytes_again : (count size : ℕ) → size ≡ count → count < 4294967296 → size ≡ in_four_bytes count
 four_bytes_again count size same few = omega arith
 
--- two numbers in two bytes, before other bytes
+-- two numbers of two bytes at the beginning of equal bytes are equal
 numbered_apart : (p r : ℕ) (xs ys : List ℕ) → p < 2 ^ 16 → r < 2 ^ 16 → to_be_bytes w16 p ++ xs ≡ to_be_bytes w16 r ++ ys → p ≡ r
 numbered_apart p r xs ys a b e = sym (from_be_bytes-to_be_bytes_2 p a)
     ∙ ap (from_be_bytes w16) (sym (take_at (to_be_bytes w16 p) xs 2 refl) ∙ ap (take 2) e ∙ take_at (to_be_bytes w16 r) ys 2 refl)
@@ -422,7 +422,7 @@ module _ (g : Grammar) (m : Passes) (k : ℕ) (t : Tree) (v : Valuation) (conten
             (subst (ReadsBack version_two content (length content)) same back);
       }
 
--- the same of terms that are equal to these
+-- `IsSoFar` for other arguments that are equal to the given ones
 so_far_same : (g : Grammar) (m : Passes) (k : ℕ) (t : Tree) (v : Valuation) (content : List ℕ) (at at2 records records2 : ℕ)
     (os os2 : List OpenRecord) (index : TreeIndex) → at2 ≡ at → records2 ≡ records → os2 ≡ os
     → IsSoFar g m k t v content at records os index → IsSoFar g m k t v content at2 records2 os2 index

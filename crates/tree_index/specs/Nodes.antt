@@ -1,6 +1,7 @@
 -- The nodes of a tree in the order in which the tree's file is read from its end, and the index that has these nodes. In these
 -- definitions g is a grammar, m the passes of its attributes, k the number of a pass, t a tree, v the values of its attributes,
--- and d a direction. All of this is this project's.
+-- and d a direction. p is the number of a production and c that of a class. ts are the children of a node from left to right, and
+-- vs their values. All of this is this project's.
 use Rattle.std.specs.Prelude.{ℕ, zero, suc, ◌≡◌, ◌<◌, ◌^◌, List, [], ◌∷◌, ◌++◌, ◌≤◌, drop, map, reverse, length, slice_get}
 use Rattle.std.specs.Prelude.{Option, None, Some, Ok}
 use Rattle.std.specs.List.{flat_map}
@@ -125,7 +126,7 @@ kind_in index number = slice_get index.kinds.items number
 abbrev pub size_of : TreeIndex → ℕ → Option ℕ
 size_of index number = slice_get index.sizes.items number
 
--- `count` is the number of children of a node of this kind: 0 for a token, and if there is no node. Of a production that the
+-- `count` is the number of children of a node of this kind: 0 for a token and for `None`. Of a production that the
 -- grammar does not have, nothing is claimed.
 abbrev pub HasCount : Grammar → Option NodeKind → ℕ → Type 0
 HasCount g None count = count ≡ 0

@@ -35,7 +35,8 @@ BeginsRecord g (item.Symbol s) body number = (q : Production) × (bytes : List �
 BeginsRecord g (item.Terminal (Class c)) body number = (bytes : List ℕ) × (number ≡ c) × (body ≡ body_from Token number bytes)
 BeginsRecord g (item.Terminal (Literal l)) body number = ⊥
 
--- A record of an item was read: it is the body of the frame that ends at the offset at which the reader was.
+-- A record of the item x was read: it is the body of the frame that ends at the offset at which the reader was. Fewer than
+-- 1,048,576 records were read before. `old` and `new` are the states of the reader before and after the call.
 pub record HasFetched (g : Grammar) (honest : Bool) (content : List ℕ) (x : Item) (old new : BackState) (fetched : Fetched) : Type
     0 where
   pub body : List ℕ
@@ -75,7 +76,8 @@ pub record IsOpened (g : Grammar) (index : TreeIndex) (production : ℕ) (open_n
   pub children : (q : Production) → IsProduction g production q → open_node.children ≡ length (stored_items q.items)
   pub visited : open_node.visited ≡ 0
 
--- A record of an item was added to the index, and its node was opened if it is one of a production.
+-- The node of a record of an item was added to the index, and opened if it is one of a production. `end` is the offset at which
+-- the record ends, and `number` is the number in it.
 abbrev pub HasOpened : Grammar → Item → ℕ → ℕ → TreeIndex → TreeIndex → List OpenRecord → List OpenRecord → Type 0
 HasOpened g (item.Symbol s) end number old new open_old open_new = (o : OpenRecord) × HasAdded end (kind.Node number) old new
     × IsOpened g old number o × (open_new ≡ open_old ++ o ∷ [])

@@ -11,8 +11,9 @@ use treefile::{Device, FileVersion, FrameFault, LENGTH_BYTES, fits_before};
 /// the body's length. Takes memory for the body. No clause says which body is returned. (The crate
 /// `causes` proves what it reads, so it has a private `body_before` with such a clause.)
 ///
-/// Fails with B2 and the offset if a body of this length does not fit between the header and the
-/// offset, with D1 if a call of the device fails, and if memory is refused.
+/// Fails with B2 and the offset if the length is below 3 or above 285,212,675, and if the frame
+/// does not fit between the header and the offset. Fails with D1 if a call of the device fails, and
+/// if memory is refused.
 pub fn body_before<D: Device>(
     alloc: Global,
     device: &mut D,

@@ -1,4 +1,4 @@
-//! The deepest node of a production that has given tokens of the sentence.
+//! The deepest node of a production whose subtree has given tokens of the sentence.
 
 ghost use Rattle.std.specs.Prelude.{IfOk, IfSome};
 ghost use Rattle.tree_index.specs.Nodes.{HasChild, LeadsToNode};
@@ -14,7 +14,7 @@ use std::alloc::Global;
 /// sentence.
 #[derive(Clone, Copy, PartialEq, Eq)]
 pub struct TokenRange {
-    /// The number of the first token.
+    /// The number of the first token of the range.
     pub first: u32,
     /// The number of the last token of the range; not less than `first`.
     pub last: u32,

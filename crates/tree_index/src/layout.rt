@@ -27,9 +27,9 @@ fn synthesized_among<'a>(symbol: &Symbol, passes: &'a [u16]) -> &'a [u16] {
     &passes[..symbol.syn.as_slice().len().min(passes.len())]
 }
 
-/// Returns the passes of those attributes of a child that its parent's record copies: the
-/// synthesized attributes of a symbol, or the text of a token, which has pass 0. The list of a
-/// literal is empty.
+/// Returns the passes of those attributes of a child that its parent's record copies in the file of
+/// the last pass: the synthesized attributes of a symbol, or the text of a token, which has pass 0.
+/// The list of a literal is empty.
 pub(crate) fn copied_passes<'a>(grammar: &Grammar, plan: &'a Plan, item: Item) -> &'a [u16] {
     match item {
         Item::Symbol(symbol) => synthesized_passes(grammar, plan, symbol),

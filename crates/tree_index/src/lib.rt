@@ -3,9 +3,9 @@
 //! the end of a path, or the nodes in the order of the sentence, without reading the file from its
 //! end again.
 //!
-//! `TreeIndex::read` reads a file from its end, record by record, as a pass reads it, and fails
-//! with R1, P2, P3, D1 or NoMemory. It accepts the file of any pass of the plan, and that of the
-//! parser (pass 0).
+//! `TreeIndex::read` reads a file from its end, record by record, as a pass reads it. The file can
+//! be that of any pass of the plan, or that of the parser (pass 0). A failure is R1, P2, P3, D1 or
+//! NoMemory.
 #![tactic(auto)]
 
 mod bodies;

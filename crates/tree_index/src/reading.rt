@@ -25,9 +25,9 @@ use treefile::Device;
 const PASS_OFFSET: u64 = 4;
 
 /// The greatest size in bytes of a file from which `read_shape` copies bodies to the reader's
-/// buffer. From a larger file it borrows bodies one by one, if the device lends them. Borrowing is
-/// slower than copying if bodies are small. Only the size of the file decides, not that of its
-/// bodies.
+/// buffer. From a larger file it borrows bodies one by one, if the device lends them. Borrowing
+/// saves copying large bodies, but is slower than copying if bodies are small. Only the size of the
+/// file decides, not that of its bodies.
 const MAX_COPIED: u64 = 4_194_304;
 
 /// A bound of the number of turns of the loop in `read_file`, for a tree of `MAX_NODES` nodes: one

@@ -13,8 +13,8 @@ use treefile::{Kind, split_body};
 
 /// Returns the number in a record of an item, and the bytes after this number, which should be the
 /// spellings of the record's values. For a symbol it is the number of the production, and for a
-/// class that of the class. Returns `None` if the kind or the number in the body is not that of a
-/// record of the item. The bytes after the number are not checked.
+/// class that of the class. Returns `None` if the body does not begin with a kind and a number, or
+/// if these are not those of a record of the item. The bytes after the number are not checked.
 pub(crate) fn split_record<'b>(
     grammar: &Grammar,
     item: Item,

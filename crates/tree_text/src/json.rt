@@ -21,8 +21,9 @@ struct Member<'s> {
 }
 
 impl TreeText<'_> {
-    /// Writes a node as an object in one line: its path, its level, the number of nodes of its
-    /// subtree, its symbol and production or its class, and its selected values.
+    /// Writes a node as an object in one line: its path, its level below the walk's first node, the
+    /// number of nodes of its subtree (itself included), its symbol and production or its class,
+    /// and the values of those selected attributes that the file has.
     pub(crate) fn write_object(
         &self,
         alloc: Global,
@@ -49,8 +50,8 @@ impl TreeText<'_> {
         Ok(out.push_str("}}\n")?)
     }
 
-    /// Writes the members with the symbol of a node, the number of its production and the
-    /// production, or the member with the class of a token.
+    /// Writes the members that say what a node is: for a symbol's node the symbol, the number of
+    /// the production and the production; for a token its class.
     fn write_kind_fields(
         &self,
         alloc: Global,
@@ -185,8 +186,8 @@ fn write_key(out: &mut String, key: &str) -> Result<(), NoMemory> {
     Ok(out.push_str(", ")?)
 }
 
-/// Writes a number as a JSON number. If a reader may round the number, writes an object with its
-/// decimal digits as a string.
+/// Writes a number as a JSON number. If a reader may round the number, writes an object instead,
+/// which has the number in decimal as a string.
 fn write_number(out: &mut String, number: i64) -> Result<(), NoMemory> {
     if -MAX_EXACT <= number && number <= MAX_EXACT {
         return Ok(write!(out, "{number}")?);

@@ -4,9 +4,9 @@
 //! In lines, control characters, white space other than the plain space, and some invisible
 //! characters are written as escapes, such as `\u{1b}`; in the text of a value, LF, tab and CR are
 //! `\n`, `\t` and `\r`. In JSON, quotes, backslashes and control characters of a value are written
-//! as escapes, such as `\n` and `\u001b`, and other characters as they are. The text of a
-//! production in JSON, and the name of a symbol, is first made as in lines and then written as a
-//! JSON string, so `\u{1b}` in it is `\\u{1b}`. The functions that write to a `String` fail if
+//! as escapes, such as `\n` and `\u001b`, and other characters as they are. Productions and names
+//! of symbols have escapes twice in JSON: they are escaped as in lines, and the result is written
+//! as a JSON string. So `\u{1b}` becomes `\\u{1b}`. The functions that write to a `String` fail if
 //! memory is refused.
 #![tactic(auto)]
 

@@ -15,7 +15,8 @@ const MAX_INDENTED: u32 = 24;
 
 impl TreeText<'_> {
     /// Writes the line of a node: its path, its production (of a token its class), and the values
-    /// of the selected attributes. If the nodes below it are left out, also writes their number.
+    /// of those selected attributes that the file has. If the nodes below it are left out, also
+    /// writes their number.
     pub(crate) fn write_line(
         &self,
         alloc: Global,

@@ -120,8 +120,8 @@ impl TreeText<'_> {
 }
 
 /// Prints the nodes of a walk over the tree file that `device` contains. If `text.only` is not
-/// empty, prints only the nodes that have one of its attributes. The walk has to be one over the
-/// index `text.index`. The call sets the walk's greatest level to `text.depth`.
+/// empty, prints only the nodes that have one of its attributes. The walk has to be over the index
+/// `text.index`, and must not have begun. The call sets the walk's greatest level to `text.depth`.
 ///
 /// Fails with R1 if a record is damaged. (`TreeIndex::read` refuses a file with such a record, but
 /// `read_shape` does not read the values, and the file may have changed after the index was read.)

@@ -14,9 +14,9 @@ pub struct SelectedAttribute {
     pub attr: u16,
 }
 
-/// Returns the attribute of a name, such as `L.sum` or `NUMBER.lex`. Each class has `lex`, even if
-/// the grammar does not use the class. Any other name means an attribute of a symbol; if the
-/// grammar does not have it, fails as `attribute_named` does.
+/// Returns the attribute that a name such as `L.sum` or `NUMBER.lex` means. Each class has `lex`,
+/// even if the grammar does not use the class. Any other name means an attribute of a symbol; if
+/// the grammar does not have it, fails as `attribute_named` does.
 pub fn selected_attribute<'a>(
     grammar: &Grammar,
     name: &'a str,

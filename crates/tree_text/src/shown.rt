@@ -41,8 +41,8 @@ fn write_flat(
 }
 
 /// Writes a text value as `write_value` does. Unless `width` is 0, converts only the first
-/// `width + 1` characters of a longer text. Converted, they have more than `width` characters, so
-/// the output ends with `..`, as that of the whole text would.
+/// `width + 1` characters of a longer text. The result of the conversion has more than `width`
+/// characters, so the output ends with `..`, as that of the whole text would.
 fn write_text(alloc: Global, out: &mut String, text: &str, width: usize) -> Result<(), NoMemory> {
     let needed = if width == 0 {
         // the length in bytes, which is at least the number of characters

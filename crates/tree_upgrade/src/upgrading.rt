@@ -52,9 +52,9 @@ impl Upgrading {
     /// Reads the record of a subtree's root. The record's frame should end where the frame that was
     /// read last begins, or at the end of the file if none was read. Requires an item that is a
     /// child: a symbol or a class. Fails with P2 if the root's level exceeds `MAX_REVERSED_LEVELS`,
-    /// and with P3 if `MAX_REVERSED_RECORDS` records were read already. Fails with R1 if no frame
-    /// ends at the expected offset, or one whose body is not a record of the item. R1 has this
-    /// offset. Fails with D1 if the device fails, and with `NoMemory` if memory cannot be allocated.
+    /// and with P3 if `MAX_REVERSED_RECORDS` records were read already. Fails with R1 and the
+    /// expected offset if no frame ends there, or if the body of that frame is not a record of the
+    /// item. Fails with D1 if the device fails, and with `NoMemory` if memory cannot be allocated.
     fn record<D: Device>(
         &mut self,
         grammar: &Grammar,
@@ -95,10 +95,11 @@ impl Upgrading {
     }
 
     /// Converts a subtree, if its item is a symbol or a class: reads its records, and writes the
-    /// records of version 2, each node after its children, and these from right to left. In version
-    /// 2 and pass 0 the only values in a node's record are the texts of its children that are
-    /// tokens. For a literal does nothing. Returns the text if the item is a class, and otherwise
-    /// `None`. Fails as `upgrade` does for the first device, and with D1 if the second one fails.
+    /// records of version 2. Writes each node after its children, and the children from right to
+    /// left. For a literal does nothing. Returns the token's text if the item is a class, and
+    /// otherwise `None`: the caller needs the texts, since in version 2 and pass 0 the values in a
+    /// node's record are the texts of its children that are tokens. Fails as `upgrade` does for the
+    /// first device, and with D1 if the second one fails.
     fn tree<D: Device, E: Device>(
         &mut self,
         grammar: &Grammar,
@@ -119,7 +120,7 @@ impl Upgrading {
         ensures ready { OnOk result (IsUpgrading (D.is_honest from.new) (D.content from.old)
             self.new.back self.new.writer) }
         ensures well { IfOk result (λ text. IfSome text IsWell) }
-        // The call writes as many records as it reads
+        // The call writes as many records as it reads.
         ensures balanced { OnOk result
             (self.new.writer.written + self.old.back.progress.records
             ≡ self.old.writer.written + self.new.back.progress.records) }
@@ -268,19 +269,21 @@ fn stored_among(items: &[Item]) -> u32
 /// file of version 2 and pass 0 of the same tree: the file that `parse` writes for a sentence with
 /// this tree. Returns the number of nodes. The recursion is as deep as the tree, and ends before
 /// a record at a level above `MAX_REVERSED_LEVELS` (256) is read. The first device keeps its
-/// content, also on failure. After a success the old content of the other two is lost.
+/// content, also on failure. After a success the old content of the second and the third is lost.
 ///
 /// Fails with R1 (`Damaged`) only if the content is not the file of version 1 and pass 0 of a tree
 /// of the grammar; the offset is as for `run_pass` of the crate `passrun`. If a limit is exceeded
-/// before any damage, fails with P2 (`TooDeep`) or P3 (`TooManyNodes`) instead. With P2 the content
-/// encodes no tree of at most `MAX_REVERSED_LEVELS` (256) levels, with P3 none of at most
-/// `MAX_REVERSED_RECORDS` (65,536) nodes. It may encode no tree at all. Fails with D1 (`Device`)
-/// if a call of a device failed, and with `NoMemory` if memory cannot be allocated. What R1, P2 and P3
-/// mean holds if the first two devices return the bytes that were written to them. If the second one
-/// does not, the call may also fail with R1 and an offset in that device's content, or with P2. After a
-/// failure the second and the third device each have their old content, or a prefix of a tree file.
+/// before damage is met, fails with P2 (`TooDeep`) or P3 (`TooManyNodes`) instead. After P2 the
+/// content encodes no tree of at most `MAX_REVERSED_LEVELS` (256) levels, and after P3 none of at
+/// most `MAX_REVERSED_RECORDS` (65,536) nodes. Fails with D1 (`Device`) if a call of a device
+/// failed, and with `NoMemory` if memory cannot be allocated.
 ///
-/// Allocates memory for a buffer that is read (4,096 bytes or the largest frame), for the frame that
+/// R1, P2 and P3 are true of the content if the first two devices return the bytes that were
+/// written to them. If the second one does not, the call may also fail with R1 and an offset in the
+/// second device's content, or with P2. After a failure the second and the third device each have
+/// their old content, or a prefix of a tree file.
+///
+/// Allocates memory for a buffer for reading (4,096 bytes or the largest frame), for the frame that
 /// is written, and for the texts of the tokens among the children of each node on the path from the
 /// root. While the intermediate file is reversed, allocates memory for a body at each level of the
 /// tree.
@@ -316,9 +319,9 @@ pub fn upgrade<D: Device, E: Device, F: Device>(
     Ok(count)
 }
 
-/// Writes the record of a node or token that was read from a file of version 1. Its values are of
-/// the type `Value`. (Those that a pass writes are of the type `Carried`.) Fails with D1 if the
-/// device fails, and with `NoMemory` if memory cannot be allocated.
+/// Writes the record of a node or token that was read from a file of version 1. The values are of
+/// the type `Value`. (A pass writes values of the type `Carried`.) Fails with D1 if the device
+/// fails, and with `NoMemory` if memory cannot be allocated.
 #[inline(always)]
 fn put_record<E: Device>(
     kind: Kind,

@@ -121,7 +121,7 @@ iffy_recorded = record {
   );
 }
 
--- an empty text is not the leaf's
+-- values with an empty text for the leaf can't be recorded
 pub iffy_unrecorded : IsRecorded token_sample iffy_passes 0 (item.Symbol 0) token_tree (λ path a. Text []) → ⊥
 iffy_unrecorded is = let same : [] ≡ iffy = text_same [] iffy is.texts.1.0 in cc
 

@@ -60,7 +60,7 @@ OneReading = (version : Version) (g : Grammar) (m : Passes) (k : ℕ) (t s : Tre
     → IsUsable version → FitsVersion version g m → IsNumbered g → IsTreeOf g t → IsTreeOf g s
     → IsFileOfTree version g m k t u content → IsFileOfTree version g m k s w content → (t ≡ s) × Same (λ p. p ≤ k) g m t u w
 
--- Values that are the same up to pass k have the same file of it.
+-- Values that are the same up to pass k have the same file of pass k.
 abbrev pub SameFile : Type 0
 SameFile = (version : Version) (g : Grammar) (m : Passes) (k : ℕ) (t : Tree) (u w : Valuation) (content : List ℕ)
     → Same (λ p. p ≤ k) g m t u w → IsFileOfTree version g m k t u content → IsFileOfTree version g m k t w content

@@ -2,7 +2,8 @@
 -- of version 1. The grammar computes the value of a binary fraction in units of 1/65536:
 --   start N; symbol N syn out; symbol Q syn v; symbol L syn p, v inh w; symbol T syn p, v inh w; symbol B syn bit;
 --   N = L Q   Q =   Q = "." L   L = B T   T =   T = B T   B = "0"   B = "1"
--- Symbols and productions are numbered from 0 in this order. The rules are left out, since no file depends on them.
+-- Symbols and productions are numbered from 0 in this order. The rules are left out: a file is made of given values
+-- (`file_of_tree`), whether or not these satisfy rules.
 use Rattle.std.specs.Prelude.{ℕ, zero, suc, List, [], ◌∷◌, ◌++◌, codes, pos}
 use Rattle.ag_value.specs.declared.value.Value.{Value, Num, Text}
 use Rattle.ag_grammar.specs.declared.grammar.Item.{Item}

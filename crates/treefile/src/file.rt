@@ -159,7 +159,8 @@ impl<F: Read + Write + Seek + OpenFile> FileDevice<F> {
         }
     }
 
-    /// Appends the bytes of `parts` to the buffer, as `buffer_bytes` does with bytes.
+    /// Appends the bytes of `parts` to the buffer, as `buffer_bytes` does with bytes. Requires that
+    /// the buffer then has fewer than 2^64 bytes.
     fn buffer_parts(&mut self, parts: &SharedBytes) -> Result<(), DeviceFault>
         requires { length self.old.buffered + length parts.now < 2 ^ 64 }
         ensures ok { OnOk result (self.new
@@ -173,10 +174,11 @@ impl<F: Read + Write + Seek + OpenFile> FileDevice<F> {
         }
     }
 
-    /// Appends bytes as `append` does, also if they do not fit in the buffer: then it first writes
-    /// the buffered bytes to the file. Writes 65,536 bytes or more to the file without buffering
-    /// them. Fails with `Failed` if the file is only read, or if a write, now or earlier, failed,
-    /// and with `NoMemory` if memory is refused.
+    /// Appends bytes in the cases that `append` leaves to this function: the access is not
+    /// `Writing`, or the bytes fill the buffer or do not fit in it. If they do not fit, it first
+    /// writes the buffered bytes to the file. Writes 65,536 bytes or more to the file without
+    /// buffering them. Fails with `Failed` if the file is only read, or if a write, now or earlier,
+    /// failed, and with `NoMemory` if memory is refused.
     #[cold]
     #[inline(never)]
     fn append_slowly(&mut self, bytes: &[u8]) -> Result<(), DeviceFault>

@@ -32,7 +32,8 @@ impl<D> Model for FuseDevice<D> {
 
 impl<D: Device> FuseDevice<D> {
     /// Makes a device whose k-th counted call from now on fails (1: the next). With 0 all calls are
-    /// forwarded. Content and honesty are those of `inner`. Takes no memory.
+    /// forwarded. Content, honesty and the number of failures are those of `inner`. Takes no
+    /// memory.
     pub fn new(inner: D, k: u64) -> FuseDevice<D>
         ensures inner { result.inner ≡ inner }
         ensures left { result.left ≡ k }

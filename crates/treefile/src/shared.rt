@@ -138,8 +138,8 @@ fn body_before(bytes: &SharedBytes, at: u64) -> Option<Body<'_>>
     Some(body)
 }
 
-/// Returns the big-endian number in four bytes, or `None` if the part has another length or shared
-/// bytes.
+/// Returns the big-endian number in the four bytes of a part, or `None` if the part has another
+/// length or contains shared bytes.
 fn number_of(part: &Body<'_>) -> Option<u32>
     ensures { IfSome result (λ n. n ≡ from_be_bytes w32 part.now) }
 {

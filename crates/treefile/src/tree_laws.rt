@@ -78,9 +78,10 @@ pub fn trees_are_read_back()
         (prefix (other (direction_of pass)) (bodies_of version grammar passes pass tree values)) }
 {}
 
-/// Worked examples: the files of `1` in the grammar of binary fractions, byte for byte, and the
-/// file of pass 0 of `iffy if` in `token_sample`. In pass 0 the only values are the texts of
-/// tokens. In version 2 the record of a node has copies too.
+/// Worked examples, byte for byte: the files of `1` in the grammar of binary fractions (of passes 0
+/// to 2 in version 1, of passes 1 and 2 in version 2), and the file of pass 0 of `iffy if` in
+/// `token_sample`, in both versions. In pass 0 the only values are the texts of tokens. In
+/// version 2 the record of a node has copies too.
 pub fn worked_files()
     ensures first { (values : Valuation) →
         file_of_tree version_one binary binary_passes 0 tree_of_one values ≡ pass_0_of_one }

@@ -27,7 +27,8 @@ use std::marker::Model;
 
 /// Writes the records of a tree file, each as one frame at the end of a device. The writer holds no
 /// device: each call takes the device that the writer was begun on. Contracts see the number of
-/// frames that were appended, and whether the writer is broken.
+/// frames that were appended, and whether the writer is broken. A frame is put together in `buffer`
+/// or `parts`, whose memory is used again for the next frame.
 #[derive(Drop)]
 pub struct Writer {
     buffer: Vec<u8>,

@@ -321,7 +321,7 @@ fn is_error(value: Option<&Carried>) -> bool {
     }
 }
 
-/// Writes how a line about a cause begins. Returns the text ` at PATH`, with the path of the
+/// Writes the beginning of a line about a cause. Returns the text ` at PATH`, with the path of the
 /// cause's node.
 fn write_beginning(alloc: Global, out: &mut String, cause: &Cause) -> Result<String, NoMemory> {
     out.push_str("  the error ")?;

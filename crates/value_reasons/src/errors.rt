@@ -16,7 +16,8 @@ use tree_index::{NodePath, SentenceWalk, TreeFault, body_before};
 use tree_text::ShowFault;
 use treefile::Device;
 
-/// The number of buffered bytes at which the buffer is written to the output.
+/// The number of buffered bytes from which on the buffer is written to the output. The buffer saves
+/// a write for each line.
 const BUFFER_BYTES: usize = 65_536;
 
 impl<'a> ExplainedTree<'a> {
@@ -122,11 +123,12 @@ impl<'a> ExplainedTree<'a> {
 }
 
 /// Prints a line for each rule in which an error arises, at each node of a tree, and then the
-/// number of these lines. Visits the nodes in the order of the sentence: each before its children,
-/// and these from left to right. The caller has to check that the file is of the last pass; for
-/// another file the lines mean nothing. Fails with R1 if a record is damaged, with D1 if a call of
-/// the device fails, with O2 if the output fails, and if memory is refused. Some of the lines may
-/// have been printed before a failure.
+/// number of these lines. A line has the path of the node, the rule and the rule's position. Visits
+/// the nodes in the order of the sentence: each before its children, and these from left to right.
+/// The caller has to check that the file is of the last pass; for another file the lines mean
+/// nothing. Fails with R1 if a record is damaged, with D1 if a call of the device fails, with O2 if
+/// the output fails, and if memory is refused. Some of the lines may have been printed before a
+/// failure.
 pub fn write_errors<D: Device, W: Write>(
     tree: &ExplainedTree<'_>,
     device: &mut D,

@@ -59,9 +59,9 @@ impl<'a> ExplainedTree<'a> {
         let mut nodes = Vec::new(self.alloc);
         push(&mut nodes, node)?;
         let mut count = 0usize;
-        // The prover needs a bound. This is more turns than a tree within the limits takes: one for
-        // each node, one for its end, and one for each literal written, of which there are at most
-        // `MAX_TOKENS`.
+        // The prover needs a bound. This is more turns than a tree within the limits takes: at most
+        // two for each node (when it is found, and at the end of its items), and one for each
+        // literal written, of which there are at most `MAX_TOKENS`.
         for _turn in 0..16 * MAX_NODES {
             if MAX_TOKENS <= count {
                 return Ok(());

@@ -114,6 +114,7 @@ impl<'a> ExplainedTree<'a> {
 
     /// Writes that an error arises in a rule, the rule's position, and the text `place`. Then
     /// writes the values of the rule's arguments up to the first one that the record does not have.
+    /// Writes nothing if the production does not have the rule's target.
     fn write_arising(
         &self,
         out: &mut String,

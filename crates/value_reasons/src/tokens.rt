@@ -26,8 +26,8 @@ impl fmt::Display for TokenPosition<'_> {
 }
 
 /// Returns where the token is that follows the first `before` tokens of a sentence: `End` if the
-/// sentence has exactly `before` tokens. Returns `None` if the sentence can't be cut into tokens or
-/// has fewer than `before`, or if memory is refused.
+/// sentence has exactly `before` tokens. Returns `None` if the sentence has fewer, or if `scan`
+/// fails.
 pub fn position_of_token<'a>(
     alloc: Global,
     grammar: &Grammar,

@@ -87,7 +87,7 @@ pub fn append<'a>(alloc: Global, list: &ListTree, item: Measured) -> Result<Held
     concatenate(alloc, list, &single(alloc, item)?)
 }
 
-/// Returns the list of one item.
+/// Returns the list of one item, as a tree.
 fn single(alloc: Global, item: Measured) -> Result<ListTree, NoMemory>
     requires no_fault { fault_of item ≡ None }
     requires shallow { depth_of item < max_value_depth }

@@ -76,7 +76,7 @@ pub fn has(table: &Value, key: &Value) -> Value
     }
 }
 
-/// Computes `put(t, k, v)`: the table gets the pair, or the key a new value. A table that has more
+/// Computes `put(t, k, v)`: adds the pair, or replaces the value of the key. A table that has more
 /// than `MAX_FLAT_TABLE` pairs before this becomes a tree. Takes memory for the growth, or for the
 /// tree.
 pub fn put<'a>(
@@ -154,8 +154,8 @@ struct MeasuredPairs {
     depth: u32,
 }
 
-/// Adds a pair to a table, or replaces the value of its key. A pair weighs 4 bytes for the length
-/// of its key, and the key's bytes and the value's weight.
+/// Adds a pair to a table, or replaces the value of its key. The weight of a pair is the sum of 4
+/// (the bytes that encode the key's length), the number of the key's bytes, and the value's weight.
 fn put_pair(
     alloc: Global,
     table: MeasuredPairs,

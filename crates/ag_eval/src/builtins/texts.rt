@@ -98,8 +98,8 @@ fn joined(alloc: Global, items: &[Value], separator: &str) -> Result<String, NoM
     Ok(text)
 }
 
-/// Computes `a ++ b` if b is a text: the left argument is extended by it. Takes memory for the
-/// growth.
+/// Computes `a ++ b` for a text b: extends the left argument by b, or returns the error `kind` if
+/// the left argument is not a text. Takes memory for the growth.
 pub fn extend_text(alloc: Global, left: Measured, right: &str) -> Result<Measured, NoMemory>
     ensures { IfOk result (λ m. m ≡ concatenation left (value.Text right.now)) }
 {

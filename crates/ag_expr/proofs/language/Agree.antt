@@ -18,7 +18,7 @@ use Rattle.ag_tokens.specs.Ending as ending
 use Rattle.ag_expr.specs.language.Names.{Names}
 use Rattle.ag_tokens.specs.PlacedToken.{PlacedToken, Input, tokens}
 use Rattle.ag_tokens.specs.Languages as syntax
-use Rattle.ag_tokens.specs.Languages.{gives, one, ◌or◌, further}
+use Rattle.ag_tokens.specs.Languages.{gives, one}
 use Rattle.ag_expr.specs.language.Syntax.{one_sign, operator_of, binary_operator, precedences, closer, takes_one, same_precedence}
 use Rattle.ag_expr.specs.language.Syntax.{of_precedence, chain_of, new_name, call_in, operand_of, IsOther, IsChain, IsRanked}
 use Rattle.ag_expr.specs.language.Syntax.{AreNone, IsTable, IsParenthesized, IsNext, AreSome, IsList, AreArguments, IsCall, IsLet}

@@ -6,7 +6,6 @@ use Rattle.unicode_ident.proofs.IdentLemmas.{is_xid_start-ascii, is_xid_continue
 use Rattle.ag_tokens.specs.declared.token.Punctuation.TheVariants as punctuation
 use Rattle.ag_tokens.specs.Ending as ending
 use Rattle.ag_tokens.specs.PlacedToken.{PlacedToken, tokens}
-use Rattle.ag_tokens.specs.GrammarToken.{GrammarToken}
 use Rattle.ag_tokens.specs.GrammarToken as token
 use Rattle.ag_tokens.specs.Tokens.{AreTokens}
 use Rattle.ag_tokens.specs.Remaining.{cut}

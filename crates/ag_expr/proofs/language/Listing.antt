@@ -20,13 +20,13 @@ pub listed_alike : (xs : List Occ) (x y : Occ) → is_of y.place y.attr x ≡ tr
 listed_alike xs x y h = let same = bytes_eq-Decides x.attr y.attr in let place : x.place ≡ y.place = grind (arith, nat_tests) in
     let attr : x.attr ≡ y.attr = grind arith in rw (place, attr) refl
 
--- filtering out an occurrence that is already listed changes nothing
+-- if x is listed already, the list ys without the occurrences of x's place and name has the same unlisted ones as ys
 unlisted-old : (xs : List Occ) (x : Occ) (ys : List Occ) → is_listed xs x ≡ true
     → unlisted xs (filter (λ y. not (is_of y.place y.attr x)) ys) ≡ unlisted xs ys
 unlisted-old xs x [] old = refl
 unlisted-old xs x (y ∷ ys) old = let more = unlisted-old xs x ys in let alike = listed_alike xs x y in grind (arith, more, alike)
 
--- filtering out a new one is the same as adding it to the list
+-- whether x is listed or not, the unlisted ones of that list are those of ys that stay unlisted after x is listed
 unlisted-new : (xs : List Occ) (x : Occ) (ys : List Occ)
     → unlisted xs (filter (λ y. not (is_of y.place y.attr x)) ys) ≡ unlisted (xs ++ x ∷ []) ys
 unlisted-new xs x [] = refl

@@ -12,7 +12,7 @@ use Rattle.ag_tokens.specs.GrammarToken.{GrammarToken, Sign, mark, word, sign_to
 use Rattle.ag_tokens.specs.Languages as languages
 use Rattle.ag_tokens.specs.Languages.{one, ◌or◌}
 use Rattle.ag_expr.proofs.reading.Exact as theory
-use Rattle.ag_expr.proofs.reading.Exact.{Manner, Apart, nowhere, one_exact, one_starts, then_starts, or_starts, or_exact}
+use Rattle.ag_expr.proofs.reading.Exact.{Manner, Apart, one_exact, one_starts, then_starts, or_starts, or_exact}
 use Rattle.ag_expr.proofs.reading.Steady as steady
 use Rattle.ag_expr.proofs.reading.Steady.{one_steady, wider_steady}
 use Rattle.ag_expr.specs.declared.fault.ExprFault.{ExprFault}
@@ -21,7 +21,7 @@ use Rattle.ag_expr.specs.language.Expression.{begins_expression}
 use Rattle.ag_expr.specs.language.Reading.{Parser, as_sign, expect, refusal, token_as}
 use Rattle.ag_expr.specs.language.Syntax.{one_sign}
 
--- the fault states of this token, which can begin an expression, that it is too deep
+-- a test: the fault is X4 at this token, and an expression can begin with the token
 abbrev is_deep : ExprFault → PlacedToken → Bool
 is_deep (fault.TooDeep at) p = at == p.at && begins_expression p.token
 is_deep _ p = false

@@ -20,13 +20,13 @@ found_from : {X : Type 0} (p : X → Bool) (i : ℕ) (xs : List X) → is_some (
 found_from p i [] = refl
 found_from p i (x ∷ xs) = let more = found_from p (i + 1) xs in grind arith
 
--- a new member is found if it is the only one that satisfies the test
+-- if x satisfies the test, and no other member does, x at the end of the list is the one that is found
 new_from : {X : Type 0} (p : X → Bool) (i : ℕ) (xs : List X) (x : X) → p x ≡ true → list_any p xs ≡ false
     → position_from p i (xs ++ x ∷ []) ≡ Some (i + length xs)
 new_from p i [] x h none = rw h (ap Some (omega arith))
 new_from p i (y ∷ ys) x h none = let more = new_from p (i + 1) ys x h in grind (arith, more)
 
--- and changes nothing if it does not satisfy the test
+-- if x does not satisfy the test, the same member is found with x at the end as without it
 old_from : {X : Type 0} (p : X → Bool) (i : ℕ) (xs : List X) (x : X) → p x ≡ false
     → position_from p i (xs ++ x ∷ []) ≡ position_from p i xs
 old_from p i [] x h = rw h refl
@@ -122,7 +122,7 @@ pub follows_pushed : {S : Type 0} (numbers new : HashMap Key ℕ S) (listed kept
 follows_pushed numbers new listed kept pushed key number at attr none follows same count updates more name =
     rw (more, same, name) (follows_on numbers new listed key at none follows (rw (count, same) at updates))
 
--- an occurrence whose place and name are not listed differs from each listed one
+-- if listed occurrences are different, they still are with one more whose place and name are not listed
 pub pushed_apart : (listed kept pushed : List Occ) (place at : ℕ) (attr name : List ℕ)
     → list_any (is_of place attr) listed ≡ false → AreDifferent listed → kept ≡ listed
     → pushed ≡ kept ++ record { place = place; attr = name; at = at } ∷ [] → name ≡ attr

@@ -24,7 +24,7 @@ use Rattle.ag_expr.specs.language.Names.{Names}
 use Rattle.ag_tokens.specs.PlacedToken.{PlacedToken, Input, tokens}
 use Rattle.ag_expr.specs.language.Offsets.{NoneGoesOn, IsReportedFirst}
 use Rattle.ag_tokens.specs.Parsing as reading
-use Rattle.ag_tokens.specs.Parsing.{next_token, first_token, next_satisfies, sees, is_end, is_sign, choose}
+use Rattle.ag_tokens.specs.Parsing.{sees, is_end, is_sign, choose}
 use Rattle.ag_expr.specs.language.Reading.{token_as, Outcome, Parser, refusal, refusal_of, at_end, expect, is_operator_of, begins}
 use Rattle.ag_expr.specs.language.Reading.{begins_atom, other_from, chain_from, ranked_from, none_from, table_from}
 use Rattle.ag_expr.specs.language.Reading.{parenthesized_from, next_from, items_from, some_from, list_from, unary_from}
@@ -332,7 +332,7 @@ begins_one listed scope t h = grind arith
 
 -- ---- by levels
 
--- more levels, and at least two
+-- more levels than n: n + d + 2
 abbrev above : ℕ → ℕ → ℕ
 above d zero = suc (suc d)
 above d (suc n) = suc (above d n)
@@ -452,7 +452,7 @@ not_deep : (e : Ending) (ps : List PlacedToken) (at : ℕ) → refusal_of e ps �
 not_deep e ps at h = let bad : ⊥ = grind arith in bad
 
 module _ (listed : List Occ) (n : ℕ) (us : List PlacedToken) where
-  -- if the parser succeeds, the tokens are not any other expression
+  -- if all tokens are an expression, the parser returns it, unless it fails with `TooDeep`
   settled : (m : ℕ) (k : Input) (e : Node) → IsExpr listed m (tokens us ++ tokens k.left) e → (o : Outcome Node)
       → expr_from listed n (before us k) ≡ o → NotDeep o → o ≡ Ok (e, record { left = []; ending = k.ending })
   settled m k e is o read sure =

@@ -27,7 +27,7 @@ pub prefix_is : (s : State) → next_token (input s) ≡ before_end s.is_stateme
 unfolding input
 prefix_is s = grind arith
 
--- the fault for a cursor with this token fault, at its offset
+-- the fault at this offset, from why the cursor has no next token (`None` if it has one, or the text ends)
 abbrev pub reported : Option TokenFault → ℕ → ExprFault
 reported None at = fault.Unexpected at
 reported (Some token_fault.Nothing) at = fault.NoToken at

@@ -7,14 +7,14 @@ use Rattle.ag_tokens.specs.Ending.{Ending}
 use Rattle.ag_tokens.specs.PlacedToken.{PlacedToken, Input}
 use Rattle.ag_tokens.specs.GrammarToken.{GrammarToken}
 use Rattle.ag_tokens.specs.Parsing as parsing
-use Rattle.ag_tokens.specs.Parsing.{first_token, sees, Outcome, Parser, and_then, pure, accept_as, one_from, choose, many_from}
+use Rattle.ag_tokens.specs.Parsing.{first_token, sees, Outcome, Parser, and_then, pure, one_from, choose, many_from}
 use Rattle.ag_tokens.specs.Parsing.{further_from}
 use Rattle.ag_tokens.specs.Languages as languages
-use Rattle.ag_tokens.specs.Languages.{gives, one, Many, none, more, IsFew, further}
+use Rattle.ag_tokens.specs.Languages.{gives, one, Many, none, more, further}
 
--- What the theory needs to know about a language: the item for a token with its offset, the fault for an
--- input that cannot be accepted, the faults that are about a token, and whether a fault means that this token
--- needs more levels.
+-- What the theory needs to know about languages and faults. A word is a list of items of type T: `item` is the one for a token
+-- with its offset. `wrong` is the fault for an input whose next token cannot be accepted. Two tests: `is_reported` is true of the
+-- faults of which the lemmas claim something, and `is_deep` of a fault and a token if the token needs more levels by the fault.
 pub record Manner (T Fault : Type 0) : Type 0 where
   pub item : PlacedToken → T
   pub wrong : Input → Fault
@@ -40,6 +40,7 @@ pub record Exact {T Fault A : Type 0} (m : Manner T Fault) (stops : GrammarToken
   pub complete : (us : List PlacedToken) (j : Input) (a : A) → L (map m.item us) a → first_is stops j.left ≡ false
       → r (before us j) ≡ Ok (a, j)
 
+-- no token passes this test
 abbrev pub nowhere : GrammarToken → Bool
 nowhere t = false
 

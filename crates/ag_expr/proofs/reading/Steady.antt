@@ -1,5 +1,6 @@
 -- Where a parser fails: the tokens before are a prefix of a word, and the next token alone decides, whatever
--- follows it.
+-- follows it. In these definitions r is a parser, and q the same parser with as many levels or more. L is their language, us are
+-- the tokens before the fault f, and j is the input from there on.
 use Rattle.std.proofs.Common.{◌≡◌, ℕ, zero, suc, ◌<◌, ◌≤◌, Bool, true, false, if◌then◌else◌, List, [], ◌∷◌, ◌++◌, map, length}
 use Rattle.std.proofs.Common.{Option, Some, None, Ok, Err, ◌⊎◌, inl, inr, refl, ap, sym, ◌∙◌, subst, append_assoc, append-nil}
 use Rattle.std.proofs.Common.{arith}
@@ -8,10 +9,10 @@ use Rattle.ag_tokens.specs.Ending.{Ending}
 use Rattle.ag_tokens.specs.PlacedToken.{PlacedToken, Input}
 use Rattle.ag_tokens.specs.GrammarToken.{GrammarToken}
 use Rattle.ag_tokens.specs.Parsing as parsing
-use Rattle.ag_tokens.specs.Parsing.{next_token, sees, offset, meaning_of, Outcome, Parser, and_then, pure, accept_as, one_from}
+use Rattle.ag_tokens.specs.Parsing.{next_token, sees, offset, meaning_of, Outcome, Parser, and_then, pure, one_from}
 use Rattle.ag_tokens.specs.Parsing.{choose, many_from, further_from}
 use Rattle.ag_tokens.specs.Languages as languages
-use Rattle.ag_tokens.specs.Languages.{gives, one, Many, none, more, IsFew, further}
+use Rattle.ag_tokens.specs.Languages.{gives, one, Many, none, more, further}
 use Rattle.ag_expr.proofs.reading.Exact.{Manner, before, before-append, first_is, opened, answered}
 
 abbrev pub first_of : List PlacedToken → Option PlacedToken
@@ -26,11 +27,12 @@ Heads t [] = ⊥
 Heads t (u ∷ us) = u ≡ t
 
 module _ {T Fault : Type 0} (m : Manner T Fault) where
-  -- the parser cannot accept the next token, whatever follows it
+  -- after the tokens us, the parser cannot accept the next token, whatever follows it
   abbrev pub Stuck : {A : Type 0} → Parser Fault A → List PlacedToken → Input → Fault → Type 0
   Stuck r us j f = (f ≡ m.wrong j) × ((k : Input) → first k ≡ first j → r (before us k) ≡ Err (m.wrong k))
 
-  -- the parser could accept the next token with more levels, and fails with this number, whatever follows it
+  -- after the tokens us, the parser fails at the next token, whatever follows it; the fault f says that it has too few levels;
+  -- `rest` is the rest of a word, and begins with this token
   abbrev pub Deep : {A : Type 0} → Parser Fault A → List PlacedToken → Input → Fault → List T → Type 0
   Deep r us j f rest =
       (p : PlacedToken) × (ps : List PlacedToken) × (j.left ≡ p ∷ ps) × (m.is_deep f p ≡ true) × Heads (m.item p) rest
@@ -45,9 +47,9 @@ module _ {T Fault : Type 0} (m : Manner T Fault) where
     pub begins : L (map m.item us ++ rest) a
     pub how : Stuck q us j f ⊎ Deep r us j f rest
 
-  -- If `r` succeeds on the input i, both parsers do, depending only on the next token after the part. If `r`
-  -- fails, the tokens before the fault are a prefix of a word, and `q` fails there, depending only on the
-  -- next token.
+  -- If r succeeds on the input i, the tokens that it reads are a word. On each input with these tokens and the same next token,
+  -- r and q return the same. If r fails on i, the tokens before the fault are a prefix of a word, and either q can't accept the
+  -- next token (`Stuck`), or r has too few levels for it (`Deep`).
   pub record SteadyAt {A : Type 0} (L : List T → A → Type 0) (r q : Parser Fault A) (i : Input) : Type 0 where
     pub ok : (j : Input) (a : A) → r i ≡ Ok (a, j)
         → (us : List PlacedToken) × (i ≡ before us j) × L (map m.item us) a

@@ -8,13 +8,14 @@ use Rattle.ag_tokens.specs.GrammarToken.{GrammarToken}
 use Rattle.ag_expr.specs.language.Reading.{Parser, is_operator_of, other_from, ranked_from}
 use Rattle.ag_expr.specs.language.Syntax.{chain_of, same_precedence, takes_one}
 
--- the rest of a chain after its first operand
+-- the rest of a chain of this precedence after its first operand, `first`; `operand` is the parser of its operands
 unfoldable pub chain_after : Precedence → Parser Node → Node → Parser Node
 chain_after k operand first = do
   others ← further_from (takes_one k) (is_operator_of k) (other_from k operand) []
   pure (chain_of first others)
 
--- the rest of nested chains after their first atom; the last precedence binds most strongly
+-- the rest of nested chains after their first atom, `first`; `atom` is the parser of atoms, and the last precedence binds most
+-- strongly
 unfoldable pub ranked_after : Parser Node → List Precedence → Node → Parser Node
 ranked_after atom [] first = pure first
 ranked_after atom (k ∷ ks) first = do

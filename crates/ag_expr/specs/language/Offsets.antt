@@ -14,7 +14,7 @@ use Rattle.ag_expr.specs.language.Syntax.{IsExpr}
 use Rattle.ag_tokens.specs.GrammarToken.{GrammarToken}
 use Rattle.ag_tokens.specs.Tokens.{Lexes}
 
--- the tokens are a prefix of an expression, for some number of levels
+-- the tokens are a prefix of an expression of some number of levels, whose occurrences are all in `listed`
 abbrev pub Begins : List Occ → List GrammarToken → Type 0
 Begins listed ts = (levels : ℕ) × (more : List GrammarToken) × (e : Node) × IsExpr listed levels (ts ++ more) e
 

@@ -112,7 +112,7 @@ begins_atom listed scope t =
 abbrev pub begins : List Occ → Names → GrammarToken → Bool
 begins listed scope t = is_sign (word (codes "let")) t || (is_sign (word (codes "if")) t || begins_atom listed scope t)
 
--- the form of the atom that begins with the token
+-- the form of the atom that begins with this punctuation; `atom_of` is the same for any token
 abbrev pub marked_atom : Punctuation → Atom
 marked_atom punctuation.Open = atom.Parenthesized
 marked_atom punctuation.OpenList = atom.List
@@ -153,8 +153,9 @@ table_from = do
   expect (mark punctuation.CloseTable)
   pure node.EmptyTable
 
--- The parsers of the forms of an expression. Each parses the language of `Syntax.antt` with the same name: `list_from` parses
--- `IsList`, and `some_from` parses `AreSome`. `inner` maps the names in scope to the parser of expressions of one level less.
+-- The parsers of the forms of an expression. Each but `items_from` parses the language of `Syntax.antt` with the same name:
+-- `list_from` parses `IsList`, and `some_from` parses `AreSome`. `inner` maps the names in scope to the parser of expressions of
+-- one level less, and `scope` are the names in scope.
 module _ (inner : Names → Parser Node) (scope : Names) where
   unfoldable pub parenthesized_from : Parser Node
   parenthesized_from = do

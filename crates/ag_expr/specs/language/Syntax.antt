@@ -26,12 +26,13 @@ use Rattle.ag_tokens.specs.Languages.{◌>>=◌, ◌>>◌, gives, one, ◌or◌,
 
 -- ---- one sign
 
--- the tokens are this one punctuation or name
+-- the tokens are this one punctuation or name; its meaning u is the one value of the type `Unit`
 abbrev pub one_sign : Sign → List GrammarToken → Unit {0} → Type 0
 one_sign s ts u = ts ≡ sign_token s ∷ []
 
 -- ---- the table of operators with their precedences
 
+-- the operators that are punctuation
 abbrev pub marked_operator : Punctuation → Option (Precedence × Operator)
 marked_operator punctuation.EqualEqual = Some (precedence.Comparison, operator.Equal)
 marked_operator punctuation.Less = Some (precedence.Comparison, operator.Less)
@@ -127,7 +128,8 @@ IsChain k operand = do
   others ← further (takes_one k) [] (IsOther k operand)
   gives (chain_of first others)
 
--- nested chains, one for each precedence, over atoms
+-- A chain of the first precedence, whose operands are chains of the others, the strongest last. The operands of the strongest are
+-- of the language `atom`.
 abbrev pub IsRanked : (List GrammarToken → Node → Type 0) → List Precedence → List GrammarToken → Node → Type 0
 IsRanked atom [] = atom
 IsRanked atom (k ∷ ks) = IsChain k (IsRanked atom ks)
@@ -147,7 +149,8 @@ IsTable = do
   one_sign (mark punctuation.CloseTable)
   gives node.EmptyTable
 
--- ---- expressions; `inner` maps the names in scope to the language of expressions of one level less
+-- ---- expressions; `inner` maps the names in scope to the language of expressions of one level less, and `scope` are the names
+-- in scope
 
 module _ (inner : Names → List GrammarToken → Node → Type 0) (scope : Names) where
   abbrev pub IsParenthesized : List GrammarToken → Node → Type 0
@@ -240,7 +243,8 @@ module _ (inner : Names → List GrammarToken → Node → Type 0) (scope : Name
     abbrev pub IsWhole : List GrammarToken → Node → Type 0
     IsWhole = IsLet or IsIf or IsRanked IsAtom precedences
 
--- The tokens are an expression of at most `levels` levels with this tree, with these names in scope.
+-- With the names `scope` in scope, the tokens `ts` are an expression of at most `levels` levels, and e is its tree. An occurrence
+-- in the tree is its index in `listed`.
 unfoldable pub IsExprIn : List Occ → ℕ → Names → List GrammarToken → Node → Type 0
 IsExprIn listed zero scope ts e = ⊥
 IsExprIn listed (suc levels) scope ts e = IsWhole (IsExprIn listed levels) scope listed ts e

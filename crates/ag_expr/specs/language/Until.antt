@@ -95,8 +95,9 @@ pub record IsUnended (i : Input) (f : ExprFault) : Type 0 where
   pub tree : Node
   pub spells : IsExpr (occurrences_of i) max_levels (tokens i.left) tree
 
--- The fault is at the first token that cannot be accepted, where the first semicolon counts as the end of the text. Without
--- a semicolon all tokens count; if they are an expression, the fault is at the end of the text.
+-- The first argument is the offset of the first semicolon, if there is one. The fault is at the first token that cannot be
+-- accepted, where the first semicolon counts as the end of the text. Without a semicolon all tokens count; if they are an
+-- expression, the fault is at the end of the text.
 abbrev pub IsReportedUntil : Option ℕ → Input → ExprFault → Type 0
 IsReportedUntil (Some at) i f =
     IsReportedFirst (distinct_occurrences (all_occurrences (before_semicolon i.left))) max_levels

@@ -16,7 +16,7 @@ use Rattle.ag_grammar.proofs.grammars.EachNode.{OfPasses, solves_each, solves_wi
 use Rattle.ag_grammar.proofs.grammars.OneSolution.{may_le}
 use Rattle.ag_grammar.proofs.grammars.Rules.{holds_same}
 
--- values that are the same at the root of each child are the same at its place
+-- values that are the same at a node and at the root of each child are the same at each place
 pub at_places : (W : ℕ → Type 0) (g : Grammar) (m : Passes) (q : Production) (ts : Forest) (v w : Valuation)
     → FitsAll g (stored_items q.items) ts → SameAt W (m q.left) (v []) (w [])
     → AtEachNodeOf (SameAt W) g m ts (children v) (children w) → (j : ℕ)

@@ -22,7 +22,7 @@ use Rattle.ag_grammar.proofs.grammars.Rules.{target_same}
 use Rattle.ag_grammar.proofs.grammars.Children.{child, size, tree_ind, child_within, child_fits, child_exists, child_solves}
 use Rattle.ag_grammar.proofs.grammars.Children.{child_each, children_each, root_each}
 
--- the places whose values a rule with a target at place j may use in its own pass
+-- a rule of pass k with a target at place j may use values of pass k at the child at place i
 abbrev Visited : ℕ → ℕ → ℕ → Type 0
 Visited k zero i = Unit {0}
 Visited k (suc j) i = IsBefore (direction_of k) i (suc j)
@@ -102,7 +102,7 @@ module _ (g : Grammar) (m : Passes) (k : ℕ) (q : Production) (v w : Valuation)
   child_root i vis a p h le n =
       elim (split p k le) [ inl lt ↦ old (suc i) a p h lt | inr e ↦ by_rule (suc i) a (h ∙ ap Some e) n vis ]
 
--- an upper bound of the number of children that a pass visits before the child with index i
+-- an upper bound of the number of children, of n in all, that a pass visits before the child with index i
 abbrev rank : Direction → ℕ → ℕ → ℕ
 rank LeftToRight n i = i
 rank RightToLeft n i = n - i

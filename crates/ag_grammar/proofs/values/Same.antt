@@ -1,4 +1,4 @@
--- Two values are the same if and only if their spellings are.
+-- Two well values are the same if and only if their spellings are.
 use Rattle.std.proofs.Common.{◌≡◌, ◌↔◌, [], Bool, IsTrue, bytes_eq, sym, ap, ◌∙◌}
 use Rattle.std.proofs.lemmas.List.{append-nil}
 use Rattle.std.proofs.lemmas.Bool.Decides.{same_from_decides}

@@ -16,8 +16,7 @@ use Rattle.ag_grammar.specs.declared.limits.TheConstants.{MAX_TEXT_BYTES, NAME, 
 use Rattle.ag_grammar.specs.grammars.AttributeGrammar.{attribute_names, Grammar, stored_items, IsProduction, IsRule, Kind}
 use Rattle.ag_grammar.specs.grammars.AttributeGrammar.{HasKind, RefersTo, defined_kind, used_kind}
 
--- the maximum number of symbols; this and the definitions up to `max_text_bytes`, except `max_rules`, are the limits of a
--- grammar (this project's)
+-- the maximum number of symbols of a grammar; the limits from here to `max_text_bytes` are this project's
 abbrev pub max_symbols : ℕ
 max_symbols = MAX_SYMBOLS
 
@@ -37,7 +36,8 @@ max_items = MAX_ITEMS
 abbrev pub max_children : ℕ
 max_children = MAX_CHILDREN
 
--- the number of rules of a production, or of arguments of a rule, that 16 bits can index; an accepted grammar has fewer
+-- the number of rules of a production, or of arguments of a rule, that 16 bits can index; in an accepted grammar each production
+-- has fewer rules, and each rule fewer arguments
 abbrev pub max_rules : ℕ
 max_rules = MAX_RULES
 
@@ -53,8 +53,8 @@ max_literal_bytes = MAX_LITERAL_BYTES
 abbrev pub max_text_bytes : ℕ
 max_text_bytes = MAX_TEXT_BYTES
 
--- The maximum number of passes that a grammar with a legal assignment needs: two for each attribute that it may have (Jazayeri
--- and Walter 1975).
+-- An upper bound on the number of passes that a grammar with a legal assignment needs: two for each attribute that it may have
+-- (Jazayeri and Walter 1975). Of two consecutive passes, one in each direction, at least one computes a new attribute.
 abbrev pub max_passes : ℕ
 max_passes = MAX_PASSES
 
@@ -76,7 +76,8 @@ class_count = CLASS_COUNT
 abbrev pub out_name : List ℕ
 out_name = 111 ∷ 117 ∷ 116 ∷ []
 
--- No list is longer than its limit, and no literal is empty (this project's).
+-- The numbers of symbols, productions and literals are within their limits. So are the number of attributes of each symbol, the
+-- numbers of items and of children of each right side, and the length of each literal. No literal is empty (this project's).
 pub record IsWithinGrammarLimits (g : Grammar) : Type 0 where
   pub symbol_count : length g.symbols ≤ max_symbols
   pub attribute_count : Each (λ s. length (attribute_names s) ≤ max_attributes) g.symbols
@@ -160,7 +161,7 @@ mutual
     a_symbol : {s : ℕ} {xs : List Item} → IsProductive g s → AreProductive g xs → AreProductive g (item.Symbol s ∷ xs)
     a_terminal : {a : Terminal} {xs : List Item} → AreProductive g xs → AreProductive g (item.Terminal a ∷ xs)
 
--- A reached symbol: it is the start symbol, or it occurs in a production of a reached symbol (the textbook).
+-- A reached symbol: it is the start symbol, or it occurs on the right side of a production of a reached symbol (the textbook).
 pub data IsReached (g : Grammar) : ℕ → Type 0 where
   at_start : IsReached g g.start
   within : (p : ℕ) (q : Production) {s : ℕ} → IsProduction g p q → IsReached g q.left → Has q.items (item.Symbol s)

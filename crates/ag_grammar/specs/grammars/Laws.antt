@@ -47,7 +47,8 @@ abbrev pub RunBegins : Type 0
 RunBegins = (g : Grammar) (m : Passes) (t : Tree) (u : Valuation) (first : ℕ) → Solves NoRule g t u
     → RanThrough g m t u first first u
 
--- One more pass has run if it keeps the values of the passes before it and satisfies its own equations.
+-- One more pass, with the number `next`, has run if it keeps the values of the passes before it and satisfies its own equations.
+-- The values are u before pass `first`, w before pass `next`, and v after it. The tree may be that of any item x.
 abbrev pub RunGoesOn : Type 0
 RunGoesOn = (g : Grammar) (m : Passes) (x : Item) (t : Tree) (u w v : Valuation) (first next : ℕ) → IsLegal g m → Fits g x t
     → first ≤ next → RanThrough g m t u first next w → Same (λ p. p < next) g m t w v → Solves (OfPass m next) g t v

@@ -104,7 +104,8 @@ SameAt W ps e f = (a p : ℕ) → slice_get ps a ≡ Some p → W p → e a ≡ 
 abbrev pub Same : (ℕ → Type 0) → Grammar → Passes → Tree → Valuation → Valuation → Type 0
 Same W = AtEachNode (SameAt W)
 
--- the values e at a node are well at the attributes whose pass satisfies W; ps has the passes of the attributes; f is unused
+-- the values e at a node are well at the attributes whose pass satisfies W; ps has the passes of the attributes; f is unused, and
+-- is there because `AtEachNode` takes a relation of two valuations
 abbrev pub WellAt : (ℕ → Type 0) → List ℕ → (ℕ → Value) → (ℕ → Value) → Type 0
 WellAt W ps e f = (a p : ℕ) → slice_get ps a ≡ Some p → W p → IsWell (e a)
 

@@ -18,7 +18,7 @@ still_covered k s index h = grind arith
 newly_covered : (s : StartingLiterals) (index : ℕ) → Covers index (with_one s index)
 newly_covered s index = grind arith
 
--- what is stored after one more entry
+-- after the entry with index `index`, whose first byte is b, was added, the first `index + 1` entries are covered
 module _ (entries : List LiteralEntry) (starts : List StartingLiterals) (index b : ℕ) (rest : List ℕ) (w : LiteralEntry)
     (s : StartingLiterals) (exact : AreCovered entries starts index) (there : slice_get entries index ≡ Some w)
     (text : w.text.now ≡ b ∷ rest) (byte : b < 256) (is : get_or starts b s ≡ s) where
@@ -47,7 +47,7 @@ module _ (entries : List LiteralEntry) (starts : List StartingLiterals) (index b
   pub one_covered : AreCovered entries (set starts b (with_one s index)) (index + 1)
   one_covered = record { whole = length-set starts b (with_one s index) ∙ exact.whole; each = by }
 
--- The result for a text whose first byte begins only one literal.
+-- The result for a text for whose first byte only one entry is stored (`Sole`).
 module _ (literals : List (List ℕ)) (entries : List LiteralEntry) (shorter : List (Option ℕ))
     (table : IsTable literals entries shorter) (starts : List StartingLiterals)
     (exact : AreCovered entries starts (length entries)) (text : List ℕ) (b : ℕ) (rest : List ℕ) (e : text ≡ b ∷ rest)

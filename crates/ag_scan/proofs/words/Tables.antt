@@ -52,7 +52,7 @@ split i k less others = compared i k less (λ same. others (omega arith)) (λ mo
 
 module _ (entries : List LiteralEntry) (shorter : List (Option ℕ)) (bound : ℕ) (text : List ℕ) (ordered : AreOrdered entries)
     (linked : AreLinked entries shorter) (up : AreNotAfter entries bound text) where
-  -- if the entry at `last` is not a prefix of the text, the next candidate is the one that it links to
+  -- if the entry at `last` is not a prefix of the text, no entry after the one that it links to is
   pub goes_on : (limit last : ℕ) (w : LiteralEntry) (o : Option ℕ) → limit ≤ bound → limit ≡ last + 1
       → NoPrefix entries limit bound text → slice_get entries last ≡ Some w → slice_get shorter last ≡ Some o
       → (IsPrefix w.text.now text → ⊥)

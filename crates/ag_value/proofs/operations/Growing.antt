@@ -1,4 +1,4 @@
--- The weight and the depth of a value to which an item was added.
+-- The weight and the depth of a list that is made of two lists, or of a list and one more item.
 use Rattle.std.proofs.Common.{◌≡◌, ℕ, ◌+◌, ◌-◌, max, min, Bool, true, false, ◌||◌, List, [], ◌∷◌, ◌++◌, map, sum, None, refl, sym}
 use Rattle.std.proofs.Common.{ap, ◌∙◌, subst, arith}
 use Rattle.std.proofs.lemmas.Bool.{and_parts}
@@ -8,7 +8,7 @@ use Rattle.ag_value.specs.declared.value.Value.{Value, out-Value, roll-Value, ro
 use Rattle.ag_value.specs.declared.value.Value.TheOpen.{Value-F}
 use Rattle.ag_value.specs.declared.value.Value.TheFolds.{fold-roll-Value}
 use Rattle.ag_value.specs.declared.value.Value.TheVariants as v
-use Rattle.ag_value.specs.declared.value.Value.TheVariants.{rolls-Num, rolls-Text, rolls-List, rolls-Table, rolls-Fault}
+use Rattle.ag_value.specs.declared.value.Value.TheVariants.{rolls-List}
 use Rattle.ag_value.specs.Measure.{depth_of, greatest, weight_of}
 use Rattle.ag_value.specs.Well.{IsWell, all_true, fault_step, is_fault, is_item}
 use Rattle.ag_value.proofs.Layers.{depth-List, item-List, weight-List}
@@ -72,7 +72,7 @@ item_of w well sound =
     subst (λ (u : Value). is_fault u ≡ false) (roll-out-Value w) (no_fault (out-Value w) sound) in
     sym (ap (λ b. b || is_item w) other) ∙ well.formed
 
--- `fit` for the concatenation of two lists
+-- the concatenation of two well lists: a list may contain its items, and its weight and depth as the code counts them
 pub fits-together : (xs ys zs : List Value) (weight depth : ℕ) → zs ≡ xs ++ ys → IsWell (v.List xs) → IsWell (v.List ys)
     → weight ≡ weight_of (v.List xs) + weight_of (v.List ys) → depth ≡ max (depth_of (v.List xs)) (depth_of (v.List ys))
     → (is_item (v.List zs) ≡ true) × (weight - 5 ≡ min (weight_of (v.List zs)) 18446744073709551615)
@@ -83,7 +83,7 @@ fits-together xs ys zs weight depth is well well' heavy deep = rw is (
   (let a = well.shallow in let b = well'.shallow in let e = depth-together xs ys in omega arith),
 )
 
--- and for a list with one more item
+-- the same for a well list with one more item
 pub fits-pushed : (xs zs : List Value) (x : Value) (weight depth : ℕ) → zs ≡ xs ++ x ∷ [] → IsWell (v.List xs) → IsWell x
     → fault_of x ≡ None
     → weight ≡ weight_of (v.List xs) + weight_of x → depth ≡ max (depth_of (v.List xs)) (1 + depth_of x)
@@ -95,7 +95,7 @@ fits-pushed xs zs x weight depth is well well' sound heavy deep = rw is (
   (let a = well.shallow in let b = well'.shallow in let e = depth-together xs (x ∷ []) in let f = depth-one x in omega arith),
 )
 
--- gathered items with one more
+-- if items are gathered (`IsGathered`), they are so with one more item
 pub gathers : (xs zs : List Value) (x : Value) (weight depth weight' depth' : ℕ) → zs ≡ xs ++ x ∷ [] → IsGathered xs weight depth
     → IsWell x → fault_of x ≡ None
     → weight' ≡ min (weight + weight_of x) 18446744073709551615 → depth' ≡ max depth (depth_of x + 1)

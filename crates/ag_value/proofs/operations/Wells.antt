@@ -40,7 +40,7 @@ short_table w pairs is well = let light : weight_of (v.Table pairs) ≤ max_weig
 pub formed : (w : Value) → is_item w ≡ true → (is_fault w || is_item w) ≡ true
 formed w item = rw item (or-true (is_fault w))
 
--- a text is well if it is not too long
+-- a text is well if it is UTF-8 and has at most 1,048,571 bytes
 pub well_text : (text : List ℕ) → is_utf8 text ≡ true → length text ≤ 1048571 → IsWell (v.Text text)
 well_text text utf8 short = record {
   formed = formed (v.Text text) (item-Text text ∙ utf8);
@@ -52,7 +52,7 @@ well_text text utf8 short = record {
 pub decimal_short : (z : ℤ) → mag z < 2 ^ 63 → length (signed_decimal z) ≤ 1048571
 decimal_short z within = let e = length_signed_le 19 z (omega arith) within in omega (arith, e)
 
--- the magnitude of an i64
+-- an i64 is z or -z - 1 for a number z below 2^63 (`mag`)
 pub within_width : (z : ℤ) → mag (to_z w64 (of_z w64 z)) < 2 ^ 63
 within_width z = first_of (search rules, omega (arith, ints), grind (arith, ints))
 
@@ -96,7 +96,7 @@ well_item w items k item is well here =
       light = let a = sum_in weight_of items k item here in let e = weight-List items in omega arith;
     }
 
--- and so is the result of `nth`
+-- an item of a well list that `nth` returns is well
 pub well_nth : (w : Value) (items : List Value) (place : ℤ) (item : Value) → w ≡ v.List items → IsWell w
     → item_at items place ≡ Some item → IsWell item
 well_nth w items (pos k) item is well here = well_item w items k item is well here

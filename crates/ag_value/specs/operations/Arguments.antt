@@ -1,6 +1,6 @@
--- The treatment of arguments that operators, calls and lists share, except the calls `iserr` and `orelse`, whose
--- values are defined here too. A definition whose name ends with `_at` takes the outermost level of a value. All definitions are
--- this project's.
+-- Errors among arguments. Operators, calls and lists treat them alike, by `strict`. The calls `iserr` and `orelse` don't, and
+-- their results are defined here too. `fault_at` takes the outermost level of a value (`out-Value`). All definitions are this
+-- project's.
 use Rattle.std.specs.Prelude.{Bool, true, false, pos, List, [], ◌∷◌, Option, Some, None}
 use Rattle.ag_value.specs.declared.value.ErrorCode.{ErrorCode}
 use Rattle.ag_value.specs.declared.value.Value.{Value, out-Value}
@@ -19,12 +19,12 @@ fault_at (Value-F.Fault code) = Some code
 abbrev pub fault_of : Value → Option ErrorCode
 fault_of v = fault_at (out-Value v)
 
--- the first error, if there is one, else the second
+-- the first error code, if there is one, else the second, if there is one
 abbrev pub first_fault : Option ErrorCode → Option ErrorCode → Option ErrorCode
 first_fault (Some code) other = Some code
 first_fault None other = other
 
--- the leftmost error among values
+-- the code of the leftmost error among values, if there is an error
 unfoldable pub leftmost : List Value → Option ErrorCode
 leftmost [] = None
 leftmost (v ∷ vs) = first_fault (fault_of v) (leftmost vs)
@@ -53,7 +53,7 @@ has_fault None = false
 abbrev pub iserr_result : Value → Value
 iserr_result v = truth (has_fault (fault_of v))
 
--- v if there is no error code, else w
+-- v if there is no error code (`None`), else w
 abbrev pub either : Option ErrorCode → Value → Value → Value
 either None v w = v
 either (Some code) v w = w

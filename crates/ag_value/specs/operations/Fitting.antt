@@ -13,13 +13,13 @@ fit v =
     if nat_lt max_value_depth (depth_of v) then value.Fault Deep
     else (if nat_lt max_weight (weight_of v) then value.Fault Big else v)
 
--- A well value together with its weight and its depth.
+-- The value v is well, and has this weight and this depth. `Measured` of `ag_eval` has such values.
 pub record IsMeasured (v : Value) (weight depth : ℕ) : Type 0 where
   pub well : IsWell v
   pub weight_is : weight ≡ weight_of v
   pub depth_is : depth ≡ depth_of v
 
--- Items that a list may contain, together with the weight and the depth of the list of these items as the code counts
+-- A list may contain these items, and the list of them has this weight and this depth, as `ListBuilder` of `ag_eval` counts
 -- them: a weight above 2^64 - 1 counts as 2^64 - 1, and a depth above 2^32 - 1 as 2^32 - 1.
 pub record IsGathered (items : List Value) (weight depth : ℕ) : Type 0 where
   pub item : is_item (value.List items) ≡ true

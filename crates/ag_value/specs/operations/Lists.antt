@@ -1,6 +1,7 @@
--- Operations on lists, and those shared by texts, lists and tables. Except for `listed`, they are used for arguments that are not
--- errors (see `strict` of `Arguments`). A definition whose name ends with `_at` takes the outermost levels of values; the next
--- one with its comment takes the values. All definitions are this project's.
+-- Operations on lists, and those shared by texts, lists and tables. If an argument is an error, `strict` of `Arguments` replaces
+-- these results by the error; `listed` already does this. `length_at`, `concatenated_at` and `nth_at` take the outermost levels
+-- of values (`out-Value`), and `appended_at` that of the list. The definition after each takes the values. All of this is this
+-- project's.
 use Rattle.std.specs.Prelude.{ℤ, pos, negsuc, List, [], ◌∷◌, ◌++◌, length, Option, Some, None, slice_get}
 use Rattle.ag_value.specs.declared.value.ErrorCode.TheVariants.{Kind, Index}
 use Rattle.ag_value.specs.declared.value.Value.{Value, out-Value}

@@ -1,6 +1,6 @@
--- Operations on numbers. They are used for arguments that are not errors (see `strict` of `Arguments`). A definition whose name
--- ends with `_at` takes the outermost level of a value; the next one with its comment takes the value. All definitions are this
--- project's.
+-- Operations on numbers, and conversions between numbers and texts. If an argument is an error, `strict` of `Arguments` replaces
+-- these results by the error. `from_numbers`, `number_at` and `decimal_at` take the outermost levels of values (`out-Value`), and
+-- the definition after each takes the values. All definitions are this project's.
 use Rattle.std.specs.Prelude.{ℕ, zero, suc, ◌==◌, ℤ, pos, negsuc, neg_ℤ, int_div, int_rem, Bool, ◌&&◌, nat_lt, List, [], ◌∷◌}
 use Rattle.std.specs.Prelude.{length, Option, Some, None, if◌then◌else◌}
 use Rattle.std.specs.Char.{is_ascii_digit}
@@ -17,7 +17,7 @@ use Rattle.ag_value.specs.Well.{is_i64}
 abbrev pub number_value : ℤ → Value
 number_value z = if is_i64 z then value.Num z else value.Fault Overflow
 
--- the error `divide` if the divisor is zero, else the given value, which is a quotient or a remainder
+-- from a divisor and a value, which is a quotient or a remainder: the error `divide` if the divisor is zero, else the value
 abbrev pub quotient_of : ℤ → Value → Value
 quotient_of (pos zero) quotient = value.Fault Divide
 quotient_of (pos (suc n)) quotient = quotient
@@ -50,7 +50,8 @@ abbrev pub signed_number : (ℤ → ℤ) → List ℕ → Option ℤ
 signed_number sign digits =
     if is_digits digits && is_i64 (sign (pos (digits_value 10 digits))) then Some (sign (pos (digits_value 10 digits))) else None
 
--- the number that a text denotes: digits, with an optional `-` (byte 45) before them
+-- the number that a text denotes: digits, with an optional `-` (byte 45) before them; `None` if the text has another form, or the
+-- number is not in the range of i64
 abbrev pub spelled_number : List ℕ → Option ℤ
 spelled_number [] = None
 spelled_number (b ∷ bytes) = if b == 45 then signed_number neg_ℤ bytes else signed_number (λ z. z) (b ∷ bytes)

@@ -1,5 +1,6 @@
--- Operations on tables (this project's). They are used for arguments that are not errors (see `strict` of `Arguments`). A name
--- ends with `_at` if it takes outermost levels of values.
+-- Operations on tables (this project's). If an argument is an error, `strict` of `Arguments` replaces these results by the error.
+-- `put_at`, `get_at`, `has_at` and `keys_at` take the outermost levels of the table and the key (`out-Value`). The definition
+-- after each takes the values.
 use Rattle.std.specs.Prelude.{◌≡◌, ℕ, suc, Bool, true, false, List, ◌∷◌, ◌++◌, map, filter, find, take, drop, slice_get, Option}
 use Rattle.std.specs.Prelude.{Some, None, bytes_eq}
 use Rattle.ag_value.specs.declared.value.ErrorCode.TheVariants.{Kind, Key}
@@ -72,7 +73,8 @@ has_key key (Some p) = bytes_eq p.0 key
 has_key key None = false
 
 -- i is the index at which a key is or would be in a table: the first i pairs are those with smaller keys. Either the pair at i
--- has the key, or no pair has it.
+-- has the key, and the pairs after it are those with greater keys (`occurs`). Or no pair has the key, and the pairs from i on are
+-- those with greater keys (`belongs`).
 pub record IsIndex (key : List ℕ) (pairs : List (List ℕ × Value)) (i : ℕ) : Type 0 where
   pub prefix : filter (λ p. is_before p.0 key) pairs ≡ take i pairs
   pub occurs : has_key key (slice_get pairs i) ≡ true

@@ -1,6 +1,6 @@
--- Operations on texts. They are used for arguments that are not errors (see `strict` of `Arguments`). A definition whose name
--- ends with `_at` takes the outermost levels of values; the next one with its comment takes the values. All definitions are this
--- project's.
+-- Operations on texts. If an argument is an error, `strict` of `Arguments` replaces these results by the error. A definition
+-- whose name ends with `_at` takes the outermost levels of values (`out-Value`), and the definition after it takes the values.
+-- All definitions are this project's.
 use Rattle.std.specs.Prelude.{ℕ, Bool, true, false, List, [], if◌then◌else◌}
 use Rattle.std.specs.List.{join_by, list_all}
 use Rattle.ag_value.specs.declared.value.ErrorCode.TheVariants.{Kind}
@@ -9,7 +9,7 @@ use Rattle.ag_value.specs.declared.value.Value.TheOpen.{Value-F}
 use Rattle.ag_value.specs.declared.value.Value.TheVariants as value
 use Rattle.ag_value.specs.operations.Fitting.{fit}
 
--- whether a value is a text
+-- whether a value is a text, from its outermost level
 abbrev pub is_text_at : Value-F Value → Bool
 is_text_at (Value-F.Text text) = true
 is_text_at v = false
@@ -18,7 +18,7 @@ is_text_at v = false
 abbrev pub is_text : Value → Bool
 is_text v = is_text_at (out-Value v)
 
--- the bytes of a text; none for another value
+-- the bytes of a text; none for another value; from the outermost level
 abbrev pub bytes_at : Value-F Value → List ℕ
 bytes_at (Value-F.Text text) = text
 bytes_at v = []

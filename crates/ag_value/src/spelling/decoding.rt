@@ -19,11 +19,12 @@ use crate::walks::wellness::has_ascending_keys;
 use std::alloc::Global;
 use std::str::from_utf8;
 
-/// The length of the shortest spelling of an item (an empty text, list or table), in bytes. A pair
-/// is longer.
+/// The length of the shortest spelling of an item (an empty text, list or table), in bytes. An
+/// error is shorter, but is never an item. The spelling of a pair has at least 9 bytes.
 const MIN_ITEM_LENGTH: usize = 5;
 
-/// The greatest number of items or pairs for which room is reserved before the first of them is read.
+/// The greatest number of items or pairs for which room is reserved before the first of them is
+/// read.
 const MAX_RESERVED: usize = 1024;
 
 /// Decodes the value whose spelling is a prefix of the input. Returns it and the length of that
@@ -114,7 +115,8 @@ fn item_of(alloc: Global, levels: usize, bytes: &[u8]) -> Result<(Value, &[u8]),
     }
 }
 
-/// Reads `count` values, each as `item_of` does, of a depth of at most `levels`.
+/// Reads `count` values, each as `item_of` does, of a depth of at most `levels`. Fails as `item_of`
+/// does.
 #[cycle(reading)]
 #[tactic(auto, using(crate::proofs::Turns::goes_on), unfolding(crate::specs::Reading::all_at))]
 fn items_of(
@@ -135,7 +137,7 @@ fn items_of(
     Ok((Items::from_vec(items), rest))
 }
 
-/// Reads `count` pairs, as `pair_of` does. Does not compare their keys.
+/// Reads `count` pairs, as `pair_of` does. Does not compare their keys. Fails as `pair_of` does.
 #[cycle(reading)]
 #[tactic(auto, using(crate::proofs::Turns::goes_on), unfolding(crate::specs::Reading::all_at))]
 fn pairs_of(
@@ -157,7 +159,8 @@ fn pairs_of(
     Ok((Items::from_vec(pairs), rest))
 }
 
-/// Reads a key, and then a value as `item_of` does, of a depth of at most `levels`.
+/// Reads a key, and then a value as `item_of` does, of a depth of at most `levels`. Fails as
+/// `text_of` and `item_of` do.
 #[cycle(reading)]
 #[tactic(auto, unfolding(crate::specs::Reading::pair_at))]
 fn pair_of(alloc: Global, levels: usize, bytes: &[u8]) -> Result<((Text, Value), &[u8]), ValueFault>
@@ -168,8 +171,8 @@ fn pair_of(alloc: Global, levels: usize, bytes: &[u8]) -> Result<((Text, Value),
     Ok(((key, value), rest))
 }
 
-/// Returns the number of items or pairs to reserve room for: at most as many as the bytes can hold,
-/// and at most [`MAX_RESERVED`], so that a wrong count takes little memory.
+/// Returns the number of items or pairs to reserve room for: `count`, but at most [`MAX_RESERVED`],
+/// and at most one for every [`MIN_ITEM_LENGTH`] bytes. So a wrong count takes little memory.
 fn room_for(count: u32, bytes: &[u8]) -> usize {
     (count as usize)
         .min(bytes.len() / MIN_ITEM_LENGTH)
@@ -191,7 +194,7 @@ fn fault_of(bytes: &[u8]) -> Result<(Value, &[u8]), ValueFault>
     }
 }
 
-/// Returns the error with this number, or `None`.
+/// Returns the code of the error with this number, or `None` if there is none.
 fn code_of(number: u8) -> Option<ErrorCode>
     ensures { result ≡ code_at number }
 {

@@ -140,7 +140,7 @@ fn append_bytes(out: &mut Vec<u8>, bytes: &[u8]) -> Result<(), NoMemory>
     Ok(())
 }
 
-/// Returns the number of an error in its spelling, 1 to 8.
+/// Returns the number by which the spelling of an error names it, from 1 to 8.
 fn number(code: ErrorCode) -> u8
     ensures { result ≡ number_of code }
 {

@@ -64,7 +64,7 @@ fn are_items(items: &[Value]) -> bool
     true
 }
 
-/// Returns whether a list or table may contain the value of each pair.
+/// Returns whether a list or table may contain the value of each pair. The keys are not tested.
 #[cycle(items)]
 fn are_item_pairs(pairs: &[(Text, Value)]) -> bool
     ensures { result ≡ all_true (map is_item_pair pairs.now) }

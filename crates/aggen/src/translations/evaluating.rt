@@ -16,7 +16,7 @@ use passrun::{Last, run_all, run_pass};
 use planchecker::Plan;
 use treefile::Device;
 
-/// Returns the other one of two devices.
+/// Returns the device, of two, that is not `last`.
 fn other(last: Last) -> Last
     ensures { result ≡ other_last last }
 {
@@ -27,8 +27,8 @@ fn other(last: Last) -> Last
 }
 
 impl Translator {
-    /// Runs all passes of the plan over the tree whose file is on the device `tree`: pass 1 from
-    /// there to `b`, and the others alternately from `b` to `a` and back. Returns the report. Fails
+    /// Runs all passes of the plan over the tree whose file is on the device `tree`. Pass 1 reads
+    /// `tree` and writes `b`, pass 2 reads `b` and writes `a`, and so on. Returns the report. Fails
     /// as `run_pass` and `run_all` do.
     pub(crate) fn run_tree<T: Device, D: Device>(
         &self,

@@ -12,12 +12,14 @@ pub struct Report {
     /// The number of evaluations of rules: over all nodes, the sum of the number of rules of the
     /// node's production (0 for a token).
     pub evals: u64,
-    /// The number of records that the passes read: for each pass as many as the tree has nodes. The
-    /// records that the parser wrote are not counted.
+    /// The number of records that the passes read: for each pass as many as the tree has nodes.
+    /// Reading the root's text from the last file is not counted.
     pub read: u64,
-    /// The number of records that the passes wrote: as many as they read.
+    /// The number of records that the passes wrote: as many as they read. What the parser wrote is
+    /// not counted.
     pub written: u64,
-    /// The device that has the file of the last pass. The other one has that of the pass before it,
-    /// except if `Translator::evaluate_tree` ran one pass: then the tree's own device has it.
+    /// The device that has the file of the last pass. The other of the two devices has the file of
+    /// the pass before the last. If `Translator::evaluate_tree` ran only one pass, that file is the
+    /// one on the tree's own device.
     pub last: Last,
 }

@@ -26,10 +26,11 @@ use treefile::Device;
 /// NAME. Reads the record again, and writes the text of the value that was read, and LF, to `out`.
 ///
 /// Fails before the device is used with X1 to X4 if the text is not an expression, and with X2 at
-/// its first `$` if it has occurrences. Fails with D1 Device if the device failed, with B1 or B2 if
-/// it does not return the bytes that were written, and with NoMemory if memory is refused. Writes
-/// to `out` last, and fails with O2 Write if a write fails or takes no byte. After X the device is
-/// unchanged. After another fault it has its old content, or a prefix of a tree file of pass 0.
+/// its first `$` if it has occurrences. Fails with D1 Device if a call of the device failed, and
+/// with NoMemory if memory is refused. B1 and B2 are possible only if the device does not return
+/// the bytes that were written. Writes to `out` last, and fails with O2 Write if a write fails or
+/// takes no byte. After X the device is unchanged. After another fault the device has its old
+/// content, or a prefix of a tree file of pass 0.
 pub fn show_value<D: Device, W: Write>(
     alloc: Global,
     text: &str,
@@ -39,8 +40,8 @@ pub fn show_value<D: Device, W: Write>(
     ensures shows { OnOk result (WhenHonest (D.is_honest device.new)
         (Shows text.now (W.contents out.old) (W.contents out.new) (D.content device.new))) }
 
-    // X comes only if the text is not an expression, or has occurrences. The device is then
-    // unchanged. For each text of this kind X or NoMemory comes.
+    // X comes exactly if the text is not an expression, or has occurrences; only NoMemory may come
+    // instead. After X the device is unchanged.
     ensures refused { IfErr result (λ e. IsExprFault e → HasNoValue text.now) }
     ensures only { HasNoValue text.now → IsErrAnd result IsTextFault }
     ensures untouched { IfErr result (λ e. IsExprFault e → device.new ≡ device.old) }
@@ -124,8 +125,8 @@ fn first_occurrence(expr: &Expr) -> Option<usize>
     }
 }
 
-/// The environment of an expression without occurrences. It has one value, 0, since `lend` has to
-/// return some value; no evaluation reads it.
+/// The environment of an expression without occurrences. `lend` has to return a value, so there is
+/// one, 0, for each number of an occurrence. No evaluation reads it. (`count` may be any number.)
 #[derive(Drop)]
 struct NoOccurrences {
     number: Value,

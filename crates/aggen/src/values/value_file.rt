@@ -34,8 +34,8 @@ pub fn write_file<D: Device>(alloc: Global, device: &mut D, value: Value) -> Res
 }
 
 /// Returns the value in the last record of a tree file. Fails with B2 Damaged at the file's end if
-/// that record is not a token with number 0 and exactly one value, and with B1, B2, D1 or NoMemory
-/// as `last_body` does.
+/// that record is not a token with number 0 and exactly one value. Otherwise fails as `last_body`
+/// does: with B1, with B2 at the file's end, with D1 or with NoMemory.
 pub fn read_file<D: Device>(alloc: Global, device: &mut D) -> Result<Value, Fault>
     ensures found { WhenHonest (D.is_honest device.new) (IfOk result
         (λ value. last_body_of version_two (D.content device.old)

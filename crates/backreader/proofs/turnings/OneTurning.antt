@@ -1,4 +1,4 @@
--- The result of reversing the file of a tree holds of this tree alone.
+-- What the result of reversing a content means if the content is the file of a given tree: it is about this tree.
 use Rattle.std.proofs.Common.{◌≡◌, ℕ, Bool, true, false, List, [], ◌∷◌, ◌++◌, length, Option, Some, None, Result, Ok, Err, ap}
 use Rattle.std.proofs.Common.{sym, subst, ◌∙◌}
 use Rattle.ag_grammar.specs.declared.direction.Direction.{Direction}

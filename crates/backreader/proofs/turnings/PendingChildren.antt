@@ -9,7 +9,7 @@ use Rattle.backreader.specs.turning.Taking.{levels_before, pending_levels, pendi
 use Rattle.treefile.specs.records.Orders.{AllMatchArity, BodyForest, BodyTree, MatchesArity, branch, deepest, depth_of, more}
 use Rattle.treefile.specs.records.Orders.{none, prefix, prefix_all, tree_count}
 
--- one more level at the end of equal ones, or at their beginning
+-- a list with a level `count` times and once more is the one with the level once and `count` times more
 levels_swap : (count level : ℕ) (levels : List ℕ)
     → levels_before count level (level ∷ levels) ≡ level ∷ levels_before count level levels
 levels_swap zero level levels = refl
@@ -56,7 +56,7 @@ module _ (arity : List ℕ → Option ℕ) where
       by_rank None h = refl
       by_rank (Some c) h = h (levels_before c l ls)
 
-  -- the bodies of a tree are consumed as one expected tree
+  -- after the bodies of a tree one tree less is expected
   mutual
     pub past_tree : (d : Direction) (t : BodyTree) (n : ℕ) (rest : List (List ℕ)) → MatchesArity arity t
         → pending_trees arity (suc n) (prefix d t ++ rest) ≡ pending_trees arity n rest

@@ -16,7 +16,7 @@ use Rattle.llparse.proofs.answers.FirstFile.{first_file}
 use Rattle.llparse.proofs.steps.Shown.{whole}
 
 module _ (g : Grammar) (tokens : List Token) (honest : Bool) (prefix bytes : List ℕ) (result : Result ℕ ParseFault) where
-  -- its file is written after the header
+  -- after Ok, the content is the file of pass 0 of the tree
   pub file_of : IfOk result (λ count. IsParsed (task_of g tokens honest prefix) count bytes)
       → WhenHonest honest (prefix ≡ header version_two 0) → (t : Tree) → IsTreeWith g (words_of tokens) t
       → OnOk result (WhenHonest honest (IsFirstFile version_two g t bytes))
@@ -30,7 +30,7 @@ module _ (g : Grammar) (tokens : List Token) (honest : Bool) (prefix bytes : Lis
           ∙ ap (λ z. header version_two 0 ++ tree_frames z) (sym (p.only t has)))
       go (Err e) p = tt
 
-  -- no tree has the tokens if one can't be taken
+  -- after P1, no tree has the tokens
   pub none_of : IfErr result (IsRefused (task_of g tokens honest prefix) (offset_at tokens)) → (at : ℕ) (t : Tree)
       → result ≡ Err (fault.Unexpected at) → IsTreeWith g (words_of tokens) t → ⊥
   none_of refused at t e has =

@@ -27,7 +27,7 @@ mutual
       ∙ ap (λ z. z ++ flat_map frame (postfix_all LeftToRight (first_bodies_all version_two ts))) (frames t)
       ∙ ap (λ z. tree_frames t ++ z) (frames_all ts)
 
--- header and frames are the file
+-- the header, followed by the frames of a tree, is the tree's file of pass 0
 pub first_file : (g : Grammar) (t : Tree) (content : List ℕ) → IsTreeOf g t → content ≡ header version_two 0 ++ tree_frames t
     → IsFirstFile version_two g t content
 first_file g t content fits is =

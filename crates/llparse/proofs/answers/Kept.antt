@@ -25,7 +25,7 @@ texts-joined none b = refl
 texts-joined (more (leaf c x) a) b = ap (λ z. Text x ∷ z) (texts-joined a b)
 texts-joined (more (node p us) a) b = texts-joined a b
 
--- texts are split at the beginning of a node's own
+-- texts that are `others` and then `own` are parted at the number of the others
 pub parted : (texts others own : List Value) (base : ℕ) → texts ≡ others ++ own → base ≡ length others
     → (take base texts ≡ others) × (drop base texts ≡ own)
 parted texts others own base is at =

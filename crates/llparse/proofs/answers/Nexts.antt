@@ -32,12 +32,12 @@ other_next xs i x a there other e =
     let same : ahead.Terminal x.kind ≡ ahead.Terminal a = sym (ap ahead_of (next_is xs i x there)) ∙ e in
     other (cc)
 
--- and at the end there is none
+-- after the last token, the look-ahead is not a terminal
 pub none_is : (xs : List Token) (i : ℕ) (a : Terminal) → slice_get xs i ≡ None
     → ahead_of (drop i (words_of xs)) ≡ ahead.Terminal a → ⊥
 none_is xs i a none e = let bad : ahead.End ≡ ahead.Terminal a = sym (ap ahead_of (no_next xs i none)) ∙ e in cc
 
--- whether tokens are left
+-- whether tokens are left at an index, by the token there or by what `Tokens::ahead` returns
 pub is_left : (xs : List Token) (i : ℕ) (x : Token) → slice_get xs i ≡ Some x → i < length xs
 is_left xs i x e = slice_get_within xs i x e
 

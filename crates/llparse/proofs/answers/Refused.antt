@@ -19,7 +19,7 @@ use Rattle.llparse.proofs.steps.Stacks as stacks
 use Rattle.llparse.proofs.steps.Starts as starts
 
 module _ (g : Grammar) (tokens : List Token) (honest : Bool) (prefix : List ℕ) where
-  -- no more node is within the limits
+  -- the fault of a limit that is reached is justified when a node of a symbol is to be opened
   pub full_node : IsAccepted g → (node : OpenProduction) (p : Parser) (s : ℕ) (bytes : List ℕ) (e : ParseFault) → IsFull p e
       → IsAtSymbol (task_of g tokens honest prefix) s node p bytes
       → IsRefused (task_of g tokens honest prefix) (offset_at tokens) e
@@ -32,7 +32,7 @@ module _ (g : Grammar) (tokens : List Token) (honest : Bool) (prefix : List ℕ)
   full_node accepted node p s bytes fault.Device full a = absurd full
   full_node accepted node p s bytes fault.NoMemory full a = absurd full
 
-  -- nor a leaf
+  -- the same when a leaf is to be taken
   pub full_leaf : IsAccepted g → (node : OpenProduction) (p : Parser) (c : ℕ) (bytes : List ℕ) (e : ParseFault) → IsFull p e
       → IsAtItem (task_of g tokens honest prefix) (item.Terminal (Class c)) node p bytes
       → IsRefused (task_of g tokens honest prefix) (offset_at tokens) e
@@ -45,11 +45,11 @@ module _ (g : Grammar) (tokens : List Token) (honest : Bool) (prefix : List ℕ)
   full_leaf accepted node p c bytes fault.Device full b = absurd full
   full_leaf accepted node p c bytes fault.NoMemory full b = absurd full
 
-  -- the next token can't be taken
+  -- P1 is justified where the sentence can't continue
   pub stuck : (i : ℕ) (e : ParseFault) → e ≡ fault.Unexpected (offset_at tokens i) → IsStuckAt g (words_of tokens) i
       → IsRefused (task_of g tokens honest prefix) (offset_at tokens) e
   stuck i e is s = subst (IsRefused (task_of g tokens honest prefix) (offset_at tokens)) (sym is) (i, s, refl)
 
--- a literal's text
+-- the text of a literal in the list of literals is its `literal_text`
 pub text_is : (g : Grammar) (l : ℕ) (x : List ℕ) → slice_get g.literals l ≡ Some x → x ≡ literal_text g l
 text_is g l x e = rw (e, literal_text) refl

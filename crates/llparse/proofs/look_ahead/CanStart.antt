@@ -1,4 +1,4 @@
--- The look-ahead along items.
+-- The look-aheads with which the items of a right side can start, item by item.
 use Rattle.std.proofs.Common.{ℕ, Contains, ◌+◌, ◌≡◌, ◌<◌, ◌⊎◌, ◌↔◌, Bool, true, false, ◌&&◌, ◌||◌, List, [], ◌∷◌, ◌++◌, length}
 use Rattle.std.proofs.Common.{get_or, drop, refl, ap, sym, ◌∙◌, subst, inl, inr, drop-cons, add-one}
 use Rattle.std.proofs.lemmas.Bool.{false≢true}
@@ -33,7 +33,8 @@ and_cases false b h = absurd (cc)
 pub and_both : (a b : Bool) → a ≡ true → b ≡ true → (a && b) ≡ true
 and_both a b h k = rw h k
 
--- one more item at the beginning
+-- if what `OfRest` relates to the items after index `at` was added, and then what it relates to the item there, all for the items
+-- from `at` on was added
 pub adds_rest : {Y : Type 0} (c : List Item → Bool) (R : Item → Y → Type 0) (items : List Item) (at following : ℕ) (d : Item)
     (flag : Bool) (A B C : Y → Type 0) → at < length items → following ≡ at + 1 → flag ≡ c (drop following items)
     → Adds (OfRest c R (drop following items)) A B → Adds (λ y. (flag ≡ true) × R (get_or items at d) y) B C
@@ -59,7 +60,7 @@ adds_rest {Y} c R items at following d flag A B C lt step is old new = subst (λ
       ];
     }
 
--- whether the items can start with the look-ahead, from one item earlier on
+-- whether the items from one item on can start with the look-ahead, from whether those after it can (`flag`)
 pub next_more : (b n : Item → Bool) (last : Bool) (items : List Item) (at following : ℕ) (d : Item) (flag : Bool)
     → at < length items → following ≡ at + 1 → flag ≡ can_start_in b n last (drop following items)
     → (b (get_or items at d) || (n (get_or items at d) && flag)) ≡ can_start_in b n last (drop at items)
@@ -84,7 +85,7 @@ pub rest_of_split : {Y : Type 0} (c : List Item → Bool) (R : Item → Y → Ty
     (y : Y) → items ≡ xs ++ z ∷ ys → c ys ≡ true → R z y → OfRest c R items y
 rest_of_split c R items xs z ys y e h r = subst (λ zs. OfRest c R zs y) (sym e) (split_rest c R xs z ys y h r)
 
--- the look-ahead after the items counts if all are nullable
+-- items that can start with the look-ahead can do so by themselves, or all are nullable and the look-ahead can come after them
 pub next_cases : (b n : Item → Bool) (following : Bool) (xs : List Item) → can_start_in b n following xs ≡ true
     → (can_start_in b n false xs ≡ true) ⊎ ((all_nullable n xs ≡ true) × (following ≡ true))
 next_cases b n following [] h = inr (refl, h)

@@ -116,7 +116,7 @@ module _ (qs : List Production) (marks : List Bool) where
     keeps_pair choices None e old least = keeps_none choices e old least
     keeps_pair choices (Some p) e old least = keeps_some choices p e old least
 
-    -- the least pair, by the choice for the symbol
+    -- the least pair after this production: it and the choice so far for its symbol, if there is one, else the least pair so far
     pub pairs_conflict : (choices : List (Option ℕ)) (chosen : Option ℕ) (pair result : Option Pair)
         → chosen ≡ choice_at choices q.left
         → ((r : ℕ) → chosen ≡ Some r → result ≡ Some (record { first = i; second = r })) → (chosen ≡ None → result ≡ pair)
@@ -126,7 +126,7 @@ module _ (qs : List Production) (marks : List Bool) where
     pairs_conflict choices None pair result read some none old least =
         subst (IsLeastFrom qs marks i) (sym (none refl)) (keeps_pair choices pair (sym read) old least)
 
-  -- a production that is not marked changes nothing
+  -- a production that is not marked changes neither the choices nor the least pair
   module _ (i : ℕ) (unmarked : is_marked marks i ≡ false) where
     not_this : (s k : ℕ) → k ≡ i → IsMarkedOf qs marks s k → ⊥
     not_this s k same h = false≢true (sym unmarked ∙ ap (is_marked marks) (sym same) ∙ h.3)
@@ -169,7 +169,7 @@ module _ (qs : List Production) (marks : List Bool) where
   no_choice (suc n) zero = refl
   no_choice (suc n) (suc s) = no_choice n s
 
-  -- at first nothing is chosen
+  -- before any production is handled, nothing is chosen and no pair is found
   pub chosen_start : (choices : List (Option ℕ)) (n : ℕ) → choices ≡ replicate n None
       → AreEarliestFrom qs marks (length qs) choices
   chosen_start choices n is = record {

@@ -92,7 +92,7 @@ rows_long [] = refl
 rows_long (v ∷ table) = ap suc (rows_long table)
 
 module _ (g : Grammar) (ok : IsAccepted g) where
-  -- one more column
+  -- the columns of the first n look-aheads, with that of the next one, are the columns of the first n + 1
   pub columns_more : (n : ℕ) (x : Ahead) (table : List (Vec (Option ℕ))) (v : Vec (Option ℕ)) → length table ≡ n
       → IsKnownAhead g x → index_of (length g.literals) x ≡ n → IsColumn g x v.items → AreColumns g n (rows table)
       → AreColumns g (n + 1) (rows (table ++ v ∷ []))
@@ -170,7 +170,7 @@ module _ (g : Grammar) (ok : IsAccepted g) where
       ],
     )
 
-    -- the least conflict with one more look-ahead
+    -- the least conflict at the first n look-aheads, and the least pair at the next one, give the least conflict at n + 1 of them
     pub least_more : (least : Option Conflict) (pair : Option Pair) (result : Option Conflict)
         → IsLesserConflict least pair x result → IsLeastBelow g n least → IsLeastAt g x pair → IsLeastBelow g (n + 1) result
     least_more None None result is old new = subst (IsLeastBelow g (n + 1)) (sym is) (no_more old new)
@@ -308,7 +308,7 @@ module _ (g : Grammar) (ok : IsAccepted g) where
     pub fits : FitsGrammar g t
     fits s x k = (there s x k (is_known t.literals x) refl, back s x k)
 
--- the least conflict, by equal numbers and an equal look-ahead
+-- numbers and look-aheads that are equal to those of the least conflict are also those of the least conflict
 pub same_least : (g : Grammar) (s s' a a' b b' : ℕ) (x x' : Ahead) → IsLeastConflict g s a b x → s ≡ s' → a ≡ a' → b ≡ b' → x ≡ x'
     → IsLeastConflict g s' a' b' x'
 same_least g s s' a a' b b' x x' h es ea eb ex =

@@ -68,7 +68,7 @@ prefix_whole n items at most is =
 pub adds_none : {X : Type 0} (P A : X → Type 0) → ((x : X) → P x → ⊥) → Adds P A A
 adds_none P A no_more = record { kept = λ x h. h; all = λ x h. absurd (no_more x h); only = λ x h. inl h }
 
--- the edges of one more element are added
+-- if what R relates to the first i elements was added, and then what it relates to the next one, all for i + 1 elements was added
 pub adds_more : {X Y : Type 0} (R : X → Y → Type 0) (xs : List X) (i : ℕ) (d : X) (A B C : Y → Type 0) → i < length xs
     → Adds (OfSome R (take i xs)) A B → Adds (R (get_or xs i d)) B C → Adds (OfSome R (take (i + 1) xs)) A C
 adds_more R xs i d A B C lt m n = record {
@@ -86,7 +86,7 @@ adds_more R xs i d A B C lt m n = record {
   ];
 }
 
--- elements added to an empty list are all its elements
+-- what was added to an empty list is all that the list has
 pub noted_iff : {X Y : Type 0} (R : X → Y → Type 0) (xs : List X) (i : ℕ) (A B : Y → Type 0) → length xs ≤ i → ((y : Y) → A y → ⊥)
     → Adds (OfSome R (take i xs)) A B → (y : Y) → B y ↔ OfSome R xs y
 noted_iff R xs i A B most none adds y = (

@@ -93,7 +93,7 @@ module _ (g : Grammar) (ok : IsAccepted g) where
     later_in sound xs y a (item.Symbol s) rec h = later_at xs y a s (n s) (sound s) rec h
     later_in sound xs y a (item.Terminal b) rec h = absurd (contains_none y h)
 
-    -- the items begin with what one of their starting items begins with
+    -- a terminal in FIRST of a starting item of some items is in FIRST of the items
     pub prefix_first : ((s : ℕ) → n s ≡ true → IsNullable g s) → (xs : List Item) (y : Item) (a : Terminal)
         → Contains (starting_items n xs) y → ((zs : List Item) → InFirstOf g (y ∷ zs) a) → InFirstOf g xs a
     prefix_first sound [] y a h begins = absurd (contains_none y h)
@@ -103,7 +103,8 @@ module _ (g : Grammar) (ok : IsAccepted g) where
           | inr more ↦ later_in sound xs y a x (λ k. prefix_first sound xs y a k begins) more
         ]
 
-    -- the edges of one more production are added
+    -- if the edges of the productions before index `at` were added, and then those of the production there, all up to it were
+    -- added
     pub edges_more : (at : ℕ) (q : Production) (symbols literals left : ℕ) (items : List Item) (k : ℕ) (A B C : Edge → Type 0)
         → at < length g.productions → symbols ≡ length g.symbols → literals ≡ length g.literals
         → left ≡ (get_or g.productions at q).left
@@ -147,7 +148,7 @@ module _ (g : Grammar) (ok : IsAccepted g) where
           let same : index_of (length g.literals) x ≡ index_of (length g.literals) (ahead.Terminal a) = omega arith in
           (a, refl, same_ahead x (ahead.Terminal a) known (known_terminal a h) same)
 
-      -- a node that is reached is that of the look-ahead, or of an item that begins with it
+      -- a node that is reached is that of the look-ahead, or that of a symbol with the look-ahead in FIRST
       reached_may : ((s : ℕ) → n s ≡ true → IsNullable g s)
           → ((e : Edge) → Contains edges e → OfSome (IsFirstEdge g n) g.productions e) → (t : ℕ) → Reached t → (t ≡ root) ⊎ May t
       reached_may sound some_edge = reached_in edges (root ∷ []) (λ t. (t ≡ root) ⊎ May t) (λ t h. elim (cons_cases root [] t h) [
@@ -178,7 +179,7 @@ module _ (g : Grammar) (ok : IsAccepted g) where
                 )
           ])
 
-    -- an item that begins with a terminal is reached
+    -- the node of a symbol with a terminal in FIRST is reached from the node of the terminal
     module _ (edges : List Edge) (a : Terminal) where
       abbrev FromTerminal : ℕ → Type 0
       FromTerminal t =

@@ -148,7 +148,7 @@ module _ (g : Grammar) (ok : IsAccepted g) (n : ℕ → Bool) where
       pub follow_iff : (s : ℕ) → s < length g.symbols → Follows (map clause_of_edge edges) seeds s ↔ InFollow g s x
       follow_iff s lt = (λ h. reached_follow s h lt, follow_reached s x refl)
 
-  -- the edges of one more production are added
+  -- if the edges of the productions before index `at` were added, and then those of the production there, all up to it were added
   pub last_more : (at : ℕ) (q : Production) (symbols literals left : ℕ) (items : List Item) (A B C : Edge → Type 0)
       → at < length g.productions → symbols ≡ length g.symbols → literals ≡ length g.literals
       → left ≡ (get_or g.productions at q).left

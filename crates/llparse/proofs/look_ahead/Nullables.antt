@@ -32,7 +32,7 @@ module _ (g : Grammar) (ok : IsAccepted g) where
             (named_in g ok q (get_or q.items i e) here (Contains-get_or q.items i e inside)));
       })
 
-  -- a nullable number is a symbol's
+  -- a number of which `IsNullable` holds is that of a symbol of the grammar
   below_symbols : (s : ℕ) → IsNullable g s → s < length g.symbols
   below_symbols s (by_production p q e l h) = rw (← l) (ok.named.left_sides p q e)
 

@@ -50,7 +50,7 @@ marked_before [] b p lt = absurd (omega arith)
 marked_before (m ∷ marks) b zero lt = refl
 marked_before (m ∷ marks) b (suc p) lt = marked_before marks b p (omega arith)
 
--- one more production is decided
+-- the marks of the first productions, with the mark b of the next one, are right
 pub predicted_more : (g : Grammar) (x : Ahead) (marks : List Bool) (b : Bool)
     → ((q : Production) → IsProduction g (length marks) q → b ≡ true ↔ Predicts g q x)
     → ((p : ℕ) (q : Production) → p < length marks → IsProduction g p q → is_marked marks p ≡ true ↔ Predicts g q x)
@@ -62,7 +62,7 @@ predicted_more g x marks b this before p q lt e = elim (cases_eq p (length marks
       subst (λ z. z ≡ true ↔ Predicts g q x) (sym (marked_before marks b p inner)) (before p q inner e)
 ]
 
--- the result of the code for one production
+-- what the code computes for one production (`result`) is true exactly if the look-ahead predicts it
 pub predicts_at : (g : Grammar) (ok : IsAccepted g) (n : ℕ → Bool) (known : (s : ℕ) → n s ≡ true ↔ IsNullable g s) (x : Ahead)
     (begins follows : List Bool) → AreFirstMarks g x begins → AreFollowMarks g x follows
     → (at : ℕ) (r : Production) (symbols literals : ℕ) (items : List Item) (following result : Bool)

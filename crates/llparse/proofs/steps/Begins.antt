@@ -1,4 +1,4 @@
--- The open nodes can be completed, if each symbol has a tree.
+-- The open nodes can be completed to a whole tree, since each symbol of an accepted grammar has a tree.
 use Rattle.std.proofs.Common.{◌≡◌, ℕ, ◌<◌, List, [], ◌∷◌, ◌++◌, length, Some, slice_get, refl, ap, sym, ◌∙◌, subst}
 use Rattle.std.proofs.Common.{append_assoc, arith}
 use Rattle.std.proofs.lemmas.Option.{slice_get_within}

@@ -29,7 +29,7 @@ module _ (k : Task) where
   abbrev g : Grammar
   g = k.grammar
 
-  -- the node around it continues
+  -- if the node that is closed is not the root, the node around it becomes the innermost one
   pub on_close : {p base : ℕ} {f : OpenProduction} {fs : List OpenProduction} {i n : ℕ} {rs : Output} (out : Output)
       → WhenHonest k.honest (out.bytes ≡ rs.bytes ++ node_frame p (drop base rs.texts)) → out.texts ≡ take base rs.texts
       → Reading k p base [] (f ∷ fs) i n rs → Between k (f ∷ fs) i n out
@@ -96,7 +96,7 @@ module _ (k : Task) where
           subst (λ x. Reading k f.production f.base x fs i n out) shows.1
           (subst (λ x. Reading k x f.base o.rest fs i n out) shows.0 whole)
 
-  -- the last node was closed
+  -- if the node that is closed is the root, the tree is done
   pub on_root : {p base i n : ℕ} {rs : Output} (out : Output)
       → WhenHonest k.honest (out.bytes ≡ rs.bytes ++ node_frame p (drop base rs.texts)) → Reading k p base [] [] i n rs
       → Finished k i n out.bytes

@@ -87,8 +87,8 @@ module _ (k : Task) where
         other (sym e ∙ ap ahead_of w.2);
   }
 
-  -- if the next item is a leaf and a limit is reached, each tree that has the leaf and the open nodes is
-  -- beyond it
+  -- The next item is a leaf, and a limit is reached. If each tree that has the leaf and the open nodes is beyond the limit, the
+  -- words leave only trees beyond it.
   beyond_leaf : {p base c : ℕ} {ys : List Item} {fs : List OpenProduction} {i n : ℕ} {rs : Output}
       (size : Tree → ℕ) (begun : List Open → ℕ) (limit : ℕ) → IsAccepted k.grammar
       → (r : Reading k p base (item.Terminal (Class c) ∷ ys) fs i n rs) → limit ≤ begun (open_at p r.done ys ∷ r.under)

@@ -1,9 +1,9 @@
--- Prefixes of lists, and stacks.
+-- Prefixes of lists that grow by one element, and stacks from their top.
 use Rattle.std.proofs.Common.{◌≡◌, ℕ, zero, suc, ◌+◌, List, [], ◌∷◌, ◌++◌, take, drop, reverse, ap, sym, ◌∙◌, append_assoc}
 use Rattle.std.proofs.Common.{add-one}
 use Rattle.std.proofs.lemmas.List.{reverse-append}
 
--- the prefix with one more element
+-- the prefix of i elements, with the next element, is the prefix of i + 1
 prefix : {A : Type 0} (xs : List A) (i : ℕ) (x : A) (rest : List A) → drop i xs ≡ x ∷ rest → take (i + 1) xs ≡ take i xs ++ x ∷ []
 prefix [] zero x rest e = absurd (cc)
 prefix [] (suc i) x rest e = absurd (cc)

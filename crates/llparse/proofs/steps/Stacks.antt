@@ -28,7 +28,7 @@ use Rattle.llparse.proofs.steps.Literals as literals
 use Rattle.llparse.proofs.steps.Starts as starts
 
 module _ (k : Task) where
-  -- an open node with a next item, which it passes
+  -- an open node that has a next item moves past it
   pub faces : (node : OpenProduction) (x : Item) (fs : List OpenProduction) (i n : ℕ) (rs : Output)
       → slice_get (right_side k.grammar node.production) node.passed ≡ Some x
       → Between k (node ∷ fs) i n rs → AtItem k x (advanced node ∷ fs) i n rs
@@ -44,7 +44,7 @@ module _ (k : Task) where
       subst (λ ys. Reading k node.production node.base ys fs i n rs)
       (rest_none (right_side k.grammar node.production) node.passed over)
 
-  -- an open node at its end is closed
+  -- when an open node at its end is closed, the node around it becomes the innermost one, or the tree is done
   pub closed : (p base : ℕ) (fs : List OpenProduction) (i n : ℕ) (rs out : Output)
       → WhenHonest k.honest (out.bytes ≡ rs.bytes ++ node_frame p (drop base rs.texts)) → out.texts ≡ take base rs.texts
       → Reading k p base [] fs i n rs → Between k fs i n out
@@ -104,7 +104,7 @@ module _ (k : Task) where
   large_leaf accepted c (f ∷ fs) i n rs large b =
       leaves.large_leaf k accepted large b
 
--- fewer steps are left
+-- after each step, the bound of the number of steps that remain is smaller
 
 most_is : (ps : List Production) (p : ℕ) → length (yields.right_side (slice_get ps p)) ≤ total_length ps
 most_is [] p = omega arith

@@ -105,8 +105,8 @@ module _ (k : Task) where
       begins = let b = begins_symbol k accepted a in (b.0, b.1, b.2);
     }
 
-  -- if a node is to be opened and a limit is reached, each tree that has the node below the open nodes is
-  -- beyond it
+  -- A node is to be opened, and a limit is reached. If each tree that has this node below the open nodes is beyond the limit, the
+  -- words leave only trees beyond it.
   beyond_node : {s : ℕ} {fs : List OpenProduction} {i n : ℕ} {rs : Output}
       (size : Tree → ℕ) (begun : List Open → ℕ) (limit : ℕ) → IsAccepted k.grammar → (a : AtSymbol k s fs i n rs)
       → limit ≤ begun a.under
@@ -126,7 +126,7 @@ module _ (k : Task) where
         only = λ others t e p. let w = a.complete others t e p in passed w.0 w.1 t w.4;
       }
 
-  -- if a node is to be opened and a limit is reached, the words leave only trees beyond it
+  -- if a node is to be opened and the limit of levels is reached, the words leave only trees that are too deep
   pub deep_node : {s : ℕ} {fs : List OpenProduction} {i n : ℕ} {rs : Output} → IsAccepted k.grammar → k.depth ≤ length fs
       → AtSymbol k s fs i n rs → IsTooDeep k
   deep_node {fs = fs} accepted full a =

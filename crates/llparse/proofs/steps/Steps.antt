@@ -107,7 +107,7 @@ module _ (g : Grammar) where
           subst (λ r. Completes g (open_at k none r.items) os ws t) rule
           (subst (λ i. Completes g (open_at i none n.1.items) os ws t) one n.5)
 
-  -- and if it has none, no tree comes next
+  -- if the table has no production, no tree of the symbol comes next
   pub no_rule : (tables : Choices) → FitsGrammar g tables → (os : List Open) (s : ℕ) (ws : List Lexeme) (t : Tree)
       → IsStack g os s → choice_of tables s (ahead_of ws) ≡ None → ContinuesWith g os s ws t → ⊥
   no_rule tables fits os s ws t is unnamed w =
@@ -115,7 +115,7 @@ module _ (g : Grammar) where
       let too : choice_of tables s (ahead_of ws) ≡ Some n.0 = (fits s (ahead_of ws) n.0).1 (n.1, n.2, n.3, n.4) in
       absurd (cc)
 
-  -- if the next item is a literal, it is the first word
+  -- if the next item is a literal, the first of the remaining words is this literal
   pub literal_next : (p : ℕ) (done : Forest) (l : ℕ) (xs : List Item) (os : List Open) (ws : List Lexeme) (t : Tree)
       → Completes g (open_at p done (item.Terminal (Literal l) ∷ xs)) os ws t
       → (rest : List Lexeme) × (ws ≡ (Literal l, literal_text g l) ∷ rest) × Completes g (open_at p done xs) os rest t
@@ -143,7 +143,7 @@ module _ (g : Grammar) where
           → Completes g (open_at p done (item.Terminal (Literal l) ∷ xs)) os ((Literal l, literal_text g l) ∷ rest) t
       back (fs, vs, fit, e, k) = (fs, vs, before fs l xs fit, ap (λ x. (Literal l, literal_text g l) ∷ x) e, k)
 
-  -- if the next item is a class, it is the first word's, and the word is a leaf
+  -- if the next item is a class, the first of the remaining words is of this class, and becomes a leaf
   pub class_next : (p : ℕ) (done : Forest) (c : ℕ) (xs : List Item) (os : List Open) (ws : List Lexeme) (t : Tree)
       → Completes g (open_at p done (item.Terminal (Class c) ∷ xs)) os ws t
       → (x : List ℕ) × (rest : List Lexeme) × (ws ≡ (Class c, x) ∷ rest)
@@ -197,7 +197,7 @@ module _ (g : Grammar) where
       back : Continues g os (node p done) ws t → Completes g (open_at p done []) os ws t
       back k = (none, ws, tt, refl, subst (λ x. Continues g os (node p x) ws t) (sym (joined_none done)) k)
 
-  -- which is the next child of the node around it
+  -- a tree c that comes next in the innermost open node becomes the last of the node's trees that are done
   pub child : (p : ℕ) (done : Forest) (xs : List Item) (os : List Open) (c : Tree) (ws : List Lexeme) (t : Tree)
       → Continues g (open_at p done xs ∷ os) c ws t ↔ Completes g (open_at p (joined done (more c none)) xs) os ws t
   child p done xs os c ws t = (there, back)

@@ -24,7 +24,7 @@ use Rattle.llparse.proofs.answers.Kept.{own_texts}
 use Rattle.llparse.proofs.steps.Stacks.{closed, ends, faces, fewer_counted, fewer_passed}
 use Rattle.llparse.proofs.steps.Starts.{begin, no_rule, on_open}
 
--- at the beginning the root is open, or no production of its symbol is predicted
+-- at the beginning the root is open (`begun`), or the look-ahead predicts no production of the start symbol (`not_begun`)
 module _ (k : Task) (tables : Choices) (fits : FitsGrammar k.grammar tables) (s : ℕ) (start : s ≡ k.grammar.start) where
   abbrev nothing_made : Output
   nothing_made = record { bytes = k.prefix; texts = [] }
@@ -42,7 +42,7 @@ module _ (k : Task) (tables : Choices) (fits : FitsGrammar k.grammar tables) (s 
   pub not_begun : IsAccepted k.grammar → choice_of tables s (ahead_of (drop 0 k.words)) ≡ None → IsStuckAt k.grammar k.words 0
   not_begun accepted unnamed = no_rule k tables fits accepted s unnamed at_start
 
--- the effects of two consecutive calls on the device are those of one, but for the cause of a failure
+-- two consecutive calls on a device keep together what `Persists` says of each, except the cause of a failure
 pub persists_on : {E : Type 0} (a b d : Bool) (x y z : ℕ) → Persists a b x y ⊥ → Persists b d y z E → Persists a d x z ⊥
 persists_on a b d x y z p q =
     let first = p.kept in
@@ -74,9 +74,10 @@ module _ (k : Task) (node new : OpenProduction) (x : Item)
       let counted = fewer_counted k.grammar max_nodes (advanced node ∷ reverse p.waiting.items) p.count r.count le in
       rw (passed.1, same) (omega arith)
 
--- it is at its end: its texts are few and well,
+-- the innermost open node is at its end
 module _ (k : Task) (node new : OpenProduction) (p : Parser) (bytes : List ℕ)
     (over : Advances (right_side k.grammar node.production) node None new) (occurs : IsBetween k node p bytes) where
+  -- the texts of the node are few and well
   pub own_few : IsAccepted k.grammar
       → (new.base ≤ length p.texts.items) × (length (drop new.base p.texts.items) ≤ max_children)
       × All IsWell (drop new.base p.texts.items)
@@ -87,7 +88,7 @@ module _ (k : Task) (node new : OpenProduction) (p : Parser) (bytes : List ℕ)
       subst (λ (f : OpenProduction). (f.base ≤ length p.texts.items) × (length (drop f.base p.texts.items) ≤ max_children)
       × All IsWell (drop f.base p.texts.items)) (sym over.1) few
 
-  -- and it is closed
+  -- the node is closed
   pub ended : (out : List ℕ) (own texts : List Value) → own ≡ drop new.base p.texts.items → texts ≡ take new.base p.texts.items
       → WhenHonest k.honest (out ≡ bytes ++ node_frame new.production own)
       → Between k (reverse p.waiting.items) p.tokens.taken p.count (record { bytes = out; texts = texts })

@@ -13,8 +13,8 @@ abbrev pub joined : Forest → Forest → Forest
 joined none us = us
 joined (more t ts) us = more t (joined ts us)
 
--- A node whose right side is read up to `rest`: `done` has the trees of the items that are read. A child that is still open is in
--- neither: its item comes just before `rest`, and its tree is not in `done`.
+-- A node whose right side is read up to `rest`: `done` has the trees of the items that are read (a literal has no tree). A child
+-- that is still open is in neither: its item comes just before `rest`, and its tree is not in `done`.
 pub record Open : Type 0 where
   pub production : ℕ
   pub done : Forest

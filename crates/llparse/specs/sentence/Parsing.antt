@@ -31,7 +31,7 @@ pub record Task : Type 0 where
   pub honest : Bool
   pub prefix : List ℕ
 
--- the task of parsing tokens
+-- the task of parsing these tokens by the grammar g, with the limits of the program; `honest` and `prefix` are as in `Task`
 abbrev pub task_of : Grammar → List Token → Bool → List ℕ → Task
 task_of g tokens honest prefix =
     record { grammar = g; words = words_of tokens; depth = max_depth; nodes = max_nodes; honest = honest; prefix = prefix }
@@ -61,7 +61,7 @@ abbrev mutual
 abbrev pub IsTreeAfter : Task → ℕ → List Lexeme → Tree → Type 0
 IsTreeAfter k i rest = IsTreeWith k.grammar (take i k.words ++ rest)
 
--- the texts of the leaves among the trees that are done, those of the outermost node first
+-- the texts of those trees in `done` that are leaves, for all open nodes, those of the outermost node first
 abbrev pub kept : List Open → List Value
 kept [] = []
 kept (o ∷ os) = kept os ++ leaf_texts o.done
@@ -102,8 +102,8 @@ pub record Agrees (k : Task) (os : List Open) (at count : ℕ) (made : Output) :
   pub shallow : IsShallow k.depth os
 
 -- A node of production p is open. Its remaining items are ys, its texts begin at `base`, and the nodes of the stack fs are around
--- it. A tree that completes these nodes begins with the words read so far (`sound`). A tree that begins with these words, and
--- continues with the look-ahead, completes these nodes (`complete`).
+-- it; `at`, `count` and `made` are as in `Agrees`. A tree that completes these nodes begins with the words read so far (`sound`).
+-- A tree that begins with these words, and continues with the look-ahead, completes these nodes (`complete`).
 pub record Reading (k : Task) (p base : ℕ) (ys : List Item) (fs : List OpenProduction) (at count : ℕ)
     (made : Output) : Type 0 where
   pub done : Forest

@@ -26,11 +26,11 @@ pub record IsStuckAt (g : Grammar) (words : List Lexeme) (index : ℕ) : Type 0 
   pub ends : (rest : List Lexeme) (t : Tree) → ahead_of rest ≡ ahead_of (drop index words)
       → IsTreeWith g (take index words ++ rest) t → ⊥
 
--- The words leave only trees whose size is beyond a limit. `begun` counts the open nodes (P2), or the nodes that are open or done
--- (P3). At some index the limit is reached: some tree begins with the words before the index, is cut at that index (`IsCutAt`),
--- and `begun` of the open nodes above the cut is at least the limit. Each tree that begins with the words before the index, and
--- continues with any words whose look-ahead is that of the given words at the index, is beyond the limit. So each tree of the
--- given words is beyond the limit. There may be no such tree.
+-- The words leave only trees beyond a limit: `size` is the depth (P2) or the number of nodes (P3) of a tree, and `begun` counts
+-- the open nodes (P2), or the nodes that are open or done (P3). At some index the limit is reached: some tree begins with the
+-- words before the index, is cut at that index (`IsCutAt`), and `begun` of the open nodes above the cut is at least the limit.
+-- Each tree that begins with the words before the index, and continues with any words whose look-ahead is that of the given words
+-- at the index, is beyond the limit. So each tree of the given words is beyond the limit. There may be no such tree.
 pub record LeavesOnly (g : Grammar) (words : List Lexeme) (size : Tree → ℕ) (begun : List Open → ℕ) (limit : ℕ) : Type 0 where
   pub index : ℕ
   pub within : index ≤ length words

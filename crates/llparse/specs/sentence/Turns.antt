@@ -68,7 +68,7 @@ left_of g node p = steps_left g max_nodes (node ∷ reverse p.waiting.items) p.c
 abbrev pub advanced : OpenProduction → OpenProduction
 advanced node = record node { passed = node.passed + 1 }
 
--- An open node of a right side has this item next, and moves past it; or it is at its end.
+-- An open node with the right side `items` moves from `old` to `new`: past its next item x; or not at all, if it is at its end.
 abbrev pub Advances : List Item → OpenProduction → Option Item → OpenProduction → Type 0
 Advances items old None new = (slice_get items old.passed ≡ None) × (new ≡ old)
 Advances items old (Some x) new = (slice_get items old.passed ≡ Some x) × (new ≡ advanced old)

@@ -37,7 +37,7 @@ abbrev pub IsFollowSeed : Grammar → (ℕ → Bool) → (ℕ → Bool) → Prod
 IsFollowSeed g n b q t =
     OfRest (can_start_in (λ x. b (node_in g x)) (is_nullable_item n) false) (λ x t. t ≡ node_in g x) q.items t
 
--- the marks are those of the symbols with a look-ahead in FOLLOW
+-- a symbol has a mark exactly if the look-ahead is in FOLLOW of the symbol; nothing is claimed of the marks of other nodes
 abbrev pub AreFollowMarks : Grammar → Ahead → List Bool → Type 0
 AreFollowMarks g x marks = (s : ℕ) → s < length g.symbols → is_marked marks s ≡ true ↔ InFollow g s x
 
@@ -50,7 +50,8 @@ abbrev pub AreFollowSeeds : Grammar → List Bool → List Bool → List ℕ →
 AreFollowSeeds g nullable in_first seeds = (t : ℕ)
     → Contains seeds t ↔ OfSome (IsFollowSeed g (is_marked nullable) (is_marked in_first)) g.productions t
 
--- whether items can start with a look-ahead, by the marks of the items with it in FIRST and of the nullable symbols
+-- `can_start_in` by lists of marks: `in_first` has the marks of the nodes with the look-ahead in FIRST, and `nullable` those of
+-- the nullable symbols
 abbrev pub can_start_by : Sizes → List Bool → List Bool → Bool → List Item → Bool
 can_start_by sizes in_first nullable following xs =
     can_start_in (λ x. is_marked in_first (node_by sizes x)) (is_nullable_item (is_marked nullable)) following xs

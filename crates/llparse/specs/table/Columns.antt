@@ -10,7 +10,7 @@ use Rattle.llparse.specs.declared.ahead.Ahead.{Ahead}
 use Rattle.llparse.specs.declared.table.choosing.Pair.{Pair}
 use Rattle.llparse.specs.declared.table.filling.Conflict.{Conflict}
 
--- for each symbol the first of its productions that the look-ahead predicts
+-- for each symbol the least number of a production of this symbol that the look-ahead predicts, or None if it predicts none
 pub record IsColumn (g : Grammar) (x : Ahead) (choices : List (Option ℕ)) : Type 0 where
   pub chosen : (s k : ℕ) → choice_at choices s ≡ Some k → IsChoice g s x k × ((j : ℕ) → IsChoice g s x j → k ≤ j)
   pub none : (s k : ℕ) → choice_at choices s ≡ None → IsChoice g s x k → ⊥

@@ -72,6 +72,6 @@ InFirstOfItem g (item.Symbol s) (ahead.Terminal a) = InFirst g s a
 InFirstOfItem g (item.Symbol s) ahead.End = ⊥
 InFirstOfItem g (item.Terminal b) x = ahead.Terminal b ≡ x
 
--- the marks are those of the items with a look-ahead in FIRST
+-- an item whose number the grammar has (`IsNamedItem`) has a mark exactly if the look-ahead is in FIRST of the item
 abbrev pub AreFirstMarks : Grammar → Ahead → List Bool → Type 0
 AreFirstMarks g x marks = (y : Item) → IsNamedItem g y → is_marked marks (node_in g y) ≡ true ↔ InFirstOfItem g y x

@@ -60,7 +60,8 @@ PutsEarliest symbol production mark before after =
     → is_marked marks production ≡ mark
     → AreEarliestFrom qs marks (production + 1) before → AreEarliestFrom qs marks production after
 
--- the same of the least pair of conflicting productions: it is `pair` before this production is handled, and `after` afterwards
+-- The same for the least pair of conflicting productions: it is `pair` before this production is handled, and `after` afterwards.
+-- `before` are again the choices among the productions after this one.
 abbrev pub PutsLeast : ℕ → ℕ → Bool → List (Option ℕ) → Option Pair → Option Pair → Type 0
 PutsLeast symbol production mark before pair after =
     (qs : List Production) (marks : List Bool) (q : Production) → slice_get qs production ≡ Some q → q.left ≡ symbol

@@ -18,8 +18,8 @@ use ag_value::NoMemory;
 use std::alloc::Global;
 
 /// Takes the next token as `Parser::take` does, but writes no record and keeps no text. Fails with
-/// P1 if its terminal is not `terminal` or there is no token, and with P2 or P3 if a limit is
-/// reached.
+/// P1 if its terminal is not `terminal` or there is no token. Fails with P2 or P3 if `terminal` is
+/// a class and a limit is reached.
 fn take_unwritten(parser: &mut Parser<'_>, terminal: Terminal) -> Result<(), ParseFault>
     ensures waiting { OnOk result (parser.new.waiting.items ≡ parser.old.waiting.items) }
     ensures count { OnOk result (parser.old.count ≤ parser.new.count) }

@@ -267,8 +267,9 @@ impl<'t> Parser<'t> {
     }
 
     /// Takes the next token. If its terminal is a class, appends its record and keeps its text.
-    /// Fails with P1 if its terminal is not `terminal` or there is no token, with P2 or P3 if a
-    /// limit is reached, and as `put_leaf` does.
+    /// Fails with P1 if its terminal is not `terminal` or there is no token. For a class, fails
+    /// with P2 or P3 if a limit is reached, and as `put_leaf` does. Clause `written`: the nodes
+    /// counted so far are those whose records are written, those that wait, and the innermost one.
     #[inline(always)]
     pub(crate) fn take<D: Device>(
         &mut self,

@@ -92,10 +92,11 @@ fn run<D: Device>(
 /// Fails with P1 Unexpected if no tree has these tokens, unless a limit is reached first. Fails
 /// with P2 TooDeep or P3 TooManyNodes if the limit is reached at some token or at the end: some
 /// tree begins with the tokens before this point, and when the next node of this tree is to be
-/// opened, as many nodes are open as there may be levels (P2), or as many were opened as there may
-/// be nodes (P3). Each tree that begins with these tokens and continues with the look-ahead there
-/// is then beyond the limit, and so is each tree with all tokens, of which there may be none. Fails
-/// with D1 Device if the device failed, and with NoMemory if memory is refused.
+/// opened, at least as many nodes are open as there may be levels (P2), or at least as many were
+/// opened as there may be nodes (P3). Each tree that begins with these tokens and continues with
+/// the look-ahead there is then beyond the limit, and so is each tree with all tokens, of which
+/// there may be none. Fails with D1 Device if the device failed, and with NoMemory if memory is
+/// refused.
 ///
 /// After a fault an honest device has a prefix, possibly all, of a header of pass 0 followed by
 /// frames of bodies, each of 3 to 285,212,675 bytes. The contract does not say that the bodies are
@@ -144,7 +145,8 @@ pub fn parse<D: Device>(
     ensures left { IfErr result (λ _. WhenHonest (D.is_honest device.new)
         (BeginsFile 0 (D.content device.new))) }
 
-    // The writer is broken exactly if the result is D1, and then the failures of the device rose.
+    // The writer is broken exactly if the result is D1, and then the failures of the device rose. A
+    // device that is honest after the call was honest before.
     ensures device { BreaksWriter D.is_honest D.failures device.old device.new
         writer.new.is_broken (IsErrOf result ParseFault.Device) }
 {

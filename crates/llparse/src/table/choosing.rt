@@ -18,7 +18,8 @@ pub(crate) struct Pair {
 }
 
 /// The choices and the least conflict at one look-ahead. The choice for a symbol is the
-/// least-numbered one of its productions that the look-ahead predicts.
+/// least-numbered one of its productions that the look-ahead predicts, or `None` if it predicts
+/// none of them.
 #[derive(Drop)]
 pub(crate) struct Column {
     pub(crate) choices: Vec<Option<u16>>,

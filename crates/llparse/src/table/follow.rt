@@ -1,8 +1,9 @@
-//! The edges and the seeds for FOLLOW. The seeds of a terminal are the items after which it can
-//! come within a right side. The only seed of the end of the sentence is the start symbol. Edges go
-//! from a left side to each item after which all items are nullable, so that the symbols with the
-//! look-ahead in FOLLOW are those that edges reach from the seeds. The FIRST marks of a look-ahead
-//! are the marks of the nodes that have it in FIRST.
+//! The edges and the seeds for FOLLOW. The seeds of a look-ahead are the nodes from which its
+//! search begins. The seeds of a terminal are the nodes of the items after which it can come within
+//! a right side. The only seed of the end of the sentence is the start symbol. Edges go from a left
+//! side to each item after which all items are nullable, so that the symbols with the look-ahead in
+//! FOLLOW are those that edges reach from the seeds. The FIRST marks of a look-ahead are the marks
+//! of the nodes that have it in FIRST.
 ghost use Rattle.std.specs.Prelude.{◌≡◌, ◌↔◌, ◌&&◌, ◌||◌, true};
 ghost use Rattle.std.specs.Prelude.{Contains, IfOk, OnOk};
 ghost use Rattle.llparse.specs.table.CanStart.{AreFollowSeeds, IsLastEdge, IsSeedNode};

@@ -111,7 +111,8 @@ impl Sets {
     }
 
     /// Returns the marks of the symbols with a look-ahead in FOLLOW, from the marks of the nodes
-    /// with it in FIRST. Fails with `NoMemory` if memory is refused.
+    /// with it in FIRST. Terminals can have marks too, which nothing uses. Fails with `NoMemory` if
+    /// memory is refused.
     fn follow_marks(
         &self,
         alloc: Global,

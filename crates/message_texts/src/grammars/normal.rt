@@ -48,7 +48,8 @@ fn offset_of(fault: &NormalFault, raw: &RawGrammar) -> Option<usize> {
 }
 
 /// Describes N1 to N10 of a grammar, and what to do. Writes nothing if memory for reading its text
-/// again is refused.
+/// again is refused. Leaves out the number of further faults if memory for counting them is
+/// refused.
 pub fn describe_normal(
     parts: &mut Parts,
     fault: &NormalFault,
@@ -149,7 +150,7 @@ fn describe_undeclared(parts: &mut Parts, name: &str) -> Result<(), AllocError> 
     )
 }
 
-/// Writes the attributes that exist at the place of an occurrence. If no class and no
+/// Writes the attributes that exist at the place of an occurrence. If neither a class nor a
 /// declared symbol is there, writes the number of the production's last place.
 fn write_existing(
     out: &mut String,
@@ -255,7 +256,9 @@ fn describe_bad_start(parts: &mut Parts, symbol: &RawSymbol) -> Result<(), Alloc
         .push_str("remove it, or add a new start symbol that defines it")
 }
 
-/// Describes N4: why no sentence can be built from a symbol.
+/// Describes N4: why no sentence can be built from a symbol. If the symbol has a production, names
+/// all symbols that never end. Names only this one if `endless_symbols` returns None, or if memory
+/// is refused.
 fn describe_unproductive(
     parts: &mut Parts,
     alloc: Global,

@@ -106,7 +106,7 @@ struct DirectionStrikes<'a> {
 
 impl<'a> DirectionStrikes<'a> {
     /// Returns the rule of a strike that waits for no other strike. None if the strike waits for
-    /// one, or if the grammar does not have the rule.
+    /// one, or if the grammar does not have the rule or its argument.
     fn obstacle(&self, strike: Strike) -> Option<Obstacle<'a>> {
         let productions = self.raw.productions.as_slice();
         let production = productions.get(usize::from(strike.production))?;
@@ -142,7 +142,8 @@ impl<'a> DirectionStrikes<'a> {
             .count()
     }
 
-    /// Describes the rules of the strikes that wait for no other strike, and what to do.
+    /// Describes the rules of the strikes that wait for no other strike, and what to do. Writes
+    /// nothing if there are none.
     fn describe(&self, parts: &mut Parts, source: &Source<'_>) -> Result<(), AllocError> {
         let count = self.count();
         let (noun, help) = match count {

@@ -38,7 +38,8 @@ fn offset_of(fault: TextFault) -> Option<usize> {
     }
 }
 
-/// Describes G1 to G4 of a grammar's text.
+/// Describes G1 to G4 of a grammar's text. Leaves out what was expected if memory for finding it is
+/// refused.
 pub fn describe_text(
     parts: &mut Parts,
     fault: TextFault,
@@ -75,7 +76,8 @@ fn describe_in(
     }
 }
 
-/// Describes a fault of the expression of a rule.
+/// Describes a fault of the expression of a rule. If a bound name is expected and there is no other
+/// hint, adds how an attribute is written.
 fn describe_rule(
     parts: &mut Parts,
     fault: ExprFault,

@@ -47,7 +47,8 @@ pub const SPLIT: &str = "split the sentence";
 /// The subject of the messages of P2 and P3: what has no tree within the limit.
 const FILE: &str = "the file";
 
-/// How a tree file of pass 0 is read: its version, and the grammar of its tree.
+/// How a tree file of pass 0 is read: its version, and the grammar of its tree. The commands that
+/// describe damage, `eval` and `upgrade`, read files of pass 0.
 #[derive(Clone, Copy)]
 pub struct TreeFormat<'a> {
     pub version: FileVersion,
@@ -116,8 +117,8 @@ impl TreeFormat<'_> {
         parts.help.push_str(AGAIN)
     }
 
-    /// Writes the record that ends at an offset, if one does, and the number of bytes of its
-    /// values. Before the values a body has 3 bytes, with the record's kind and number.
+    /// Writes what ends at the offset `at`: a record, with the number of bytes of its values, or
+    /// none. Before the values a body has 3 bytes, with the record's kind and number.
     fn write_found(
         &self,
         out: &mut String,

@@ -56,7 +56,7 @@ pub fn frame_before<D: Device>(version: FileVersion, tree: &mut D, end: u64) -> 
 /// the items whose records are still to come; the record of its last item should end at `at`. At
 /// the file's end the stack has only the start symbol. A node's record replaces the last item by
 /// the node's children, and any other record removes the last item. None if the file's length or a
-/// record can't be read, if a record has an unknown production, or if memory is refused.
+/// record can't be read, if a node's record has an unknown production, or if memory is refused.
 pub fn expected_before<D: Device>(
     alloc: Global,
     version: FileVersion,

@@ -41,7 +41,9 @@ apart_new same decides seen key rest apart =
     apart k (length seen) d lt (omega (arith, length-append seen (key ∷ rest)))
     (get_or_append_left seen (key ∷ rest) d k lt ∙ e ∙ sym (get_or_at seen key rest d (length seen) refl))))
 
--- the check that an element's key is not among the earlier ones, and then further checks
+-- The check that the key of x is not among the earlier keys `seen`, and then further checks: `same` compares keys, `fault x` is
+-- the fault of the check, `key x` the key, and `more x` are the further checks. `with_key` adds the key of x to `seen`, unless
+-- it is there.
 abbrev pub key_checks : {X K : Type 0} → (K → K → Bool) → (X → NormalFault) → (X → K) → (X → List Check) → List K → X → List Check
 key_checks same fault key more seen x = (fault x, not (list_any (same (key x)) seen)) ∷ more x
 
@@ -72,7 +74,7 @@ apart_along same fault key more decides seen (x ∷ xs) apart h =
     (apart_along same fault key more decides (seen ++ key x ∷ []) xs (apart_push same decides seen (key x) apart new)
     (rw (with_new same key seen x new) at p.1))
 
--- the further checks hold too
+-- if all checks along a list hold, so do the further checks of each element
 pub more_along : {X K : Type 0} (same : K → K → Bool) (fault : X → NormalFault) (key : X → K) (more : X → List Check)
     (seen : List K) (xs : List X)
     → first_wrong (checks_along (key_checks same fault key more) (with_key same key) seen xs) ≡ None → (i : ℕ) (x : X)

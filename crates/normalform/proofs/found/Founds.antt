@@ -82,7 +82,7 @@ pub all_reached : (raw : RawGrammar) → ((t : ℕ) → t < length (symbols raw)
     → AreAll (IsReached (numbered raw)) raw
 all_reached raw h s lt = follows_reached raw s (h s (rw (count raw) lt))
 
--- a clause about a number that is found, or about finding none, implies a weaker one
+-- if P implies Q, a result whose number has P has one with Q; likewise for what holds if no number is found
 pub found_map : {E : Type 0} (P Q : ℕ → Type 0) → ((n : ℕ) → P n → Q n) → (r : Result (Option ℕ) E) → IfOk r (λ o. IfSome o P)
     → IfOk r (λ o. IfSome o Q)
 found_map P Q le (Ok None) h = h

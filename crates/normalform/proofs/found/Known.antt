@@ -1,4 +1,5 @@
--- Names are known and distinct exactly if the numbered grammar's are.
+-- Names are known and distinct exactly if the numbered grammar's are. The names of an item or a rule are *known* if the checks of
+-- N1 hold. Its numbered form is *named* if its numbers are in range (`IsNamedItem`, `IsNamedRule` of `ag_grammar`).
 use Rattle.std.proofs.Common.{ℕ, ◌≡◌, ◌<◌, true, List, [], ◌∷◌, ◌++◌, length, map, flat_map, Some, None, slice_get, bytes_eq}
 use Rattle.std.proofs.Common.{refl, ap, sym, ◌∙◌, subst}
 use Rattle.std.proofs.lemmas.List.{length-map, map-append}
@@ -83,7 +84,7 @@ differ_doubled ss differ each =
     (differ_texts (attribute_names (symbol_of s)) (mapped_each symbol_of (λ t. Differ (attribute_names t)) ss each i s e)))
     (λ j x f. refl))
 
--- an occurrence is known
+-- the occurrences of a rule are known if its checks hold
 occurrence_known : (raw : RawGrammar) (q : RawProduction) (r : RawRule)
     → first_wrong (rule_checks (symbols raw) (placed (symbols raw) q) r) ≡ None
     → (list_any (bytes_eq r.target.attr) (names_at (symbols raw) (placed (symbols raw) q) r.target.place) ≡ true)
@@ -108,7 +109,7 @@ related raw q os h = record {
       subst (RefersTo (numbered raw) (produces raw q) o) here (stands_for raw q o (h i o e));
 }
 
--- a known rule is named
+-- a rule whose names are known is named
 pub rule_named : (raw : RawGrammar) (q : RawProduction) (r : RawRule)
     → first_wrong (rule_checks (symbols raw) (placed (symbols raw) q) r) ≡ None → is_below (length r.expr.1) r.expr.0 ≡ true
     → IsNamedRule (numbered raw) (produces raw q) (rule_of (symbols raw) (placed (symbols raw) q) r)
@@ -128,7 +129,7 @@ found_there raw q o occurs =
       sym (ap (λ ns. slice_get ns (number_in names o.attr)) (names_of raw q o.place)) ∙ occurs.name,
     )
 
--- and the converse
+-- and the names of a named rule are known
 named_rule : (raw : RawGrammar) (q : RawProduction) (r : RawRule)
     → IsNamedRule (numbered raw) (produces raw q) (rule_of (symbols raw) (placed (symbols raw) q) r)
     → first_wrong (rule_checks (symbols raw) (placed (symbols raw) q) r) ≡ None

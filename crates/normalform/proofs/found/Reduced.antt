@@ -67,7 +67,7 @@ symbols_in : (g : Grammar) (P : ℕ → Type 0) → P g.start
 symbols_in g P start step s at_start = start
 symbols_in g P start step s (within p q e h has) = step p q s e (symbols_in g P start step q.left h) has
 
--- the declared symbols, their names, and what is made of them
+-- the declared symbols of a raw grammar, their names, the clauses of its productions, and the numbered production of each
 abbrev pub symbols : RawGrammar → List Symbol
 symbols raw = map symbol_of raw.symbols
 
@@ -120,7 +120,7 @@ start raw = number_in (names raw) raw.start.name
 abbrev pub edges : RawGrammar → List Edge
 edges raw = reach_edges (clauses raw)
 
--- a number follows from the start symbol
+-- a number follows from the start symbol by the edges
 abbrev pub FollowsStart : RawGrammar → ℕ → Type 0
 FollowsStart raw = Follows (map clause_of_edge (edges raw)) (start raw ∷ [])
 

@@ -45,7 +45,7 @@ decides_targets = record {
   whole = λ a b e. rw (e, eq-eqb b.place b.place refl, eq-eqb b.attr b.attr refl) refl;
 }
 
--- targets with one more
+-- a target of a list with one more target u is in the list, or is u
 with_from : (t u : Target) (ts : List Target) → list_any (same_target t) (with_target ts u) ≡ true
     → (list_any (same_target t) ts ≡ true) ⊎ (u ≡ t)
 with_from t u ts h = go (list_any (same_target u) ts) h
@@ -124,7 +124,7 @@ among_has ss items (s ∷ rs) ts zero r e = let z : s ≡ r = cc in
     (rw z (with_has (target_of ss items r.target) ts))
 among_has ss items (s ∷ rs) ts (suc i) r e = among_has ss items rs (with_rule ss items ts s) i r e
 
--- numbers of a range
+-- the numbers from a up to a + n, without a + n, are in the range
 range_has : (a n k : ℕ) → a ≤ k → k < a + n → Has (range_with_len a n) k
 range_has a zero k low high = absurd (omega arith)
 range_has a (suc n) k low high = elim (cases_eq a k) [

@@ -1,5 +1,5 @@
 -- The first failing check of a concatenated list.
-use Rattle.std.proofs.Common.{◌-◌, suc, map, arith, true, false, [], ℕ, ◌≡◌, ◌+◌, ◌<◌, not, List, [], ◌∷◌, ◌++◌, length, get_or}
+use Rattle.std.proofs.Common.{◌-◌, suc, map, arith, true, [], ℕ, ◌≡◌, ◌+◌, ◌<◌, not, List, [], ◌∷◌, ◌++◌, length, get_or}
 use Rattle.std.proofs.Common.{drop, flat_map, find, Some, None, Option, refl, ap, sym, fold, append_assoc, ◌∙◌}
 use Rattle.std.proofs.lemmas.List.{drop_more, get_or-map, length-map}
 use Rattle.std.proofs.lemmas.List.Folds.{find-append}
@@ -128,14 +128,6 @@ map_past f xs i x all lt is here so_far = let e : first_wrong (f (get_or xs i x)
 
 range_more : (a e : ℕ) → a < e → range_with_len a (e - a) ≡ a ∷ range_with_len (a + 1) (e - (a + 1))
 range_more a e lt = let k : e - a ≡ suc (e - (a + 1)) = omega arith in rw k refl
-
--- the same along numbers
-pub range_here : (f : ℕ → Check) (a e : ℕ) (all : Option NormalFault) → a < e → (f a).1 ≡ false
-    → first_wrong (map f (range_with_len a (e - a))) ≡ all → Some (f a).0 ≡ all
-range_here f a e all lt wrong so_far = sym (go (f a) wrong) ∙ sym (ap (λ ns. first_wrong (map f ns)) (range_more a e lt)) ∙ so_far
-  where
-    go : (p : Check) → p.1 ≡ false → first_wrong (p ∷ map f (range_with_len (a + 1) (e - (a + 1)))) ≡ Some p.0
-    go p h = rw h refl
 
 pub range_past : (f : ℕ → Check) (a e : ℕ) (all : Option NormalFault) → a < e → (f a).1 ≡ true
     → first_wrong (map f (range_with_len a (e - a))) ≡ all → first_wrong (map f (range_with_len (a + 1) (e - (a + 1)))) ≡ all

@@ -183,7 +183,7 @@ start_right raw start =
     right_is (fault.BadStart, is_start (slice_get (symbols raw) (start_number raw)))
     (rw (start.declared, start.plain, has_any start.symbol.syn out_name start.out) refl)
 
--- the kinds about rules
+-- no check of N6 to N9 fails
 abbrev Rules : RawGrammar → Type 0
 Rules raw =
     (first_wrong (missing_checks (symbols raw) raw.productions) ≡ None)
@@ -236,7 +236,7 @@ rules_of raw complete normal =
           (λ p q e. found_arguments raw q (mapped_each (produces raw) (IsNormal (numbered raw)) raw.productions normal p q e)),
     )
 
--- the limits
+-- a test that holds of each element holds of all
 pub all_hold : {X : Type 0} (test : X → Bool) (xs : List X) → ((i : ℕ) (x : X) → slice_get xs i ≡ Some x → test x ≡ true)
     → list_all test xs ≡ true
 all_hold test [] h = refl
@@ -258,17 +258,17 @@ limits raw readable h =
     ((fault.Limit limit.Attributes, list_all few_attributes ss) ∷ []) b.0 in
     let p =
     both_right ((fault.Limit limit.Productions, nat_le (length qs) max_productions) ∷ [])
-    ((fault.Limit limit.Items, list_all few_items qs) ∷ (fault.Limit limit.Stored, list_all (few_children ss) qs) ∷ [])
+    ((fault.Limit limit.Items, list_all few_items qs) ∷ (fault.Limit limit.Children, list_all (few_children ss) qs) ∷ [])
     b.1 in
     let r =
     both_right ((fault.Limit limit.Items, list_all few_items qs) ∷ [])
-    ((fault.Limit limit.Stored, list_all (few_children ss) qs) ∷ []) p.1 in
+    ((fault.Limit limit.Children, list_all (few_children ss) qs) ∷ []) p.1 in
     let l =
     both_right ((fault.Limit limit.LiteralLength, list_all is_short (literals raw)) ∷ [])
     ((fault.Limit limit.Literals, nat_le (length (literals raw)) max_literals) ∷ []) a.1 in
     let attributes = is_right (fault.Limit limit.Attributes, list_all few_attributes ss) s.1 in
     let items = is_right (fault.Limit limit.Items, list_all few_items qs) r.0 in
-    let stored = is_right (fault.Limit limit.Stored, list_all (few_children ss) qs) r.1 in
+    let stored = is_right (fault.Limit limit.Children, list_all (few_children ss) qs) r.1 in
     let short = is_right (fault.Limit limit.LiteralLength, list_all is_short (literals raw)) l.0 in
     record {
       symbol_count = leb-true (length ss) max_symbols (is_right (fault.Limit limit.Symbols, nat_le (length ss) max_symbols) s.0);
@@ -313,17 +313,17 @@ within_limits raw within =
     (all_hold few_attributes ss (λ i x e.
     le-leb (length (attribute_names x)) max_attributes (within.attribute_count i x e)))))
     (together ((fault.Limit limit.Productions, nat_le (length qs) max_productions) ∷ [])
-    ((fault.Limit limit.Items, list_all few_items qs) ∷ (fault.Limit limit.Stored, list_all (few_children ss) qs) ∷ [])
+    ((fault.Limit limit.Items, list_all few_items qs) ∷ (fault.Limit limit.Children, list_all (few_children ss) qs) ∷ [])
     (right_is (fault.Limit limit.Productions, nat_le (length qs) max_productions)
     (le-leb (length qs) max_productions (rw (← length-map qs (produces raw)) within.production_count)))
     (together ((fault.Limit limit.Items, list_all few_items qs) ∷ [])
-    ((fault.Limit limit.Stored, list_all (few_children ss) qs) ∷ [])
+    ((fault.Limit limit.Children, list_all (few_children ss) qs) ∷ [])
     (right_is (fault.Limit limit.Items, list_all few_items qs)
     (all_hold few_items qs (λ i q e.
     le-leb (length q.items) max_items
     (rw (← length-map q.items (item_in raw))
     (mapped_each (produces raw) (λ r. length r.items ≤ max_items) qs within.item_count i q e)))))
-    (right_is (fault.Limit limit.Stored, list_all (few_children ss) qs)
+    (right_is (fault.Limit limit.Children, list_all (few_children ss) qs)
     (all_hold (few_children ss) qs
     (λ i q e. le-leb (length (placed ss q)) (1 + max_children)
     (omega (

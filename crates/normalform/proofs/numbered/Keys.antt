@@ -58,7 +58,7 @@ below_more keys key numbered here i k e = elim (split_has keys (key ∷ []) i k 
     only zero f = let same : key ≡ k = cc in rw (← same) here
     only (suc j) f = absurd (cc)
 
--- a key with 0 is added
+-- keys stay numbered (`AreNumbered`) if a key with 0 is appended
 pub first_more : (keys : List Key) (key : Key) → AreNumbered keys → key.1 ≡ 0 → AreNumbered (keys ++ key ∷ [])
 first_more keys key numbered none = record {
   first = λ q.
@@ -70,7 +70,7 @@ first_more keys key numbered none = record {
   below = below_more keys key numbered (inl none);
 }
 
--- a text that is there is added with its index
+-- and if a text that is there is appended with the key's index
 pub again_more : (keys : List Key) (key : Key) → AreNumbered keys
     → is_some (position (bytes_eq key.0.now) (texts_of_keys keys)) ≡ true
     → key.1 ≡ length keys → 0 < length keys → AreNumbered (keys ++ key ∷ [])
@@ -100,7 +100,7 @@ pub there_is : (keys : List Key) (text : List ℕ) → AreNumbered keys
 there_is keys text numbered =
     sym (found (is_first text) keys) ∙ ap is_some (numbered.first text) ∙ found (bytes_eq text) (texts_of_keys keys)
 
--- a key with 0 is inserted
+-- keys stay numbered if a key with 0 is appended, unless it is there
 pub inserted_numbered : (keys keys' : List Key) (key : Key) (b : Bool) → AreNumbered keys → key.1 ≡ 0
     → keys' ≡ (if b then keys else keys ++ key ∷ []) → AreNumbered keys'
 inserted_numbered keys keys' key true numbered none e = rw e numbered
@@ -136,7 +136,7 @@ not_new : (b : Bool) → not b ≡ false → b ≡ true
 not_new true h = refl
 not_new false h = absurd (cc)
 
--- a text that is there is inserted with its index
+-- a text that is there gets one more key, whose integer is its index, and the keys stay numbered
 pub pushed_again : (keys keys' keys'' : List Key) (text : Bor (List ℕ)) (index : ℕ) → AreNumbered keys
     → not (list_any (is_first text.now) keys) ≡ false
     → keys' ≡ (if list_any (is_first text.now) keys then keys else keys ++ (text, 0) ∷ [])

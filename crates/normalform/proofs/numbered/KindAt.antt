@@ -39,7 +39,8 @@ inherited_at [] inh a = some_inherited inh a ∙ grind (arith, nat_tests)
 inherited_at (x ∷ xs) inh zero = grind (arith, nat_tests)
 inherited_at (x ∷ xs) inh (suc a) = inherited_at xs inh a ∙ grind (arith, nat_tests)
 
--- the same of a declared symbol
+-- attribute a of a declared symbol is synthesized exactly if a is below the number of synthesized attributes; and below it, when
+-- it is inherited
 pub synthesizes_is : (o : Option Symbol) (s : RawSymbol) (syn : List Named) (a : ℕ) → o ≡ Some (symbol_of s) → syn ≡ s.syn
     → nat_lt a (length syn) ≡ is_kind Synthesized (slice_get (symbol_kinds o) a)
 synthesizes_is o s syn a e f =
@@ -58,7 +59,7 @@ inherits_is o s syn inh a e f g =
       length-map s.inh (λ (n : Named). n.name),
     ) refl
 
--- the same of a number after the synthesized ones
+-- a number from `length syn` on is that of an inherited attribute exactly if it is below `length syn` + `length inh`
 pub inherits_after : (o : Option Symbol) (s : RawSymbol) (syn inh : List Named) (a : ℕ) → o ≡ Some (symbol_of s) → syn ≡ s.syn
     → inh ≡ s.inh → length syn ≤ a → nat_lt (a - length syn) (length inh) ≡ is_kind Inherited (slice_get (symbol_kinds o) a)
 inherits_after o s syn inh a e f g le = let h = le-leb (length syn) a le in rw h at (inherits_is o s syn inh a e f g)

@@ -17,7 +17,7 @@ use Rattle.normalform.proofs.found.Right.{has_left, has_right}
 pub decides_texts : DecidesBy bytes_eq
 decides_texts = record { sound = λ a b. (bytes_eq-Decides a b).0; whole = λ a b. (bytes_eq-Decides a b).1 }
 
--- an element of the list passes the test
+-- an element that passes the test, if `list_any` finds one
 pub any_at : {X : Type 0} (test : X → Bool) (xs : List X) → list_any test xs ≡ true
     → (i : ℕ) × (x : X) × (slice_get xs i ≡ Some x) × (test x ≡ true)
 any_at test [] h = absurd (cc)
@@ -44,7 +44,7 @@ any_has texts text h = (number_in texts text, text_at texts text h)
 pub has_any : (texts : List (List ℕ)) (text : List ℕ) → Has texts text → list_any (bytes_eq text) texts ≡ true
 has_any texts text (i, e) = at_any (bytes_eq text) texts i text e ((bytes_eq-Decides text text).1 refl)
 
--- with one more text
+-- the texts of a list are in the list with one more text
 with_keeps : (texts : List (List ℕ)) (text x : List ℕ) → Has texts x → Has (with_text texts text) x
 with_keeps texts text x h = go (list_any (bytes_eq text) texts)
   where

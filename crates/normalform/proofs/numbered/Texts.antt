@@ -1,12 +1,9 @@
 -- The numbers of texts, with one more text.
 use Rattle.std.proofs.Common.{ℕ, ◌≡◌, ◌+◌, Bool, true, false, ◌||◌, cond, List, [], ◌∷◌, ◌++◌, length, Some, None, Option}
-use Rattle.std.proofs.Common.{is_some, unwrap_or, position, not, nat_lt, map, bytes_eq, refl, ap, sym, ◌∙◌, arith}
-use Rattle.std.proofs.lemmas.Bool.{false≢true, ltb-false}
-use Rattle.std.proofs.lemmas.List.{map_push}
+use Rattle.std.proofs.Common.{is_some, unwrap_or, position, not, nat_lt, refl, ap, sym, ◌∙◌, arith}
+use Rattle.std.proofs.lemmas.Bool.{ltb-false}
 use Rattle.std.proofs.lemmas.List.Sums.{prefix_len-le-length}
 use Rattle.std.proofs.lemmas.Iterator.Adapters.{position_from-zero}
-use Rattle.std.proofs.lemmas.Slice.Eq.{bytes_eq-Decides}
-use Rattle.std.specs.Borrow.{Bor}
 use Rattle.std.specs.List.{position_from, position_or_len, list_any}
 use Rattle.std.specs.Option.{option_or}
 
@@ -36,9 +33,6 @@ or_none : {X : Type 0} (o : Option X) → option_or o None ≡ o
 or_none None = refl
 or_none (Some x) = refl
 
-same_text : (a b : List ℕ) → bytes_eq a b ≡ true → a ≡ b
-same_text a b h = (bytes_eq-Decides a b).0 h
-
 found_from : {X : Type 0} (p : X → Bool) (i : ℕ) (xs : List X) → is_some (position_from p i xs) ≡ list_any p xs
 found_from p i [] = refl
 found_from p i (x ∷ xs) = go (p x) (found_from p (i + 1) xs)
@@ -60,10 +54,6 @@ index_is p xs = go (nat_lt (position_or_len p xs) (length xs)) refl
         → unwrap_or (cond b (Some (position_or_len p xs)) None) (length xs) ≡ position_or_len p xs
     go true e = refl
     go false e = omega (arith, ltb-false (position_or_len p xs) (length xs) e, prefix_len-le-length (λ x. not (p x)) xs)
-
-pub texts_pushed : (old mid new : List (Bor (List ℕ))) (t : Bor (List ℕ)) → mid ≡ old → new ≡ mid ++ t ∷ []
-    → map (λ (k : Bor (List ℕ)). k.now) new ≡ map (λ (k : Bor (List ℕ)). k.now) old ++ t.now ∷ []
-texts_pushed old mid new t same pushed = rw (pushed, same) (map_push (λ (k : Bor (List ℕ)). k.now) old t)
 
 pub index_at : {X : Type 0} (p : X → Bool) (xs : List X) (o : Option ℕ) (n r : ℕ) → r ≡ unwrap_or o n → o ≡ position p xs
     → n ≡ length xs → r ≡ position_or_len p xs

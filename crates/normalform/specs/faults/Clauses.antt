@@ -1,5 +1,5 @@
--- The clauses by which symbols are productive, and the edges by which they are reached. `ss` are the declared symbols, and
--- `names` their names.
+-- The clauses by which symbols are productive, and the edges by which they are reached. `ss` are the declared symbols, `names`
+-- their names, and `q` is a production (in `edges_of`, the clause of one).
 use Rattle.std.specs.Prelude.{ℕ, map, flat_map, List, [], ◌∷◌}
 use Rattle.ag_grammar.specs.declared.grammar.Symbol.{Symbol}
 use Rattle.ag_grammar.specs.declared.raw.RawItem.{RawItem}

@@ -151,11 +151,11 @@ targets_of ss items rules = fold (with_rule ss items) [] rules
 abbrev pub missing_check : List Target → ℕ → ℕ → ℕ → Check
 missing_check ts p place a = (fault.RuleMissing p place a, list_any (same_target (record { place = place; attr = a })) ts)
 
--- the checks of the attributes that rules must define at a place of production p
+-- the checks of the attributes that rules must define at a place of production p; x is the item at the place
 abbrev pub missing_at : List Symbol → List Target → ℕ → ℕ → Item → List Check
 missing_at ss ts p place x = map (missing_check ts p place) (defined_at ss place x)
 
--- the third argument of `checks_along` if its state is the index of an element: the next index
+-- the argument g of `checks_along` if the state is the index of the element: the next index
 abbrev pub next_index : {X : Type 0} → ℕ → X → ℕ
 next_index n x = n + 1
 
@@ -241,7 +241,7 @@ abbrev pub production_limits : List Symbol → List RawProduction → List Check
 production_limits ss qs =
     (fault.Limit limit.Productions, nat_le (length qs) max_productions)
     ∷ (fault.Limit limit.Items, list_all few_items qs)
-    ∷ (fault.Limit limit.Stored, list_all (few_children ss) qs)
+    ∷ (fault.Limit limit.Children, list_all (few_children ss) qs)
     ∷ []
 
 abbrev pub literal_limits : List (List ℕ) → List Check
@@ -266,7 +266,7 @@ rule_kinds ss qs = missing_checks ss qs ++ doubled_rules ss qs ++ not_defined_he
 abbrev pub further_checks : RawGrammar → List Check
 further_checks raw = let ss = map symbol_of raw.symbols in rule_kinds ss raw.productions ++ limit_checks ss raw.productions
 
--- each declared symbol has the property
+-- the number of each declared symbol has the property P
 abbrev pub AreAll : (ℕ → Type 0) → RawGrammar → Type 0
 AreAll P raw = (s : ℕ) → s < length raw.symbols → P s
 

@@ -1,5 +1,6 @@
--- The checks of the attributes that the rules of productions name: in each rule its target, and then its
--- arguments (N1), the target alone (N8), or the arguments alone (N9).
+-- The checks of the attributes that the rules of productions name: in each rule its target, and then its arguments (N1), the
+-- target alone (N8), or the arguments alone (N9). The first argument of each definition says which of the three is checked. The
+-- other names are those of `Faults`.
 use Rattle.std.specs.Prelude.{List, [], ◌∷◌, map, flat_map}
 use Rattle.ag_grammar.specs.declared.grammar.Item.{Item}
 use Rattle.ag_grammar.specs.declared.grammar.Symbol.{Symbol}

@@ -1,7 +1,8 @@
 -- The numbering of a raw grammar (this project's), from 0. Symbols are numbered in declared order, and so are the attributes of
 -- each symbol, the synthesized ones first. A name that is declared twice has the number of its first declaration. Different
 -- literals are numbered in the order of first appearance. The number of an undeclared name is the count of the declared ones, so
--- that each raw grammar can be numbered.
+-- that each raw grammar can be numbered. In this file, `ss` are the declared symbols, `qs` productions, `q` one of them, `items`
+-- the items at its places, `r` a rule, and `o` an occurrence.
 use Rattle.std.specs.Prelude.{ℕ, ◌==◌, Bool, false, cond, List, [], ◌∷◌, ◌++◌, map, filter, fold, bytes_eq, slice_get}
 use Rattle.std.specs.List.{list_any, position_or_len}
 use Rattle.ag_grammar.specs.declared.grammar.Item.{Item}
@@ -33,7 +34,7 @@ symbol_of s = record { name = s.name.name; syn = texts_of s.syn; inh = texts_of 
 abbrev pub declared_names : List Symbol → List (List ℕ)
 declared_names ss = map (λ s. s.name) ss
 
--- symbols alone, as a grammar
+-- the grammar with these symbols and no productions, for definitions that take a grammar (`item_names`, `item_kinds`)
 abbrev pub declared : List Symbol → Grammar
 declared ss = record { symbols = ss; productions = []; literals = []; classes = []; start = 0 }
 
@@ -91,7 +92,7 @@ target_of ss items o = record { place = o.place; attr = number_in (names_at ss i
 abbrev pub rule_of : List Symbol → List Item → RawRule → Rule
 rule_of ss items r = record { target = target_of ss items r.target; expr = r.expr; args = map (target_of ss items) r.expr.1 }
 
--- a production with numbers in place of names and literals: `ss` are the declared symbols, `literals` the different literals
+-- a production with numbers in place of names and literals: `literals` are the different literals
 abbrev pub production_of : List Symbol → List (List ℕ) → RawProduction → Production
 production_of ss literals q = record {
   left = number_in (declared_names ss) q.left.name;

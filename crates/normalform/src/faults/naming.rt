@@ -67,8 +67,8 @@ fn unknown_in_production(
     first_in_production(alloc, RuleCheck::Known, declared, production)
 }
 
-/// Returns the first fault N1: an undeclared symbol of a production, or an occurrence whose place
-/// or attribute does not exist.
+/// Returns the first fault N1: an undeclared symbol of a production, or a target or an argument of
+/// a rule whose place or attribute does not exist.
 pub fn first_unknown(
     alloc: Global,
     declared: &Declared<'_>,

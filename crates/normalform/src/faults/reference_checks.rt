@@ -78,9 +78,9 @@ fn first_among(
     None
 }
 
-/// Returns the fault of a rule's first occurrence that fails the check, if there is one. N1 is
-/// checked of the rule's target and then of its arguments, N8 of the target alone, and N9 of the
-/// arguments alone.
+/// Returns the fault of a rule's first occurrence that fails the check, if there is one. For N1 the
+/// occurrences are the rule's target and then its arguments, for N8 the target alone, and for N9
+/// the arguments alone.
 fn first_in_rule(
     rule_check: RuleCheck,
     declared: &Declared<'_>,

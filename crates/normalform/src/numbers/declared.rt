@@ -68,7 +68,8 @@ fn attributes<'t>(alloc: Global, symbols: &'t [RawSymbol]) -> Result<Vec<Names<'
     Ok(names)
 }
 
-/// The declared symbols. Contracts see the list of them. Where a method takes `items`, these are
+/// The declared symbols, with their names (`names`) and the names of their attributes
+/// (`attributes`). Contracts see the list of the symbols. Where a method takes `items`, these are
 /// the items at the places of one production (`places_of`).
 #[derive(Drop)]
 pub struct Declared<'t> {
@@ -264,9 +265,9 @@ impl<'t> Declared<'t> {
         }
     }
 
-    /// Returns the range of the numbers (the end is exclusive) of the attributes that the rules of
-    /// a production define at a place with the symbol of number `symbol`. The range is empty if no
-    /// symbol has the number.
+    /// Returns the numbers of the attributes that the rules of a production define at a place, as a
+    /// range whose end is exclusive. `symbol` is the number of the symbol at the place. The range
+    /// is empty if no symbol has this number.
     pub fn defined_here(&self, place: usize, symbol: usize) -> (usize, usize)
         ensures ordered { result.0 ≤ result.1 }
         ensures numbers { range_with_len result.0 (result.1 - result.0)

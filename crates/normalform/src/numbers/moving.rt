@@ -37,8 +37,8 @@ pub fn move_symbols(alloc: Global, symbols: Items<RawSymbol>) -> Result<Items<Sy
     Ok(Items::from_vec(moved))
 }
 
-/// Returns the name of the symbol with this number, with the offset of its declaration. Drops the
-/// other symbols.
+/// Returns the name of the symbol with this number, with the name's offset in the declaration.
+/// Drops the other symbols.
 pub fn name_at(symbols: Items<RawSymbol>, number: usize) -> Named
     requires { number < length symbols }
     ensures { IsNameAt symbols number result }

@@ -12,9 +12,9 @@ use std::marker::Model;
 /// Texts in the order in which they were appended. The number of a text is the index of the first
 /// text that is equal to it. Contracts see the list of the texts.
 ///
-/// A key is a text with an integer (not the text's number): 0 for the first key of the text, and
-/// for a later key of the text the key's index. So no two keys are the same, and key i is that of
-/// text i.
+/// The keys of an index set differ, but a text may be appended twice. So a key is a text with an
+/// integer (not the text's number): 0 for the first key of the text, and for a later key of the
+/// text the key's index. Key i is that of text i.
 #[derive(Drop)]
 pub struct Names<'t> {
     keys: IndexSet<(&'t str, usize)>,

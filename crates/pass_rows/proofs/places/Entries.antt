@@ -32,7 +32,7 @@ row_from c p (r ∷ qs) zero q e =
 row_from c p (r ∷ qs) (suc i) q e = let n : suc p + i ≡ p + suc i = omega arith in
     row_from c (suc p) qs i q e ∙ ap (λ n. Some (production_row c n q)) n
 
--- A computed row is the layout of its production.
+-- The computed `ProductionRow` is the layout of its production.
 is_row : (c : Setting) (p : ℕ) (q : Production) → IsRowOf c p q (production_row c p q)
 is_row c p q = record {
   list = refl;
@@ -65,7 +65,7 @@ some_at [] k h = absurd (omega arith)
 some_at (x ∷ xs) zero h = (x, refl)
 some_at (x ∷ xs) (suc k) h = some_at xs k (omega arith)
 
--- The row at an index of a table.
+-- The list of layouts has one for each production, and the one at the index of its number is that of the production.
 pub row_less : (c : Setting) (rows xs : List ProductionRow) (p : ℕ) → IsLayout c rows → xs ≡ rows
     → p < length c.grammar.productions → p < length xs
 row_less c rows xs p layout same less =
@@ -85,7 +85,7 @@ row_found c rows xs p row layout same is q there =
     let one : found.0 ≡ row = cc in
     subst (IsRowOf c p q) one found.2
 
--- The slots at an index of a row.
+-- A layout has slots for each rule, and those at the index of its number are the rule's.
 pub slots_less : (c : Setting) (p r : ℕ) (q : Production) (u : Rule) (row : ProductionRow) (xs : List RuleSlots)
     → IsRowOf c p q row → slice_get q.rules r ≡ Some u → xs ≡ row.rules → r < length xs
 slots_less c p r q u row xs is num same =
@@ -129,7 +129,7 @@ pub place_found : (c : Setting) (q : Production) (b : ℕ) (x : Item) → slice_
     (record { item = x; start = copy_start c q (suc b); width = copied_width c x; known = known_width c x })
 place_found c q b x at = row_after c (own_width c q) (stored_items q.items) b x at
 
--- The row found at the place of a child is the child's.
+-- The `PlaceRow` at the place of a child is the child's.
 pub place_is : (c : Setting) (q : Production) (j : ℕ) (row : PlaceRow) (x : Item) → 0 < j
     → Some row ≡ slice_get (place_rows c q) j → item_at q j ≡ Some x
     → (row.item ≡ x) × (row.start ≡ copy_start c q j) × (row.width ≡ copied_width c x) × (row.known ≡ known_width c x)
@@ -141,7 +141,7 @@ place_is c q (suc b) row x some found at =
     let r : row ≡ record { item = x; start = copy_start c q (suc b); width = copied_width c x; known = known_width c x } = cc in
     (ap (λ r. r.item) r, ap (λ r. r.start) r, ap (λ r. r.width) r, ap (λ r. r.known) r)
 
--- A layout has a row for the place of an item.
+-- A layout has a `PlaceRow` for the place of an item.
 pub place_within : (c : Setting) (p : ℕ) (q : Production) (row : ProductionRow) (j : ℕ) (x : Item) → IsRowOf c p q row
     → item_at q j ≡ Some x → j < length row.places
 place_within c p q row zero x is at =

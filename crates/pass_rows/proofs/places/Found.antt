@@ -1,4 +1,4 @@
--- Entries in the rows of the places.
+-- The item and the start at an index of the `PlaceRow`s of a production.
 use Rattle.std.proofs.Common.{ℕ, zero, suc, ◌≡◌, ◌<◌, List, [], ◌∷◌, Some, get_or, length, refl, arith}
 use Rattle.pass_rows.specs.declared.layouts.building.PlaceRow.{PlaceRow}
 use Rattle.pass_rows.specs.layouts.BuiltLayouts.{item_in, start_in}

@@ -1,4 +1,4 @@
--- The slots according to the rows of the places are the slots of the rules.
+-- The slots according to the `PlaceRow`s are the slots of the rules.
 use Rattle.std.proofs.Common.{ℕ, zero, suc, ◌≡◌, ◌+◌, ◌*◌, ◌<◌, ◌≤◌, List, [], ◌∷◌, map, slice_get, length, refl, ap, ap₂, ◌∙◌}
 use Rattle.std.proofs.Common.{arith, length-take}
 use Rattle.ag_grammar.specs.declared.grammar.Item.{Item}
@@ -124,7 +124,7 @@ module _ (c : Setting) (q : Production) where
       ap₂ (λ (x : RuleSlots) (xs : List RuleSlots). x ∷ xs) (rule_same u (within 0 u refl))
       (rules_same us (λ i x e. within (suc i) x e))
 
--- The slots are the same for equal rows of the places and an equal width.
+-- The slots are the same for equal `PlaceRow`s and an equal width.
 pub slots_same : (c : Setting) (q : Production) (places : List PlaceRow) (width : ℕ) (slots : List RuleSlots)
     → places ≡ place_rows c q → width ≡ stored_width c q → AreWithin (length (places_of q)) q.rules
     → slots ≡ map (rule_slots_by c.passes c.write width places) q.rules → slots ≡ production_slots c q
@@ -132,7 +132,7 @@ slots_same c q places width slots same wide within is =
     is ∙ ap (λ xs. map (rule_slots_by c.passes c.write width xs) q.rules) same
     ∙ ap (λ n. map (rule_slots_by c.passes c.write n (place_rows c q)) q.rules) wide ∙ rules_same c q q.rules within
 
--- A row with equal parts is the layout of the production.
+-- A `ProductionRow` with equal parts is the layout of the production.
 pub row_is : (c : Setting) (p : ℕ) (q : Production) (list : List Instr) (width : ℕ) (passes : List ℕ) (places : List PlaceRow)
     (rules : List RuleSlots) → list ≡ list_at c p → width ≡ stored_width c q → passes ≡ row_passes c q → places ≡ place_rows c q
     → rules ≡ production_slots c q

@@ -1,5 +1,5 @@
 -- The computed layout of each production. Letters: c is a setting, q a production, p its number, x an item, u a rule, o an
--- attribute at a place, and j a place. All definitions are this project's.
+-- attribute at a place, and j a place. Here `row` and `rows` are the `PlaceRow`s of places. All definitions are this project's.
 use Rattle.std.specs.Prelude.{ℕ, zero, suc, ◌+◌, ◌<◌, List, [], ◌∷◌, Option, Some, None, map}
 use Rattle.ag_grammar.specs.declared.grammar.Item.{Item}
 use Rattle.ag_grammar.specs.declared.grammar.Item.TheVariants as item
@@ -29,14 +29,14 @@ rule_slots c q u =
 abbrev pub production_slots : Setting → Production → List RuleSlots
 production_slots c q = map (rule_slots c q) q.rules
 
--- The rows of the places of some items, whose copies begin at the index `start` of the node's row.
+-- The `PlaceRow`s of some items, whose copies begin at the index `start` of the node's row.
 abbrev pub rows_after : Setting → ℕ → List Item → List PlaceRow
 rows_after c start [] = []
 rows_after c start (x ∷ xs) =
     record { item = x; start = start; width = copied_width c x; known = known_width c x } ∷ rows_after c
     (start + copied_width c x) xs
 
--- The rows of the places of a production. The left side has no copies.
+-- The `PlaceRow`s of a production's places. The left side has no copies.
 abbrev pub place_rows : Setting → Production → List PlaceRow
 place_rows c q =
     record { item = item.Symbol q.left; start = 0; width = 0; known = 0 } ∷ rows_after c (own_width c q) (stored_items q.items)
@@ -70,20 +70,20 @@ pub record IsWithin (count : ℕ) (u : Rule) : Type 0 where
 abbrev pub AreWithin : ℕ → List Rule → Type 0
 AreWithin count rules = Each (IsWithin count) rules
 
--- The item at a place, according to the rows of the places.
+-- The item at a place, according to the `PlaceRow`s.
 abbrev pub item_in : List PlaceRow → ℕ → Option Item
 item_in [] j = None
 item_in (row ∷ rows) zero = Some row.item
 item_in (row ∷ rows) (suc j) = item_in rows j
 
--- The index at which the copies of a place begin, according to the rows of the places.
+-- The index at which the copies of a place begin, according to the `PlaceRow`s.
 abbrev pub start_in : List PlaceRow → ℕ → ℕ
 start_in [] j = 0
 start_in (row ∷ rows) zero = row.start
 start_in (row ∷ rows) (suc j) = start_in rows j
 
--- The slots of an argument, of a target and of a rule, computed from the rows of the places (not from the
--- production), for passes m of attributes in pass k.
+-- The slots of an argument, of a target and of a rule in pass k, computed from the `PlaceRow`s (not from the production). m are
+-- the passes of the attributes of each symbol, and `width` is the number of values in the node's row.
 abbrev pub argument_slot_by : Passes → ℕ → List PlaceRow → Target → ℕ
 argument_slot_by m k rows o = start_in rows o.place + rank k (item_passes m (item_in rows o.place)) o.attr
 

@@ -9,7 +9,7 @@ use Rattle.pass_rows.specs.layouts.Layouts.{IsLayout}
 abbrev pub setting : PassContext → Setting
 setting context = pass_setting context.setting
 
--- The pass of a context can run: its setting is sound, and its rows are the layouts of the productions.
+-- The pass of a context can run: the setting is sound, and the field `rows` has the layout of each production.
 pub record CanRun (context : PassContext) : Type 0 where
   pub sound : IsSound (setting context)
   pub layout : IsLayout (setting context) context.rows.now

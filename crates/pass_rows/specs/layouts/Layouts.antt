@@ -1,5 +1,5 @@
--- The layout of a production in a pass. Letters: c is a setting, q a production, p its number, u a rule, r its number, and o an
--- argument. All definitions are this project's.
+-- The layout of a production in a pass, a `ProductionRow`. Letters: c is a setting, q a production, p its number, u a rule, r its
+-- number, o an argument, n its slot, and s are the slots of a rule. All definitions are this project's.
 use Rattle.std.specs.Prelude.{ℕ, ◌≡◌, List, Some, slice_get}
 use Rattle.ag_grammar.specs.declared.grammar.Production.{Production}
 use Rattle.ag_grammar.specs.declared.grammar.Rule.{Rule}
@@ -12,13 +12,13 @@ use Rattle.pass_rows.specs.layouts.BuiltLayouts.{place_rows}
 use Rattle.pass_rows.specs.Places.{row_passes}
 use Rattle.pass_rows.specs.layouts.Slots.{argument_slot, stored_width, target_slot}
 
--- These are the slots of a rule: that of its target, and those of its arguments.
+-- `slots` has the slots of rule u: that of its target, and those of its arguments.
 pub record AreSlotsOf (c : Setting) (q : Production) (u : Rule) (slots : RuleSlots) : Type 0 where
   pub target : slots.target ≡ target_slot c q u.target.place u.target.attr
   pub args : AreRelated (λ o n. n ≡ argument_slot c q o.place o.attr) u.args slots.args
 
--- A row is the layout of production q, which has number p: its instructions, the number of values in the row of a
--- node and their passes, the item at each place with the range of its copies, and the slots of each rule.
+-- `row` is the layout of production q, which has number p: its instructions, the number of values in the row of a node and their
+-- passes, the item at each place with the range of its copies, and the slots of each rule.
 pub record IsRowOf (c : Setting) (p : ℕ) (q : Production) (row : ProductionRow) : Type 0 where
   pub list : row.list ≡ list_at c p
   pub width : row.width ≡ stored_width c q
@@ -27,11 +27,11 @@ pub record IsRowOf (c : Setting) (p : ℕ) (q : Production) (row : ProductionRow
   pub slots : (r : ℕ) (u : Rule) → slice_get q.rules r ≡ Some u
       → (s : RuleSlots) × (slice_get row.rules r ≡ Some s) × AreSlotsOf c q u s
 
--- A row is the layout of the production with number p, if there is one.
+-- `row` is the layout of the production with number p, if there is such a production.
 abbrev pub IsRowAt : Setting → ℕ → ProductionRow → Type 0
 IsRowAt c p row = (q : Production) → IsProduction c.grammar p q → IsRowOf c p q row
 
--- A list has the layout of each production, at the index of the production's number.
+-- The list `rows` has the layout of each production, at the index of the production's number.
 abbrev pub IsLayout : Setting → List ProductionRow → Type 0
 IsLayout c rows = (p : ℕ) (q : Production) → IsProduction c.grammar p q
     → (row : ProductionRow) × (slice_get rows p ≡ Some row) × IsRowOf c p q row

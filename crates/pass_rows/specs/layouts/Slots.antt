@@ -1,6 +1,6 @@
 -- The slots of a node's values, counted from the first value of the node's row. Letters: c is a setting, q a production, x an
--- item, j a place (in `copied_before` a number of items), a an attribute, and ps are passes of attributes. All definitions are
--- this project's.
+-- item, j a place (in `copied_before` a number of items), a an attribute, p the pass of one, ps are passes of attributes, and k
+-- is the pass that runs. All definitions are this project's.
 use Rattle.std.specs.Prelude.{ℕ, zero, suc, ◌+◌, nat_le, List, [], ◌∷◌, if◌then◌else◌}
 use Rattle.ag_grammar.specs.declared.grammar.Item.{Item}
 use Rattle.ag_grammar.specs.declared.grammar.Production.{Production}
@@ -53,12 +53,12 @@ copy_start c q (suc j) = own_width c q + copied_before c (stored_items q.items) 
 abbrev pub argument_slot : Setting → Production → ℕ → ℕ → ℕ
 argument_slot c q j a = copy_start c q j + rank c.write (place_passes c q j) a
 
--- The index at which the row at a place begins: that of a child comes after the node's, which has `width`
--- values.
+-- The slot at which the row of the node or child at a place begins: the child's row comes after that of the node, which has
+-- `width` values.
 abbrev pub row_start : (width place : ℕ) → ℕ
 row_start width zero = 0
 row_start width (suc j) = width
 
--- The slot of a target: among the node's own values, or among those of the row of the child, which comes after.
+-- The slot of a target: among the node's own values for the left side, and in the row of the child for a child.
 abbrev pub target_slot : Setting → Production → ℕ → ℕ → ℕ
 target_slot c q j a = row_start (stored_width c q) j + rank c.write (place_passes c q j) a

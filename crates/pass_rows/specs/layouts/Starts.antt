@@ -14,6 +14,6 @@ AreSmall m = (s : ℕ) → length (m s) ≤ max_attributes
 abbrev pub max_width : ℕ
 max_width = max_attributes * (max_children + 1)
 
--- The copies of each place begin at an index of at most `max_width`.
+-- By these `PlaceRow`s, the copies of each place begin at an index of at most `max_width`.
 abbrev pub AreLow : List PlaceRow → Type 0
 AreLow rows = (j : ℕ) → start_in rows j ≤ max_width

@@ -1,6 +1,7 @@
 -- Reading the body of a record. Letters: c is a setting, g a grammar, s a symbol, p the number of a production and q the
 -- production, x an item, d a class, w a value, a an attribute, e a table, and f and h are values by attribute. In `read_values` h
--- is the fact that the record was read. All definitions are this project's.
+-- is the fact that the record was read. `old` are the stored values before the call, and `new` those after it. Pass `read` is the
+-- pass of the file, and pass `write` the one that runs. All definitions are this project's.
 use Rattle.std.specs.Prelude.{ℕ, ◌≡◌, ◌<◌, ◌^◌, ◌↔◌, Bool, IsTrue, nat_le, List, [], ◌∷◌, ◌++◌, if◌then◌else◌}
 use Rattle.std.specs.List.{flat_map}
 use Rattle.ag_value.specs.declared.value.Value.{Value, Text}
@@ -60,8 +61,7 @@ AreUntaken read passes bytes = (h : ℕ → Value) (others : List ℕ) → ((a :
 abbrev pub AllWell : Table → Type 0
 AllWell e = (j a : ℕ) → IsWell (e j a)
 
--- Take the attributes whose passes are the list `passes`, and of these the ones of a pass up to `read`. The bytes are not the
--- encodings of any well values of them.
+-- `passes` has the passes of some attributes. No well values of those with a pass up to `read` have the bytes as their encodings.
 abbrev pub IsNoRow : ℕ → List ℕ → List ℕ → Type 0
 IsNoRow read passes bytes = (h : ℕ → Value) → ((a : ℕ) → IsWell (h a)) → bytes ≡ flat_map spelling_of (values_up_to read passes h)
     → ⊥
@@ -82,7 +82,7 @@ pub record IsBodyOf (g : Grammar) (s p : ℕ) (spellings body : List ℕ) : Type
   pub same : body ≡ body_from Node p spellings
 
 -- A body is the record of a node of symbol s and of production p, and its row was read. `values` are the node's own values, and
--- `table` has those of its children. The values of attributes of the pass itself can be any well ones.
+-- `table` has those of its children. The values of attributes of pass `write` can be any well ones.
 pub record IsNodeRead (c : Setting) (s p : ℕ) (body : List ℕ) (old new : List Value) : Type 0 where
   pub production : Production
   pub there : IsProduction c.grammar p production
@@ -106,7 +106,7 @@ abbrev pub IsNoNodeBody : Grammar → ℕ → List ℕ → Type 0
 IsNoNodeBody g s body = (p : ℕ) (q : Production) (spellings : List ℕ) → IsProduction g p q → q.left ≡ s → p < 2 ^ 16
     → body ≡ body_from Node p spellings → ⊥
 
--- A body is the record of a token of a class, and this is its text.
+-- A body is the record of a token of a class, and `value` is its text.
 pub record IsTextOf (d : ℕ) (body : List ℕ) (value : Value) : Type 0 where
   pub text : List ℕ
   pub fits : IsTokenText text

@@ -50,7 +50,7 @@ pub struct PlaceRow {
 /// The layout of a production in a pass.
 #[derive(Drop)]
 pub struct ProductionRow {
-    /// The instructions of the pass for it; empty if it has none.
+    /// The instructions of the pass for the production; empty if there are none.
     pub list: Items<Instr>,
     /// The number of values in the row of a node: its own, and the copies of its children's.
     pub width: u16,
@@ -184,7 +184,8 @@ fn slots_of_rules(
     Ok(Items::from_vec(slots))
 }
 
-/// Returns the instructions of pass k among those of a production; empty if there are none.
+/// Returns the instructions of pass k for a production; empty if there are none. `row` has the
+/// production's instructions by pass: those of pass k are at index k - 1.
 fn list_of_row(row: &[Vec<Instr>], k: u16) -> &[Instr]
     requires { 1 ≤ k }
     ensures { result.now ≡ slice_index_or (row_of row.now) (k - 1) [] }
@@ -243,10 +244,10 @@ fn row_of_production(
 
 /// Returns the layout of each production of a grammar in a pass of a plan, and the hints.
 ///
-/// Fails with `NoMemory` if memory cannot be allocated. It reads the attributes of a symbol (at most
-/// 16) a few times for each place of a production, and once for each target and each argument of a
-/// rule. For the hints, it reads for each rule of an earlier pass at most the whole expression, and
-/// the slots of one row.
+/// Fails with `NoMemory` if memory cannot be allocated. The call reads the attributes of a symbol
+/// (at most 16) a few times for each place of a production, and once for each target and each
+/// argument of a rule. For the hints, it reads for each rule of an earlier pass at most the whole
+/// expression, and the slots of one row.
 pub fn build_layout(alloc: Global, setting: &Setting<'_>) -> Result<Layout, NoMemory>
     requires plan { IsPlan setting.now.grammar.now setting.now.plan.now.0 setting.now.plan.now.1 }
     requires first { 1 ≤ setting.now.pass }

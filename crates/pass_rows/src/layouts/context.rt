@@ -19,8 +19,8 @@ use ag_grammar::Item;
 use passcode::Instr;
 use std::alloc::Global;
 
-/// The context of a pass: the allocator, the setting, the layout of each production by its number,
-/// and hints for reading.
+/// The context of a pass: the allocator, the setting, the layout of each production by its number
+/// (`rows`), and hints for reading.
 #[derive(Clone, Copy)]
 pub struct PassContext<'a> {
     pub alloc: Global,

@@ -1,6 +1,6 @@
 //! Hints for reading: where the value that a pass reads next may be stored already.
 //!
-//! Most values that a pass reads are equal to others that it has read before. The row of a node has
+//! Many values that a pass reads are equal to others that it has read before. The row of a node has
 //! the values of the node's own attributes, synthesized ones before inherited ones, and then copies
 //! of its children's synthesized attributes. While the record of the child at place j is read, the
 //! row of its parent is stored, and so are the values of the child's row before the one that is
@@ -14,13 +14,13 @@
 //! | own inherited `a` | in the parent's row: `$i.b`, if the rule of `$j.a` is `$i.b` | always |
 //! | other own inherited `a` | in its own row: `b`, if a rule is `$0.b = $0.a` | always |
 //! | copy of `$i.b` | in its own row: `a`, if a rule is `$0.a = $i.b` | always |
-//! | other copy of `$i.b` | in its own row, at a lower index: `$m.d`, if a rule is `$i.c = $m.d` | maybe |
+//! | other copy of `$i.b` | earlier in its own row: `$m.d`, if a rule is `$i.c = $m.d` | maybe |
 //!
 //! "Always" means in each file that the earlier passes wrote. In a damaged file the values may
 //! differ. "Maybe" means if rules in the subtree of `$i` copy `c` to `b`. A rule also counts as
-//! `$i.b` if its expression is a `let`, an `if` or an `orelse` that may return that occurrence.
-//! Then the values are equal if the expression does return it. Only rules of passes before k count:
-//! their values are in the file.
+//! `$i.b` if its expression is a `let`, an `if` or an `orelse` that may return an occurrence, and
+//! `$i.b` is the first such occurrence. Then the values are equal if the expression does return it.
+//! Only rules of passes before k count: their values are in the file.
 //!
 //! No contract mentions hints. `Carried::read_beside` compares the candidate with the bytes that
 //! are read: a wrong hint costs a comparison and changes nothing. Numbers and errors are read
@@ -205,8 +205,8 @@ fn is_earlier(setting: &Setting<'_>, row: &ProductionRow, target: Target) -> boo
     }
 }
 
-/// Returns the number of an occurrence whose value an expression may return unchanged, if it finds
-/// one.
+/// Returns the number of the first occurrence whose value an expression may return unchanged, if it
+/// finds one.
 fn returned_occurrence(node: &Node) -> Option<usize> {
     match node {
         Node::Occurrence(k) => Some(*k),
@@ -248,8 +248,8 @@ pub struct ChildLocation {
 /// `start` of all stored values. The row of the parent, if it is stored, comes directly before it.
 #[derive(Clone, Copy)]
 pub struct RowLocation<'a> {
-    /// The hints. This is a reference to a field with the hints' address, so that the address is
-    /// read only where a hint is looked up.
+    /// A reference to the field that has the address of the hints: so this address is read only
+    /// where a hint is looked up.
     pub hints: &'a &'a Hints,
     /// The number of the pass.
     pub pass: u16,

@@ -18,7 +18,8 @@ use ag_value::{Items, NoMemory};
 use planchecker::Plan;
 use std::alloc::Global;
 
-/// Returns the passes of a symbol's attributes; empty if the plan does not have the symbol.
+/// Returns the passes of a symbol's attributes; empty if the plan does not have the symbol. (The
+/// method `rows` returns these passes by symbol, not rows of values.)
 pub fn passes_at(plan: &Plan, symbol: u16) -> &[u16]
     ensures { result.now ≡ passes_of plan.now.0 symbol }
 {

@@ -49,9 +49,8 @@ fn take_value<'b>(
 }
 
 /// Takes the values of a row, of attributes with these passes, as `take_value` does. Returns
-/// whether all of them were taken and no bytes of the body are left; if not, some may have been
-/// appended.
-/// Fails with `NoMemory` if memory cannot be allocated.
+/// whether all of them were taken and no bytes of the body are left. If not, some values may have
+/// been appended. Fails with `NoMemory` if memory cannot be allocated.
 fn take_row(
     alloc: Global,
     passes: &[u16],
@@ -82,7 +81,7 @@ fn node_of<'b>(grammar: &Grammar, symbol: u16, body: Body<'b>) -> Option<(u16, B
 {
     let (head, rest) = body.cut(HEAD_BYTES, 0)?;
     let (number, spellings) = node_in(grammar, symbol, head.as_slice()?)?;
-    // never true: the head has only the kind and the number
+    // never true, since the head has only the kind and the number; the contract needs it
     if !spellings.is_empty() {
         return None;
     }
@@ -90,8 +89,9 @@ fn node_of<'b>(grammar: &Grammar, symbol: u16, body: Body<'b>) -> Option<(u16, B
 }
 
 /// Reads the body of a node of a symbol and appends its row to the values. Returns the number of
-/// the node's production, or `None` if it can be read only from a copy of the body (or not at all);
-/// some values may have been appended then. Fails with `NoMemory` if memory cannot be allocated.
+/// the node's production. Returns `None` if the record can be read only from a copy of the body (or
+/// not at all); some values may have been appended then. Fails with `NoMemory` if memory cannot be
+/// allocated.
 fn read_node(
     context: &PassContext<'_>,
     symbol: u16,

@@ -128,8 +128,8 @@ fn is_error(bytes: &[u8]) -> bool {
 }
 
 /// Takes the value of an attribute of an earlier pass from the bytes, and appends it to the values.
-/// Returns the rest of the bytes. Fails with `Damaged` if they do not begin with a value, and with
-/// `NoMemory` if memory cannot be allocated.
+/// `row` is the row to which the value belongs. Returns the rest of the bytes. Fails with `Damaged`
+/// if the bytes do not begin with a value, and with `NoMemory` if memory cannot be allocated.
 fn read_value<'b>(
     alloc: Global,
     pass: u16,
@@ -156,9 +156,9 @@ fn read_value<'b>(
     Ok(&bytes[length..])
 }
 
-/// Takes the value of an attribute, and appends it to the values: from the bytes if its pass is
-/// before that of the row, and 0 as a placeholder if its pass is that of the row. Appends nothing
-/// for a later pass. Returns the rest of the bytes. Fails as `read_value` does.
+/// Takes the value of an attribute of pass `pass`, and appends it to the values: from the bytes if
+/// `pass` is before `row.pass`, the pass that runs, and 0 as a placeholder if it is that pass.
+/// Appends nothing for a later pass. Returns the rest of the bytes. Fails as `read_value` does.
 fn take_value<'b>(
     alloc: Global,
     pass: u16,
@@ -248,8 +248,9 @@ fn take_row(
     check_end(rest)
 }
 
-/// Returns the number of the production of a symbol's node in a body, and the encoded values after
-/// it; `None` if the body is not that of a node of the symbol.
+/// Returns the number of the production in the body of a symbol's node, and the bytes after it, in
+/// which a record has the encoded values. Returns `None` if the body does not begin with the kind
+/// of a node and the number of a production of the symbol.
 #[inline(always)]
 pub fn node_in<'b>(grammar: &Grammar, symbol: u16, body: &'b [u8]) -> Option<(u16, &'b [u8])>
     ensures some { IfSome result (λ found.
@@ -271,8 +272,8 @@ pub fn node_in<'b>(grammar: &Grammar, symbol: u16, body: &'b [u8]) -> Option<(u1
 
 /// Reads the body of a node of a symbol from the file of pass k - 1, where k is the setting's pass,
 /// and appends its row to the values: first the node's own values, then the copies of its children.
-/// For each attribute of pass k, the row has 0 as a placeholder. Returns the number of the node's
-/// production.
+/// For each own value and each copy of pass k, the row has 0 as a placeholder. Returns the number
+/// of the node's production.
 ///
 /// Fails with `Damaged` if the body is not the record of a node of the symbol in a file of pass
 /// k - 1. Such a record has a production of the symbol, a well value for each own attribute and
@@ -313,7 +314,8 @@ pub fn read_node(
 }
 
 /// Reads the body of a node as `read_node` does, and fails as it does. Takes the passes of the
-/// values from the layout of its production, and uses the hints for a record at this location.
+/// values from the layout of the node's production, and uses hints: `location` says of which parent
+/// and place the node is.
 #[inline(always)]
 fn read_node_by_layout(
     context: &PassContext<'_>,

@@ -61,7 +61,7 @@ quiet_all d r q hr hq x is good =
         (both (Quiet d candidate (production_r rules)) r q hr hq))
         (only (Quiet d candidate production_a) rule_s (quiet_s d candidate))
 
--- the three attributes have pass k
+-- m gives pass k to the three attributes of symbols 0 and 1, and no pass to others
 record AllHave (m : Passes) (k : ℕ) : Type 0 where
   first : m 0 ≡ k ∷ []
   second : m 1 ≡ k ∷ k ∷ []

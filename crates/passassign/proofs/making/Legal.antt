@@ -189,7 +189,7 @@ module _ (g : Grammar) (complete : Each (IsComplete g) g.productions) (normal : 
               absurd (no_token_target g q c r.target e ((complete i q get).no_other rule.0 r rule.1))
           go (Some (item.Symbol s)) e = of_symbol s e (m s r.target.attr) refl
 
--- the assignment made by the passes before k
+-- what holds of the assignment m that the passes before k make
 record Sound (g : Grammar) (k : ℕ) (m : Partial) : Type 0 where
   one : 1 ≤ k
   legal : IsLegalPartial g m

@@ -28,7 +28,7 @@ module _ (g : Grammar) (rows : List (List ℕ)) (lists : List (List Strike)) (ar
       subst (λ j. AreStrikesAt g (passes_of rows) j (get_or lists k [])) (add-one k)
       (are.each k (get_or lists k []) (slice_get-get_or lists k [] (omega arith)))
 
-  -- pass by pass: an attribute without a pass before one here has none there
+  -- by induction on k: an attribute with no pass up to k in the assignment has none up to k in a legal partial assignment n
   climb : (n : Partial) (legal : IsLegalPartial g n) (k : ℕ) → k ≤ length lists
       → AtLeast g n legal (suc k) (HasPassFrom (passes_of rows) (suc k))
   climb n legal zero le s a q i e = legal.positive s a q e
@@ -65,8 +65,8 @@ pub all_for : (g : Grammar) (c : Stuck) → IsCertificate g c → (d : Direction
 all_for g c is RightToLeft = is.odd
 all_for g c is LeftToRight = is.even
 
--- The lists of a certificate are the strikes of each pass of an assignment in which exactly its members have
--- that pass or a later one, and none of them has that pass.
+-- If exactly the members of a certificate have pass k or a later one, and exactly they have a later one, the certificate's list
+-- for the direction of pass k has the strikes of pass k.
 pub certificate_strikes : (g : Grammar) (c : Stuck) (m : Passes) (k : ℕ) → IsCertificate g c
     → ((s a : ℕ) → Members c.set s a ↔ HasPassFrom m k s a) → ((s a : ℕ) → Members c.set s a ↔ HasPassAfter m k s a)
     → AreStrikesAt g m k (list_for c (direction_of k))

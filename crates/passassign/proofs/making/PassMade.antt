@@ -1,4 +1,4 @@
--- A pass of the program is one of the definitions'.
+-- A pass that the program makes is a pass as `IsPass` defines it.
 use Rattle.std.proofs.Common.{ℕ, suc, ◌≡◌, ◌<◌, ◌+◌, ◌↔◌, Bool, true, false, cond, ◌&&◌, nat_lt, List, [], Some, None, length}
 use Rattle.std.proofs.Common.{refl, ap, ◌∙◌, sym, subst, add-one}
 use Rattle.std.proofs.lemmas.Bool.{lt-ltb, ltb-true, false≢true}

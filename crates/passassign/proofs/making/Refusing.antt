@@ -1,4 +1,4 @@
--- The attributes left open by two passes that assign nothing have no pass.
+-- If two passes of the program assign nothing, its fault is A1, and A1 is true of the grammar.
 use Rattle.std.proofs.Common.{ℕ, zero, suc, ◌≡◌, ◌<◌, ◌≤◌, ◌+◌, ◌/◌, ◌%◌, ◌↔◌, cond, List, [], ◌∷◌, None, length, inl, inr, refl}
 use Rattle.std.proofs.Common.{ap, ◌∙◌, sym, subst, arith, add-one}
 use Rattle.std.proofs.lemmas.Bool.{cases_order}
@@ -69,7 +69,8 @@ count_le (x ∷ xs) [] len h = absurd (omega arith)
 count_le (x ∷ xs) (y ∷ ys) len h = let a = bit_le x y (h zero) in let b = count_le xs ys (omega arith) (λ k. h (suc k)) in
     omega (arith, open_step x xs, open_step y ys, a, b)
 
--- if as many are left open, each that was open is
+-- If no slot becomes open from the table xs to the table ys, and at least as many slots are open in ys as in xs, each slot that
+-- is open in xs is open in ys.
 same_open : (xs ys : List State) → length ys ≡ length xs → KeepPasses ys xs → open_count xs ≤ open_count ys → KeepPasses xs ys
 same_open [] [] len h le k e = e
 same_open [] (y ∷ ys) len h le k e = absurd (omega arith)

@@ -1,4 +1,4 @@
--- The attributes left open by two passes that assign nothing.
+-- The attributes left open by two passes that assign nothing are stuck, and the strikes of these passes are a certificate.
 use Rattle.std.proofs.Common.{ℕ, zero, suc, ◌≡◌, ◌≤◌, ◌↔◌, List, [], None, refl, sym, subst, arith}
 use Rattle.ag_grammar.specs.Lists.{Has, Differ}
 use Rattle.ag_grammar.specs.grammars.AttributeGrammar.{Grammar}

@@ -127,7 +127,7 @@ first_given Open (Assigned p) m n lt = inl (refl, λ o. cc)
 first_given Absent y m n lt = inr (omega arith)
 first_given (Assigned p) y m n lt = inr (omega arith)
 
--- an attribute is open before a pass and not after it
+-- if fewer slots are open in the table ys than in xs, some slot is open in xs and not in ys
 some_given : (xs ys : List State) → length ys ≡ length xs → open_count ys < open_count xs
     → (i : ℕ) × (state_at xs i ≡ Open) × (state_at ys i ≡ Open → ⊥)
 some_given [] [] len lt = absurd (omega arith)

@@ -1,4 +1,4 @@
--- A struck attribute has a later pass in a legal partial assignment.
+-- A struck attribute has a later pass, or none, in a legal partial assignment.
 use Rattle.std.proofs.Common.{ℕ, zero, suc, ◌≡◌, ◌≤◌, inl, inr, List, [], ◌∷◌, Option, Some, None, ap, sym, ◌∙◌, arith}
 use Rattle.std.proofs.Math.Arith.{lt_of_le-ne}
 use Rattle.ag_grammar.specs.declared.grammar.Item.TheVariants as item

@@ -1,4 +1,4 @@
--- Assignments of all attributes, and grammars that have none.
+-- Assignments of all attributes, and grammars that have no legal one.
 use Rattle.std.proofs.Common.{ℕ, zero, suc, ◌≡◌, ◌↔◌, inl, inr, List, [], ◌∷◌, Option, Some, None, slice_get, length, refl, sym}
 use Rattle.std.proofs.Common.{◌∙◌, subst}
 use Rattle.ag_grammar.specs.Lists.{Each}

@@ -27,7 +27,8 @@ use Rattle.passassign.proofs.slots.Linked.{attribute_within, same_parts}
 abbrev slot : Target → ℕ
 slot o = o.place * 16 + o.attr
 
--- There are few members for different attributes of few places.
+-- The list xs is short if each of its members belongs to another attribute at a place (`of`). Places are at most 16, and the
+-- numbers of attributes below 16.
 module _ {X : Type 0} (of : X → Target) (xs : List X)
     (single : (i j : ℕ) (x y : X) → slice_get xs i ≡ Some x → slice_get xs j ≡ Some y → of x ≡ of y → i ≡ j)
     (small : (i : ℕ) (x : X) → slice_get xs i ≡ Some x → ((of x).place ≤ 16) × ((of x).attr < 16)) where

@@ -19,7 +19,8 @@ use Rattle.passassign.proofs.making.Struck.{AtLeast, not_here}
 use Rattle.passassign.proofs.strikes.Following.{has_strikes, strikes_open}
 use Rattle.passassign.proofs.strikes.Reasons.{good_more}
 
--- the attribute of a chain has a later pass if its candidates have no earlier one
+-- In a legal partial assignment n, the first attribute of a chain for pass k has a later pass or none, if no candidate has a pass
+-- before k.
 module _ (g : Grammar) (n : Partial) (legal : IsLegalPartial g n) (k : ℕ) (candidate : Attributes)
     (low : AtLeast g n legal k candidate) where
   first_later : (xs : List Strike) → IsChain g (direction_of k) candidate xs
@@ -120,7 +121,7 @@ module _ (g : Grammar) (d : Direction) (candidate : Attributes) where
   pub good_chains : (xs : List Strike) → AreGood g d candidate [] xs → HaveChains g d candidate xs
   good_chains xs good = chains [] xs (λ s a h. absurd h) good
 
--- The parts that a good strike names are unique.
+-- A good strike x: the production, rule and argument that it names, and the attribute that it waits for.
 module _ (g : Grammar) (d : Direction) (candidate : Attributes) (xs : List Strike) (x : Strike)
     (good : IsGood g d candidate xs x) where
   own_names : Names g x good.production good.rule good.argument

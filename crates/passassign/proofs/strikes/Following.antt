@@ -1,4 +1,4 @@
--- Struck attributes, by attributes and by slots.
+-- Struck attributes, named by their numbers and by their slots in the table.
 use Rattle.std.proofs.Common.{ℕ, zero, suc, ◌≡◌, ◌<◌, ◌⊎◌, List, [], ◌∷◌, slice_get, Some, inl, inr, refl, ap, ◌∙◌, sym, subst}
 use Rattle.ag_grammar.specs.Lists.{Has}
 use Rattle.ag_grammar.specs.grammars.AttributeGrammar.{Grammar, item_at}
@@ -38,7 +38,7 @@ strikes_open g d candidate struck (x ∷ xs) (is, new, one, more) s a h =
     go (inl e) later = subst (λ s. candidate s a) e.0 (subst (candidate x.symbol) e.1 is)
     go (inr m) later = later m
 
--- the attributes that a search has struck, by attributes and by slots
+-- the attributes that a search has struck, named in both ways
 module _ (g : Grammar) (all : List Dependency) (d : Direction) (states : List State) (xs : List Strike)
     (of : BelongTo g all states) (good : AreGood g d (IsOpen g (table_passes states)) [] xs) where
   pub struck_within : (x : Strike) → Has xs x → x.attr < 16
@@ -54,7 +54,7 @@ module _ (g : Grammar) (all : List Dependency) (d : Direction) (states : List St
       let e = slot_same h.0.symbol h.0.attr s a (struck_within h.0 h.1) lt h.2 in
       subst (λ s. IsStruckBy xs s a) e.0 (subst (IsStruckBy xs h.0.symbol) e.1 (has_strikes xs h.0 h.1))
 
-  -- a strike by a dependency whose target is kept out, or whose argument is struck, is a good one
+  -- the strike of a dependency is good if the dependency bars its target from the pass, or if its argument is struck
   pub good_by : (u : Dependency) → Parts g u → IsBarred d states u ⊎ IsStruckAt xs u.argument
       → IsGood g d (IsOpen g (table_passes states)) xs u.strike
   good_by u p why =

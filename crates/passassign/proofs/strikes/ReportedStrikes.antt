@@ -1,4 +1,4 @@
--- The strikes of a pass, by the additions along the edges of dependencies.
+-- The strikes that `search` returns are good. Each is that of a dependency, which is the reason of an addition of `closure`.
 use Rattle.std.proofs.Common.{ℕ, zero, suc, ◌≡◌, ◌<◌, ◌≤◌, ◌+◌, ◌⊎◌, ◌↔◌, Bool, true, List, [], ◌∷◌, ◌++◌, Option, Some, None}
 use Rattle.std.proofs.Common.{All, map, take, slice_get, length, get_or, inl, inr, refl, ap, ◌∙◌, sym, subst, arith, add-one}
 use Rattle.std.proofs.lemmas.Bool.{cases_eq}
@@ -34,7 +34,7 @@ use Rattle.passassign.proofs.strikes.Following.{strikes_open, has_strikes, struc
 use Rattle.passassign.proofs.strikes.Growing.{strikes_grow}
 use Rattle.passassign.proofs.slots.Linked.{parts, attribute_within, open_there, open_state, places_item, target_is}
 
--- the members before an index are those of the list's prefix
+-- a member of a list's prefix is in the list, at the same index
 pub in_take : {A : Type 0} (n : ℕ) (xs : List A) (i : ℕ) (x : A) → slice_get (take n xs) i ≡ Some x
     → (i < n) × (slice_get xs i ≡ Some x)
 in_take zero xs i x e = absurd (let bad : ⊥ = cc in bad)
@@ -65,7 +65,7 @@ seeds_below all barred d states bars count within =
     All-map (λ t. t < count) target_of barred
     (λ k o lt. (within (get_or barred k o) ((bars (get_or barred k o)).0 (k, slice_get-get_or barred k o lt)).0).1)
 
--- one more strike is by the reason of the next addition
+-- if the strikes xs are those of the first n additions, one more strike is that of the next addition
 pub strike_more : (all barred : List Dependency) (added : List Addition) (xs : List Strike) (n : ℕ) (o : Addition)
     (u : Dependency) → length xs ≡ n → dependency_by all barred (get_or added n o).reason ≡ Some u
     → ((i : ℕ) (x : Addition) → i < n → slice_get added i ≡ Some x → IsStrikeOf all barred xs i x)
@@ -89,7 +89,7 @@ named all barred there n (reason.Clause p) h =
     let w = mapped_at edge_of all p c.0 c.1 in
     (w.0, w.1)
 
--- The dependency of a strike, which keeps its target out of the pass, or whose argument is struck before.
+-- The dependency of the strike at index i. It bars its target from the pass, or its argument was added before.
 record IsReportedAt (all : List Dependency) (d : Direction) (states : List State) (added : List Addition) (xs : List Strike)
     (i : ℕ) (x : Addition) : Type 0 where
   u : Dependency
@@ -99,7 +99,8 @@ record IsReportedAt (all : List Dependency) (d : Direction) (states : List State
   why : IsBarred d states u ⊎ IsAddedBefore added i u.argument
 
 module _ (all barred : List Dependency) (d : Direction) (states : List State) (bars : AreBarred d states all barred) where
-  -- Its target is the number that is added, and it keeps that out of the pass, or its argument was added.
+  -- The dependency that a reason for the number n names: its target is n, and it bars this target, or its argument has the
+  -- property `there`.
   by_name : (there : ℕ → Type 0) (n : ℕ) (r : Reason) (u : Dependency) → dependency_by all barred r ≡ Some u
       → IsReasonOf (clauses_of all) (map target_of barred) there n r
       → Has all u × (target_of u ≡ n) × (IsBarred d states u ⊎ there u.argument)

@@ -15,14 +15,14 @@ use Rattle.passassign.proofs.strikes.ReportedStrikes.{in_take}
 abbrev pub none : Strike
 none = record { symbol = 0; attr = 0; production = 0; rule = 0; arg = 0 }
 
--- a strike of a prefix of a list is in the list, before the prefix ends
+-- a strike of a prefix of a list is in the list, at the same index
 prefix_at : (xs : List Strike) (n j : ℕ) → j < length (take n xs) → (j < n) × (strike_at (take n xs) j ≡ strike_at xs j)
 prefix_at xs n j lt =
     let e = in_take n xs j (get_or (take n xs) j none) (slice_get-get_or (take n xs) j none lt) in
     (e.0, sym (get_or_from_slice_get xs j (get_or (take n xs) j none) none e.1))
 
 module _ (g : Grammar) (d : Direction) (xs : List Strike) (at s a : ℕ) where
-  -- the strike of an awaited attribute in a prefix is the one that is awaited
+  -- if the prefix has a strike of the awaited attribute at index i, the strike at index `at` waits for the attribute of strike i
   pub found_before : WaitsFor g d (strike_at xs at) s a → (r : Option ℕ)
       → IfSome r (λ i. (i < length (take at xs)) × ((strike_at (take at xs) i).symbol ≡ s)
       × ((strike_at (take at xs) i).attr ≡ a))
@@ -37,7 +37,7 @@ module _ (g : Grammar) (d : Direction) (xs : List Strike) (at s a : ℕ) where
             (subst (λ s. WaitsFor g d (strike_at xs at) s a) first waits),
       )
 
-  -- if the awaited attribute is struck before, there is such a strike
+  -- if awaited attributes are struck before, the prefix has such a strike, so the case `None` does not occur
   pub none_before : at < length xs → WaitsFor g d (strike_at xs at) s a → (r : Option ℕ)
       → (r ≡ None → IsStruckBy (take at xs) s a → ⊥) → r ≡ None → AreAwaitedBefore g d xs → WaitsForNone g d (strike_at xs at)
   none_before lt waits r missing e order =

@@ -232,7 +232,7 @@ module _ (c : Setting) (sound : IsSound c) where
             (differs x p body old new h f apart),
       )
 
--- No frame was found.
+-- If reading a frame fails within the limits, its fault is the reason why no record was read.
 pub frame_unfetched : (c : Setting) (x : Item) (open_count : ℕ) (content : List ℕ) (state : BackState)
     (view : Option (Bor (List ℕ)) → Option (List ℕ)) (f : FrameFault) → open_count < max_depth
     → state.progress.records < max_nodes → ReadsAs view (Err f) (next_before version_two content state.progress.at)

@@ -47,12 +47,12 @@ use Rattle.passrun.proofs.steps.Steps.{opened}
 abbrev empty : Transcript
 empty = record { read = []; put = [] }
 
--- No body was returned.
+-- If a returned option is not `Some`, it has no body.
 pub none_lent : (found : Option (Bor (List ℕ))) → is_some found ≡ false → option_map (λ (b : Bor (List ℕ)). b.now) found ≡ None
 none_lent (Some body) e = absurd cc
 none_lent None e = refl
 
--- The reader's position did not change.
+-- If the reader returned no body, its progress did not change.
 pub reader_kept : (honest : Bool) (content : List ℕ) (old now : BackState) (answer : Result (Option (Bor (List ℕ))) FrameFault)
     (found : Option (Bor (List ℕ))) → HasRead honest content old (lent_body (λ (b : Bor (List ℕ)). b.now) answer) now
     → answer ≡ Ok found → is_some found ≡ false → now.progress ≡ old.progress
@@ -148,7 +148,7 @@ module _ (c : Setting) (sound : IsSound c) where
       let w = r.running.written in
       (h.few, r.running.well, omega arith, r.running.whole)
 
-  -- The number of records written is the number of records read.
+  -- When the root is done, one more record was read than written: the root's is still to be written.
   pub as_many : (honest : Bool) (content : List ℕ) (to_honest : Bool) (to : List ℕ) (m : Machine)
       → RunsBetween c honest content to_honest to m None
       → (m.writer.written + 1 ≡ m.back.progress.records) × (m.back.progress.records ≤ max_nodes)

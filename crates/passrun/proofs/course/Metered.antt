@@ -1,4 +1,4 @@
--- A finished pass ran no more rules than its records allow, for any devices.
+-- A pass whose root is done evaluated at most 2^36 rules, for any devices.
 use Rattle.std.proofs.Common.{ℕ, ◌+◌, ◌^◌, ◌≤◌, Bool, List, None, Result, Ok, Err, length, ap, arith}
 use Rattle.std.specs.Prelude.{IfErr, OnErr, OnOk}
 use Rattle.passcode.specs.Settings.{Setting, pass_direction}

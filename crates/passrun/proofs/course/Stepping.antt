@@ -11,7 +11,7 @@ use Rattle.ag_grammar.specs.grammars.Tree.{node_count}
 use Rattle.passassign.specs.Rows.{IsGreatest, passes_of}
 use Rattle.passcode.specs.Rows.{Lists}
 use Rattle.passcode.specs.Settings.{Setting, setting_of}
-use Rattle.treefile.specs.devices.Device.{HasRisen, Persists, WhenHonest}
+use Rattle.treefile.specs.devices.Device.{Persists, WhenHonest}
 use Rattle.treefile.specs.framing.Beginning.{BeginsFile, LeavesBeginning}
 use Rattle.treefile.specs.Runs.{RunsPass, RunsPasses}
 use Rattle.treefile.specs.records.TreeFile.{version_two}
@@ -27,7 +27,8 @@ use Rattle.passrun.specs.Rounds.{CountsPasses, HasRunAll, HoldsTree, IsPassedOn,
 use Rattle.passrun.specs.Rounds.{other_content, other_last}
 use Rattle.passrun.proofs.RecordedPasses.{passes_are_recorded, refused_back}
 
--- The device from which the pass ran.
+-- A pass from the first device to the second, or from the second to the first, is one from the device with the last file to the
+-- other.
 module _ (c : Setting) (a b : List ℕ) where
   pub passed_from_a : (a_new b_new : List ℕ) (evals : ℕ) (last : Last) → last ≡ A → (result : Result Passed RunFault)
       → IfOk result (λ p. IsPassed c a b_new p.nodes evals) → a_new ≡ a
@@ -114,7 +115,7 @@ all_starts g m k n a b evals same fresh =
     subst (λ e. HasRunAll g m k n a A a b e (record { nodes = 0; read = 0; written = 0 })) (sym fresh)
     (subst (λ n. HasRunAll g m k n a A a b 0 (record { nodes = 0; read = 0; written = 0 })) (sym same) whole)
 
--- After `last` passes one more ran, pass n, from the device with the last file to the other.
+-- After pass `last` one more pass ran, pass n, from the device with the last file to the other.
 module _ (g : Grammar) (plan : List (List ℕ) × Lists) (k last n : ℕ) (start a b a_new b_new : List ℕ) (which : Last)
     (evals more : ℕ) (sum passed : Passed) (accepted : IsAccepted g) (legal : IsLegal g (passes_of plan.0)) (le : k ≤ last)
     (is : n ≡ suc last) (before : HasRunAll g (passes_of plan.0) k last start which a b evals sum)
@@ -226,11 +227,6 @@ persists_on h0 h1 h2 f0 f1 f2 old new =
       cause = λ f. absurd f;
     }
 
--- A failure that occurred after a later moment occurred after an earlier one.
-pub risen_since : (before now later : ℕ) → before ≤ now → HasRisen now later → HasRisen before later
-risen_since before now later le (inl less) = inl (omega arith)
-risen_since before now later le (inr full) = inr full
-
 -- A pass leaves its file, a prefix of it, or the old content.
 pub some_left : (pass : ℕ) (honest : Bool) (old new : List ℕ) (r : Result Passed RunFault)
     → OnOk r (WhenHonest honest (BeginsFile pass new)) → OnErr r (WhenHonest honest (LeavesBeginning pass old new))
@@ -238,12 +234,12 @@ pub some_left : (pass : ℕ) (honest : Bool) (old new : List ℕ) (r : Result Pa
 some_left pass honest old new (Ok p) begun left h = (pass, inr (begun h))
 some_left pass honest old new (Err f) begun left h = (pass, left h)
 
--- The content after one pass, and then the next.
+-- Two passes, one after the other, leave what one may leave: the old content, or a prefix of a tree file.
 pub left_again : (old between new : List ℕ) → LeavesSomeFile old between → LeavesSomeFile between new → LeavesSomeFile old new
 left_again old between new first (pass, inl same) = subst (LeavesSomeFile old) (sym same) first
 left_again old between new first (pass, inr begun) = (pass, inr begun)
 
--- What holds after a failure implies something else.
+-- If P holds after a failure, and P implies Q, then Q holds after it.
 pub err_more : (P Q : Type 0) (r : Result Passed RunFault) → (P → Q) → OnErr r P → OnErr r Q
 err_more P Q (Ok p) go h = h
 err_more P Q (Err f) go h = go h

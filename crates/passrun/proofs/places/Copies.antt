@@ -117,7 +117,8 @@ copies_row c q e j x h at agree =
       | inr apart ↦ with_other e (suc j) h (suc b) n (λ z. apart (omega arith))
     ]
 
--- A rule whose value is not known in the copies yet does not change the known copies.
+-- The copies still agree with the table as far as they did (`AgreesSoFar`) if the table gets a value of this pass at the node
+-- itself, or at a child that the pass has not reached.
 pub shown_set : (c : Setting) (q : Production) (n : ℕ) (e s : Table) (j a : ℕ) (v : Value)
     → HasPass c.passes q (record { place = j; attr = a }) c.write → (IsReached c q n j → j ≡ 0) → AgreesSoFar c q n e s
     → AgreesSoFar c q n (set e j a v) s
@@ -129,7 +130,7 @@ shown_set c q n e s j a v pass fault_unless shown b m p x at is le when =
       | inr known ↦ (let z = fault_unless (subst (IsReached c q n) both.0 known) in let bj = both.0 in omega arith)
     ]))
 
--- Reading a child's record that agrees with the copies does not change the known copies.
+-- They also do if the table gets the values of a child's record that agree with the copies.
 pub shown_row : (c : Setting) (q : Production) (n n' : ℕ) (e s : Table) (j : ℕ) (x : Item) (h : ℕ → Value)
     → slice_get (stored_items q.items) j ≡ Some x → AgreeAt c x (s (suc j)) h → c.write ≡ suc c.read
     → ((b : ℕ) → b ≢ j → IsReached c q n' (suc b) → IsReached c q n (suc b))
@@ -147,7 +148,7 @@ shown_row c q n n' e s j x h at agree next others never shown b m p y at' is le 
       ∙ sym (with_other e (suc j) h (suc b) m (λ z. apart (omega arith)))
 ]
 
--- The known copies stay known if both tables have the values that the pass computed at a child.
+-- They also do if both tables get the values that the pass computed at a child.
 pub shown_both : (c : Setting) (q : Production) (n n' : ℕ) (e s : Table) (j : ℕ) (h : ℕ → Value)
     → ((b : ℕ) → b ≢ j → IsReached c q n' (suc b) → IsReached c q n (suc b)) → AgreesSoFar c q n e s
     → AgreesSoFar c q n' (with_row e (suc j) h) (with_row s (suc j) h)

@@ -264,7 +264,7 @@ own_set c q f h s a p v is le here other =
     set-append_left own copied r v (slice_get_within own r (f a) (row_at c.write (c.passes q.left) f a p is le))
     ∙ ap (λ vs. vs ++ copied) (row_set c.write (c.passes q.left) f h a p v is le here other)
 
--- A synthesized attribute of an item has a copy.
+-- A synthesized attribute comes before all inherited ones, so it is among those that are copied.
 syn_below : (syn inh : List (List ℕ)) (a : ℕ)
     → slice_get (map (λ (n : List ℕ). Synthesized) syn ++ map (λ (n : List ℕ). Inherited) inh) a ≡ Some Synthesized
     → a < length syn
@@ -289,7 +289,7 @@ has_copy c (item.Symbol s) a p kind pass =
 has_copy c (item.Terminal (Class d)) a p kind pass = pass
 has_copy c (item.Terminal (Literal l)) a p kind pass = absurd (let bad : ⊥ = cc in bad)
 
--- A copied value is that of an attribute of the same pass.
+-- An attribute has the same pass among those that are copied as among all attributes of the item.
 pub copied_is : (c : Setting) (x : Item) (a p : ℕ) → slice_get (copied_passes c x) a ≡ Some p
     → slice_get (item_passes c.passes (Some x)) a ≡ Some p
 copied_is c (item.Symbol s) a p is = get_take (synthesized_count (slice_get c.grammar.symbols s)) (c.passes s) a p is

@@ -19,7 +19,7 @@ use Rattle.ag_grammar.specs.declared.grammar.Rule.{Rule}
 use Rattle.ag_grammar.specs.declared.grammar.Terminal.{Terminal}
 use Rattle.ag_grammar.specs.declared.grammar.Terminal.TheVariants.{Literal, Class}
 use Rattle.ag_grammar.specs.declared.grammar.Target.{Target}
-use Rattle.ag_grammar.specs.grammars.AttributeGrammar.{Grammar, IsArgument, IsProduction, item_at, stored_items}
+use Rattle.ag_grammar.specs.grammars.AttributeGrammar.{IsArgument, IsProduction, item_at, stored_items}
 use Rattle.ag_grammar.specs.expressions.Evaluation.{value_of}
 use Rattle.treefile.specs.declared.body.Kind.TheVariants.{Node, Token}
 use Rattle.treefile.specs.devices.Device.{LeavesContent}
@@ -27,8 +27,7 @@ use Rattle.treefile.specs.records.Records.{values_up_to}
 use Rattle.treefile.specs.framing.Writing as writing
 use Rattle.backreader.specs.BackState.{BackState}
 use Rattle.passcode.specs.declared.instr.Instr.TheVariants as instr
-use Rattle.passcode.specs.Rows.{Lists}
-use Rattle.passcode.specs.Settings.{Setting, list_at, setting_of}
+use Rattle.passcode.specs.Settings.{Setting, list_at}
 use Rattle.passcode.specs.Sound.{IsSound}
 use Rattle.pass_rows.specs.declared.layouts.building.PlaceRow.{PlaceRow}
 use Rattle.pass_rows.specs.declared.layouts.building.ProductionRow.{ProductionRow}
@@ -48,7 +47,6 @@ use Rattle.passrun.specs.passing.Running.{RunsRuleNext, RunsAt, RunsFrom, RunsSo
 use Rattle.passrun.specs.passing.Running.{stack_of}
 use Rattle.pass_rows.specs.layouts.Slots.{argument_slot, copied_width, copy_start, known_width, target_slot}
 use Rattle.treefile.proofs.records.Values.{count_of_values}
-use Rattle.passrun.proofs.places.Agreeing.{Agree}
 use Rattle.passrun.proofs.course.Counted.{passing_counted}
 use Rattle.pass_rows.proofs.places.Entries.{place_is, place_within, some_at}
 use Rattle.passrun.proofs.steps.Facts.{HasOwn, HasPlace, HasRule, HasWaited, given_rule, get_place, own_row, put_place, waited}
@@ -59,15 +57,9 @@ use Rattle.passrun.proofs.places.Slots.{begins_with_copy}
 use Rattle.passrun.proofs.steps.Steps.{HasAgreed, same_production}
 use Rattle.passrun.proofs.places.Tables.{text_row}
 
--- The row of a place that the context of a pass returns.
+-- The answer is the description (`PlaceRow`) of place j in the layout of the production of the node x, if there is such a place.
 abbrev pub Answers : Setting → OpenNode → ℕ → Option PlaceRow → Type 0
 Answers c x j answer = (q : Production) → IsProduction c.grammar x.production q → answer ≡ slice_get (place_rows c q) j
-
--- Two rows agree by the passes of the copies.
-pub agrees_by : (g : Grammar) (plan : List (List ℕ) × Lists) (k : ℕ) (x : Item) (ps : List ℕ) (ours theirs : List Value)
-    (answer : Bool) → ps ≡ copied_passes (setting_of g plan k) x → Agree ps k ours theirs (IsTrue answer)
-    → Agrees (setting_of g plan k) x ours theirs answer
-agrees_by g plan k x ps ours theirs answer is h = subst (λ (ps : List ℕ). Agree ps k ours theirs (IsTrue answer)) is h
 
 -- Two rows agree if no earlier pass computed a copied value.
 pub nothing_read : (c : Setting) (x : Item) (ours theirs : List Value) → known_width c x ≡ 0 → Agrees c x ours theirs true
@@ -96,7 +88,7 @@ begins_so c (item.Terminal (Class d)) p body old new h = (
 )
 begins_so c (item.Terminal (Literal l)) p body old new h = elim h [ ]
 
--- The values that agree.
+-- Values that the code found equal to the copies agree with those that were read.
 pub has_agreed : (c : Setting) (q : Production) (x : OpenNode) (j : ℕ) (x' : Item) (p : ℕ) (body : List ℕ)
     (old new ours theirs : List Value) (from start : ℕ) (answer : Bool) (h : IsRead c x' p body old new)
     → Agrees c x' ours theirs answer → IsTrue answer
@@ -136,7 +128,7 @@ indexed c p xs q r same is there =
     omega arith in
     ap (λ xs. slice_get xs p) (sym same) ∙ slice_get-get_or xs p q less ∙ ap Some (sym is)
 
--- Popping an empty stack returns nothing.
+-- If popping returned nothing, the first fact that the contract of `pop` states for this case holds.
 pub none_popped : (P Q : Type 0) (R : OpenNode → Type 0) (r : Option OpenNode) → MatchOption r (P × Q) R → r ≡ None → P
 none_popped P Q R None m e = m.0
 none_popped P Q R (Some x) m e = absurd (cc)

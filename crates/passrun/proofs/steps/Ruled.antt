@@ -48,7 +48,7 @@ use Rattle.passrun.proofs.places.Slots.{argument_at, has_copy, length_row, lengt
 use Rattle.passrun.proofs.steps.Steps.{IsGivingOf, give_next, rules_next, runs_next, same_production, stored_same}
 use Rattle.passrun.proofs.places.Tables.{body_same, set_here, set_other}
 
--- A rule has as many occurrences as arguments, and its expression names no others.
+-- A rule has as many occurrences as arguments.
 pub rule_named : (c : Setting) → IsSound c → (p r : ℕ) (q : Production) (u : Rule) → IsProduction c.grammar p q
     → slice_get q.rules r ≡ Some u → (length u.expr.1 ≡ length u.args)
 rule_named c sound p r q u there num = (sound.accepted.named.rules_named p q there r u num).arguments.equally_long

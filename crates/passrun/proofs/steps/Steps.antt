@@ -186,7 +186,7 @@ module _ (c : Setting) (sound : IsSound c) where
       lists_evaluate_rules c.passes q c.write (list_at c p)
       (agrees c.passes q c.write (list_at c p) (omega arith) (sound.course p q there))
 
-  -- The list of a production ends with `End`.
+  -- At `End`, which is the last instruction of a list, no rule is left to be run.
   rules_last : (x : OpenNode) (q : Production) → IsProduction c.grammar x.production q
       → slice_get (list_at c x.production) x.at ≡ Some instr.End → rules_left c x ≡ 0
   rules_last x q there at =

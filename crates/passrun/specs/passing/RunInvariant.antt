@@ -175,8 +175,9 @@ rules_left c x = count_by is_computation (rest_of c x)
 -- An open node x waits for its child, a node of production p and symbol s. s', f', under' and `old` belong to x; s, f and `under`
 -- belong to the child. `new` is the transcript before the record of the child was read. `evals` rules were evaluated before the
 -- child was entered, `evals_before` of them before x was. After the child's tree, the rest of x's list of instructions runs to
--- its end. The fields: i children of x are complete, with the trees `trees` and their values `values`; the rules `done` were run
--- at x; `table` has the values at x and its children, and `copied` the copies in x's row.
+-- its end. After the child's tree `todo` is still to be read, and after x's tree `others`. The fields: i children of x are
+-- complete, with the trees `trees` and their values `values`; the rules `done` were run at x; `table` has the values at x and its
+-- children, and `copied` the copies in x's row.
 pub record Suspended (c : Setting) (s' : ℕ) (f' : ℕ → Value) (level : ℕ) (x : OpenNode) (under' : List Value) (old : Transcript)
     (evals_before : ℕ) (others : Pending) (s p : ℕ) (f : ℕ → Value) (under : List Value) (new : Transcript) (evals : ℕ)
     (todo : Pending) : Type 0 where
@@ -203,7 +204,8 @@ pub record Suspended (c : Setting) (s' : ℕ) (f' : ℕ → Value) (level : ℕ)
 
 -- The open nodes, the innermost first, wait for a node of production p and symbol s; if there are none, this node is the root.
 -- f, `under` and `new` belong to this node, and s', f', under' and `old` to the innermost open node x. `root` is the number of
--- the root's production. After this node's tree the children `todo` are still to be read.
+-- the root's production. `evals` rules were evaluated before this node was entered. After this node's tree `todo` is still
+-- to be read.
 abbrev pub Expects : Setting → ℕ → List OpenNode → ℕ → ℕ → (ℕ → Value) → List Value → Transcript → ℕ → Pending → Type 0
 Expects c root [] s p f under new evals todo =
     (s ≡ c.grammar.start) × (p ≡ root) × (under ≡ []) × (new ≡ record { read = []; put = [] }) × (evals ≡ 0) × (todo ≡ [])

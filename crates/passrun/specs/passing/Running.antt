@@ -13,7 +13,8 @@ stack_of None waiting = []
 stack_of (Some node) waiting = node ∷ reverse waiting
 
 -- A machine runs a pass from a first device to a second one. `honest` and `content` are those of the first, `to_honest` and `to`
--- those of the second. The node `next` continues (none if the root is done), and the meter has this count.
+-- those of the second. The node `next` continues (none if the root is done), and the meter has this count. It was at most 2^63
+-- when the pass began, so that it can't overflow.
 pub record Runs (c : Setting) (honest : Bool) (content : List ℕ) (to_honest : Bool) (to : List ℕ) (meter : ℕ) (m : Machine)
     (next : Option OpenNode) : Type 0 where
   pub running : IsRunning c m.root honest content to_honest to m.back m.writer m.values.items (stack_of next m.waiting.items)
@@ -42,7 +43,9 @@ RunsSomehow c m next =
     (honest : Bool) × (content : List ℕ) × (to_honest : Bool) × (to : List ℕ) × (meter : ℕ)
     × Runs c honest content to_honest to meter m next
 
--- A step that reads leads from one running machine to the next, for every second device and count of the meter.
+-- A step that reads leads from one running machine to the next, for every second device and count of the meter. In the names of
+-- this and the next definitions, `old` and `node` are what the step begins with, and `new` and `next` what it leads to. The
+-- arguments `.._honest` and `.._content` are those of the device that the step uses.
 abbrev pub LeadsFrom : Setting → (old_honest new_honest : Bool) → (old_content new_content : List ℕ) → (old new : Machine)
     → (node next : Option OpenNode) → Type 0
 LeadsFrom c old_honest new_honest old_content new_content old new node next = (to_honest : Bool) (to : List ℕ) (meter : ℕ)

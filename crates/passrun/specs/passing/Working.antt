@@ -20,8 +20,8 @@ abbrev pub all_of : Lists → ℕ → ℕ
 all_of [] k = 0
 all_of (row ∷ rows) k = length (slice_index_or row k []) + all_of rows k
 
--- A bound that is greater than the work at any node (the number of its instructions, plus one): the number of
--- instructions in all lists of the pass, plus two.
+-- The number of instructions in all lists of the pass, plus two. It is greater than the work at any single node, which is the
+-- number of the node's instructions, plus one.
 abbrev pub node_cost : Setting → ℕ
 node_cost c = suc (suc (all_of c.code c.read))
 

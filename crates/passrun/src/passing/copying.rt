@@ -44,8 +44,9 @@ pub(crate) fn agree(passes: &[u16], k: u16, ours: &[Carried], theirs: &[Carried]
     }
 }
 
-/// Returns whether the values in a child's row, which begins at index `start`, are equal to their
-/// known copies in the parent's row. The copies of the child's values begin at index `copied`.
+/// Returns whether the known values among a child's synthesized ones are equal to their copies in
+/// the parent's row. The child's row begins at index `start`, and the copies at index `copied`.
+/// `row` describes the child's place in the layout.
 #[inline(always)]
 pub(crate) fn matches_copy(
     context: &PassContext<'_>,
@@ -91,8 +92,8 @@ pub(crate) fn single_value(values: &[Carried], index: usize) -> &[Carried]
     &values[index..index + 1]
 }
 
-/// Removes the row that was read for an item, which begins at `start`, if the item is a token: its
-/// text is among the copies. Keeps the row of a node.
+/// Removes the row that was read for an item, which begins at `start`, if the item is a token: the
+/// token's text is among the copies too. Keeps the row of a node.
 #[inline(always)]
 pub(crate) fn truncate_row(item: Item, values: &mut Vec<Carried>, start: usize)
     ensures { values.new.items ≡ kept_values item (take start values.old.items) values.old.items }
@@ -166,7 +167,8 @@ fn cut_last(values: &mut Vec<Carried>)
     last.release();
 }
 
-/// Removes the values from an index on.
+/// Removes the values from an index on, one by one: `release` drops a number or an error without a
+/// call.
 #[inline(always)]
 fn cut(values: &mut Vec<Carried>, from: usize)
     ensures { values.new.items ≡ take from values.old.items }

@@ -23,7 +23,6 @@ use ag_grammar::Item;
 use backreader::Back;
 use pass_rows::layouts::context::PassContext;
 use pass_rows::layouts::hints::ChildLocation;
-use pass_rows::open_node::OpenNode;
 use pass_rows::run_fault::RunFault;
 use treefile::{Device, Kind, Writer};
 
@@ -41,10 +40,10 @@ pub struct Passed {
     pub written: u64,
 }
 
-/// Begins a pass: checks the header of the first device, replaces the content of the second one with
-/// a header, and reads the root's record. Fails with R1 and offset 4 if the file is that of another
-/// pass, with R1 and offset 0 if it does not begin as a tree file, with D1 if a device fails, with
-/// `NoMemory` if memory cannot be allocated, and as `fetch` does.
+/// Begins a pass: checks the header of the first device, replaces the content of the second one
+/// with a header, and reads the root's record. Fails with R1 and offset 4 if the file is that of
+/// another pass, with R1 and offset 0 if it does not begin as a tree file of version 2, with D1 if
+/// a device fails, with `NoMemory` if memory cannot be allocated, and as `fetch` does.
 pub(crate) fn begin<D: Device, E: Device>(
     context: &PassContext<'_>,
     from: &mut D,
@@ -93,10 +92,10 @@ pub(crate) fn begin<D: Device, E: Device>(
     })
 }
 
-/// Ends a pass whose root is done: writes the root's record, checks that the first file was read back
-/// to its header, and returns the counts. Fails with R1 and the offset that reading has reached if the
-/// header does not end there, with D1 if a device fails, and with `NoMemory` if memory cannot be
-/// allocated.
+/// Ends a pass whose root is done: writes the root's record, checks that the first file was read
+/// back to its header, and returns the counts. Fails with R1 and the offset that reading has
+/// reached if the header does not end there, with D1 if a device fails, and with `NoMemory` if
+/// memory cannot be allocated.
 pub(crate) fn finish<D: Device, E: Device>(
     context: &PassContext<'_>,
     machine: &mut Machine,
@@ -106,6 +105,7 @@ pub(crate) fn finish<D: Device, E: Device>(
     requires context { CanRun context.now }
     requires runs { RunsBetween (setting context.now) (D.is_honest from.old) (D.content from.old)
         (E.is_honest to.old) (E.content to.old) machine.old None }
+    // for every count of the meter with which the machine runs: `finish` doesn't take the meter
     ensures passed { (meter : ℕ) → Runs (setting context.now) (D.is_honest from.old)
         (D.content from.old) (E.is_honest to.old) (E.content to.old) meter machine.old None →
         WhenHonest (D.is_honest from.new) (WhenHonest (E.is_honest to.new)

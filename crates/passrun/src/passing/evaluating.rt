@@ -117,8 +117,8 @@ pub(crate) fn put_rule_value(
 }
 
 /// Returns the value of an expression if `eval_scalar` can compute it, and `None` otherwise.
-/// Occurrence k of the expression has the value in slot `slots[k]` of `values`. The meter counts the
-/// evaluation if a value is returned.
+/// Occurrence k of the expression has the value in slot `slots[k]` of `values`. The meter counts
+/// the evaluation if a value is returned.
 #[tactic(auto, using(crate::proofs::steps::Lending::are_well))]
 #[inline(always)]
 fn evaluate_scalar(

@@ -42,16 +42,17 @@ pub(crate) struct Machine {
     pub(crate) back: Back,
     /// The writer to the second device.
     pub(crate) writer: Writer,
-    /// The rows of all open nodes, the outermost first. After them the row of the child whose record
-    /// was read last, if the child is a node of a symbol that the pass has not entered yet. The row
-    /// of a token is removed in the step that reads it, since its text is among the copies.
+    /// The rows of all open nodes, the outermost first. After them the row of the child whose
+    /// record was read last, if the child is a node of a symbol that the pass has not entered yet.
+    /// The row of a token is removed in the step that reads it, since its text is among the copies.
     pub(crate) values: Vec<Carried>,
     /// The open nodes without the innermost one, the outermost first. Each waits until the pass has
     /// left the child that it entered from this node.
     pub(crate) waiting: Vec<OpenNode>,
     /// The number of the production in the root's record.
     pub(crate) root: u16,
-    /// The meter's count when the pass began.
+    /// The meter's count when the pass began. Only contracts use it: they count the evaluations of
+    /// the pass from there.
     pub(crate) begun: u64,
 }
 
@@ -63,8 +64,8 @@ pub(crate) struct StepAt<'c, 'g> {
 }
 
 /// Enters the child of `node` at a place. The child's record was the last one read. Returns the
-/// child's node, which becomes the innermost one, and pushes `node` on `waiting`. Fails with
-/// `NoMemory` if memory cannot be allocated.
+/// child's node, which becomes the innermost one. Pushes `node` on `waiting`, with its `Go` done
+/// and the place of the child. Fails with `NoMemory` if memory cannot be allocated.
 pub(crate) fn open_child(
     context: &PassContext<'_>,
     node: OpenNode,
@@ -189,8 +190,9 @@ impl Machine {
         Ok(node.after_step(node.child))
     }
 
-    /// Executes a `Set` or a `Def`: runs a rule, puts its value into the slot of its target, and
-    /// returns the node after the instruction. Fails with `NoMemory` if memory cannot be allocated.
+    /// Executes a `Set` or a `Def`: runs the production's rule with number `rule`, puts its value
+    /// into the slot of its target, and returns the node after the instruction. Fails with
+    /// `NoMemory` if memory cannot be allocated.
     #[inline(always)]
     pub(crate) fn run_rule(
         &mut self,
@@ -280,8 +282,8 @@ impl Machine {
 
     /// Executes an `End`. If the node is not the root, writes its record, moves the values of its
     /// synthesized attributes to their copies in the parent's row, removes its own row, and returns
-    /// the parent. Otherwise returns `None`: `finish` writes the root's record. Fails with D1 if the
-    /// device fails, and with `NoMemory` if memory cannot be allocated.
+    /// the parent. Otherwise returns `None`: `finish` writes the root's record. Fails with D1 if
+    /// the device fails, and with `NoMemory` if memory cannot be allocated.
     #[inline(always)]
     pub(crate) fn finish_node<E: Device>(
         &mut self,

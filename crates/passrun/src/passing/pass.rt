@@ -70,8 +70,8 @@ pub(crate) fn run_in_context<D: Device, E: Device>(
 /// Runs a pass of a plan for a grammar. `pass` is a number from 1 to the greatest pass of the plan.
 /// Reads the file of the previous pass backward (for pass 1, that of the parser), and replaces the
 /// content of the second device with the file of the pass. Evaluates each rule of the pass once at
-/// each node of its production. The meter counts these evaluations, and may be at most 2^63 before the
-/// call.
+/// each node of its production. The meter counts these evaluations, and may be at most 2^63 before
+/// the call.
 ///
 /// Fails with R1 (`Damaged`) only if the first file is that of no tree of the grammar after the
 /// previous pass. The offset is 0 if the file does not begin as a tree file, and 4 if it is that of
@@ -85,9 +85,9 @@ pub(crate) fn run_in_context<D: Device, E: Device>(
 /// `NoMemory` if memory cannot be allocated.
 ///
 /// Only reads the first device. After a failure the second device has its old content, or a prefix
-/// of a tree file. Allocates memory for the layouts of the productions and the hints, for a buffer of
-/// 4,096 bytes or of the largest frame, for the open nodes with their rows, for the row of the child
-/// that was read last, and for one frame at a time.
+/// of a tree file. Allocates memory for the layouts of the productions and the hints, for a buffer
+/// of 4,096 bytes or of the largest frame, for the open nodes with their rows, for the row of the
+/// child that was read last, and for one frame at a time.
 pub fn run_pass<D: Device, E: Device>(
     alloc: Global,
     grammar: &Grammar,

@@ -24,14 +24,15 @@ use treefile::Device;
 pub(crate) struct ExpectedRecord {
     /// The item whose record it is.
     pub(crate) item: Item,
-    /// The production of its parent, and its place there. For the root, place 0 of production 0.
+    /// The production of the item's parent, and the item's place there. `read_record` finds hints
+    /// by them. The root has no parent: for it, place 0 of production 0, which has no hints.
     pub(crate) location: ChildLocation,
     /// The number of open nodes above it.
     pub(crate) open_count: usize,
 }
 
 /// Reads the next record as `fetch` does, from bytes copied to the reader's buffer. The caller has
-/// checked the limits.
+/// checked that the record is within the limits of levels and of nodes.
 #[inline(always)]
 fn fetch_copied<D: Device>(
     context: &PassContext<'_>,
@@ -110,9 +111,9 @@ fn fetch_lent<D: Device>(
 /// in the record: that of the production, or that of the token's class.
 ///
 /// Fails with P2 if the record's node would be at a level beyond `MAX_DEPTH`, and with P3 if
-/// `MAX_NODES` records were read already. Fails with R1 and the offset at which the record's frame
-/// should end if no frame ends there, or one whose body is not a record of the item. Fails with D1 if
-/// the device fails, and with `NoMemory` if memory cannot be allocated.
+/// `MAX_NODES` records were read already. Fails with R1 and the offset that the reader has reached
+/// if no frame ends there, or if the body of the frame there is not a record of the item. Fails
+/// with D1 if the device fails, and with `NoMemory` if memory cannot be allocated.
 #[inline(always)]
 pub(crate) fn fetch<D: Device>(
     context: &PassContext<'_>,

@@ -69,7 +69,7 @@ before_both : (level : ℕ) (xs ys : List Child) (others : Pending)
 before_both level [] ys others = refl
 before_both level (x ∷ xs) ys others = before_both level xs ys ((level, x) ∷ others)
 
--- The children of the right one are read first.
+-- Of two right sides, one after the other, the children of the second are read first.
 pub coming_both : (g : Grammar) (level : ℕ) (xs ys : List Item) (others : Pending)
     → pending_items g level (xs ++ ys) others ≡ pending_items g level ys (pending_items g level xs others)
 coming_both g level xs ys others =
@@ -78,7 +78,7 @@ coming_both g level xs ys others =
     ∙ ap (λ zs. before_others RightToLeft level zs others) (copies_of_both g (stored_items xs) (stored_items ys))
     ∙ before_both level (upcoming g xs) (upcoming g ys) others
 
--- An item that is a child.
+-- The pending list of one item that is a child begins with this child.
 pub coming_one : (g : Grammar) (level : ℕ) (x : Item) (others : Pending) → stored_items (x ∷ []) ≡ x ∷ []
     → pending_items g level (x ∷ []) others ≡ (level, (x, None)) ∷ others
 coming_one g level x others progress =
@@ -135,7 +135,7 @@ module _ (g : Grammar) (accepted : IsAccepted g) where
         fits = record { tokens = omega arith; nodes = λ p q is. omega arith };
       }
 
-  -- A content that is the file of no tree under the empty assignment is the first file of no tree.
+  -- A content that is the file of no tree under the empty assignment is the file of pass 0 of no tree under any.
   pub no_first : (content : List ℕ) → HasNoTree version_one g no_passes 0 content → HasNoFirstTree version_one g content
   no_first content none t tree is = let texts = texts_are_given g t in
       none t texts.0 tree (is no_passes texts.0 unassigned_from_one texts.1)
@@ -234,7 +234,7 @@ module _ (g : Grammar) (accepted : IsAccepted g) where
 
   module _ (content : List ℕ) (x : Item) (level : ℕ) (progress : Progress) (stored : stored_items (x ∷ []) ≡ x ∷ [])
       (deep : level ≤ max_reversed_levels) (less : progress.records < max_reversed_records) where
-    -- The frame that ends there is damage, or none ends there.
+    -- The frame that ends at the reader's offset is damage, or none ends there.
     pub one_breaks : (at : ℕ) → at ≡ progress.at
         → ((others : Pending) → Breaks version_one g no_passes 0 ((level, (x, None)) ∷ others)
         (next_before version_one content progress.at)) → IsUnconverted g content (x ∷ []) level progress (fault.Damaged at)
@@ -348,7 +348,7 @@ module _ (g : Grammar) (accepted : IsAccepted g) (content : List ℕ) where
         texts_are = refl;
       }
 
-  -- Trees that were converted, with a weaker assumption about the other device.
+  -- The same trees were converted, under a stronger assumption about the second device: `honest` implies `then`.
   abbrev pub converted_supposed : (leading xs : List Item) (level : ℕ) (before now : Progress) (honest then : Bool)
       (out_old out_now : List ℕ) (texts : List Value) → (honest ≡ true → then ≡ true)
       → Converted g content leading xs level before now then out_old out_now texts
@@ -407,7 +407,7 @@ module _ (g : Grammar) (accepted : IsAccepted g) (content : List ℕ) where
             ∙ sym (reverse-append (leaf_texts us) (leaf_texts ts)) ∙ ap reverse (sym (texts_both us ts));
       }
 
-  -- If a child fails, its parent does.
+  -- The fault with which a child fails is also true as the fault of its parent.
   pub child_refused : (x child : Item) (leading ys : List Item) (level : ℕ) (before first now : Progress) (r : OldRecord)
       (is : IsOf g x r) (honest : Bool) (out_old out_now : List ℕ) (texts : List Value) (f : RunFault)
       → stored_items (x ∷ []) ≡ x ∷ [] → level ≤ max_reversed_levels → before.records < max_reversed_records
@@ -451,7 +451,7 @@ module _ (g : Grammar) (accepted : IsAccepted g) (content : List ℕ) where
       (more_converted (take (at - 1) items) (x ∷ [])
       (drop at items) level before between now honest out_old out_between out_now texts text here next))
 
-  -- If one more item fails, its parent does.
+  -- As `child_refused`, for the next item of the parent's right side, from right to left.
   pub next_refused : (x : Item) (p : ℕ) (items : List Item) (at level : ℕ) (d : Item) (before first now : Progress)
       (is : IsOf g x (old.Node p)) (honest : Bool) (out_old out_now : List ℕ) (texts : List Value) (f : RunFault)
       → stored_items (x ∷ []) ≡ x ∷ [] → level ≤ max_reversed_levels → before.records < max_reversed_records

@@ -226,7 +226,7 @@ module _ (g : Grammar) (accepted : IsAccepted g) where
         let large = is.within.large in
         record { deep = omega (arith, same_depth version_two is.tree); large = omega (arith, same_count version_two is.tree) }
 
-    -- The intermediate file can be reversed, so that only D1 and NoMemory occur.
+    -- The intermediate file can be reversed, so only D1 and NoMemory are possible.
     pub turned_fault : (f : TurnFault) → Reverses (arity_of (stored_count g)) 0 mid honest turned (Err f)
         → IsUpgradeFault g content (run_fault_of_turn f)
     turned_fault turn_fault.NotATreeFile so = absurd (exact (Err turn_fault.NotATreeFile) so)

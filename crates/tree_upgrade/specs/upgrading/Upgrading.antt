@@ -1,6 +1,7 @@
 -- Converting a tree file of version 1 to version 2. All definitions are this project's. The letters: g is a grammar, x is an
 -- item, xs are items, s is a symbol, p the number of a production and q the production, c and d are classes, v is a value, r is a
--- record of version 1, and f is a fault.
+-- record of version 1, and f is a fault. `content` is the content of the old file's device. `honest` says whether a device is
+-- honest: in `IsUpgrading` and `HasTaken` the old file's, and elsewhere the one that is written.
 use Rattle.std.specs.Prelude.{ℕ, suc, ◌≡◌, ◌+◌, ◌-◌, ◌<◌, ◌≤◌, Bool, false, List, [], ◌∷◌, ◌++◌, length, reverse, slice_get}
 use Rattle.std.specs.Prelude.{Option, Some, None, Ok}
 use Rattle.std.specs.Option.{option_map}
@@ -44,9 +45,10 @@ old_file g =
       nodes = max_reversed_records;
     }
 
--- The old content is the file of version 1 and pass 0 of exactly one tree, which is within the limits and has `count` nodes. The
--- new content (`upgraded`), on an honest device, is the file of version 2 and pass 0 of the same tree. The intermediate content
--- (`between`) is a file with pass number 1 that has the tree's records of version 2, with children from right to left.
+-- The old content (`content`) is the file of version 1 and pass 0 of exactly one tree, which is within the limits and has `count`
+-- nodes. The new content (`upgraded`), if its device is `honest`, is the file of version 2 and pass 0 of the same tree. The
+-- intermediate content (`between`) is a file with pass number 1 that has the tree's records of version 2, with children from
+-- right to left.
 pub record IsUpgraded (g : Grammar) (content between : List ℕ) (honest : Bool) (upgraded : List ℕ) (count : ℕ) : Type 0 where
   pub tree : Tree
   pub fits : IsTreeOf g tree
@@ -81,7 +83,7 @@ abbrev pub body_in : OldRecord → List ℕ
 body_in (old.Node p) = body_of Node p []
 body_in (old.Token d v) = body_of Token d (v ∷ [])
 
--- The children of a right side. Their parent's record has no copies of their values.
+-- The children of a right side. In version 1 their parent's record has no copies of their values.
 abbrev pub upcoming : Grammar → List Item → List Child
 upcoming g xs = children_with_copies false g no_passes 0 (stored_items xs) []
 
@@ -103,8 +105,8 @@ abbrev pub IsUnconverted : Grammar → List ℕ → List Item → (level : ℕ) 
 IsUnconverted g content xs level progress f = (others : Pending) → IsAt g content progress (pending_items g level xs others)
     → IsUpgradeFault g content f
 
--- The conversion can continue: the reader is one of an old file with this content, and neither it nor the writer
--- (`out`) has failed. No more records were written than read, and no more were read than the limit.
+-- The conversion can continue: the reader (in `state`) is one of an old file with this content, and neither the reader nor the
+-- writer (`out`) has failed. No more records were written than read, and no more were read than the limit.
 pub record IsUpgrading (honest : Bool) (content : List ℕ) (state : BackState) (out : writing.Progress) : Type 0 where
   pub over : WhenHonest honest (IsOver content state)
   pub version : state.progress.version ≡ version_one
@@ -113,7 +115,8 @@ pub record IsUpgrading (honest : Bool) (content : List ℕ) (state : BackState) 
   pub few : state.progress.records ≤ max_reversed_records
   pub written : out.written ≤ state.progress.records
 
--- A reader in the state `before` has read the record r of an item x whose tree is at a level, and is then in the state `after`.
+-- A reader in the state `before` has read r, the record of the root of x's tree at the given level. It is then in the state
+-- `after`.
 pub record HasTaken (g : Grammar) (x : Item) (level : ℕ) (honest : Bool) (content : List ℕ) (before after : BackState)
     (r : OldRecord) : Type 0 where
   pub is : IsOf g x r
@@ -146,8 +149,8 @@ abbrev pub text_list : Option Value → List Value
 text_list None = []
 text_list (Some v) = v ∷ []
 
--- The content is the file of version 1 and pass 0 of a tree within the limits. The other content (`mid`), on an honest device, is
--- a file with pass number 1 that has the tree's records of version 2, with children from right to left.
+-- The old content (`content`) is the file of version 1 and pass 0 of a tree within the limits. The other content (`mid`), if its
+-- device is `honest`, is a file with pass number 1 that has the tree's records of version 2, with children from right to left.
 pub record IsConverted (g : Grammar) (content : List ℕ) (honest : Bool) (mid : List ℕ) : Type 0 where
   pub tree : Tree
   pub fits : IsTreeOf g tree

@@ -12,14 +12,14 @@ use Rattle.treefile.specs.records.TreeFile.{file, frame, header, version_two}
 use Rattle.treefile.specs.declared.device.DeviceFault.{DeviceFault}
 use Rattle.treefile.specs.declared.device.DeviceFault.TheVariants as device_fault
 
--- no body, and one
+-- no body, and one whose length is within the limits
 no_body : All (IsBody version_two) []
 no_body = All-nil (IsBody version_two)
 
 one_body : (body : List ℕ) → IsBody version_two body → All (IsBody version_two) (body ∷ [])
 one_body body sound = All-cons (IsBody version_two) body [] sound no_body
 
--- a prefix of the header, and frames after all of it
+-- a prefix of the header is a prefix of a file without bodies; so a begin that fails leaves the old content or a prefix of a file
 header_begins : (pass : ℕ) (content : List ℕ) → AppendsPrefix (header version_two pass) [] content → BeginsFile pass content
 header_begins pass content put =
     record {
@@ -66,7 +66,7 @@ module _ (E : Type 0) where
         ),
       )
 
-  -- a frame was appended, or not
+  -- a frame was appended; or, after a fault, a prefix of it or nothing
   pub one_added : (old now body : List ℕ) → IsBody version_two body → now ≡ old ++ frame body → AddsFrames {E = E} old now (Ok tt)
   one_added old now body sound is =
       (body ∷ [], one_body body sound, is ∙ ap (λ (xs : List ℕ). old ++ xs) (sym (append-nil (frame body))))

@@ -38,7 +38,7 @@ file_decided version content = (
 pub length-header : (version : Version) (pass : ℕ) → IsUsable version → length (header version pass) ≡ 6
 length-header version pass usable = omega (arith, usable.four, length-append version.magic (to_be_bytes w16 pass))
 
--- a content that begins with a header is a tree file
+-- a content that begins with a header begins as a tree file
 pub begins : (version : Version) (pass : ℕ) (rest : List ℕ) → IsUsable version
     → is_tree_file version (header version pass ++ rest) ≡ true
 begins version pass rest usable =
@@ -48,7 +48,7 @@ begins version pass rest usable =
     rw append_assoc (take_at version.magic (to_be_bytes w16 pass ++ rest) (length version.magic) refl) in
     (file_decided version (header version pass ++ rest)).1 (long, first)
 
--- a frame after a header and other bytes
+-- if a content begins with a header and ends with a frame, the last body is that of this frame
 last_after : (version : Version) (pass : ℕ) (middle body : List ℕ) → IsUsable version → least_body ≤ length body
     → length body ≤ greatest_body version → last_body_of version (header version pass ++ (middle ++ frame body)) ≡ Ok body
 unfolding last_body_of

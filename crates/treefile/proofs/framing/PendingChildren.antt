@@ -54,12 +54,13 @@ all_pending RightToLeft level xs todo =
     let none : length xs - length xs ≡ 0 = omega arith in
     (take_all (length xs - 0) xs (omega arith), ap (λ n. before_others RightToLeft level (take n xs) todo) none)
 
--- the values in no children
+-- the values of the children of a node without children: any will do
 no_values : ℕ → Valuation
 no_values i path a = value.Num (pos 0)
 
 module _ (version : Version) (g : Grammar) (m : Passes) (k most : ℕ) where
-  -- trees of the items of a right side, with their values, before those of others
+  -- The bodies begin with the records of trees of the children `xs` of one node, and after these come the records of trees of the
+  -- children `todo`.
   record Gathered (d : Direction) (level : ℕ) (xs : List Child) (todo : Pending) (bodies : List (List ℕ)) : Type 0 where
     trees : Forest
     values : ℕ → Valuation
@@ -76,7 +77,7 @@ module _ (version : Version) (g : Grammar) (m : Passes) (k most : ℕ) where
   before_all v vs zero = v
   before_all v vs (suc i) = vs i
 
-  -- the trees of a right side and then of others
+  -- if the bodies are the records of trees of `xs` and then of `todo`, child by child, they are so with one forest for `xs`
   gather : (d : Direction) (level : ℕ) (xs : List Child) (todo : Pending) (bodies : List (List ℕ)) → level ≤ suc most
       → AreThere version g m k d most (before_others d level xs todo) bodies → Gathered d level xs todo bodies
   gather d level [] todo bodies low are =
@@ -131,7 +132,8 @@ module _ (version : Version) (g : Grammar) (m : Passes) (k most : ℕ) where
         there = one.6;
       }
 
-  -- the trees after a record are there with the record's
+  -- if a body is a record of a child, and the bodies after it are the records of trees of its children and of the others, then
+  -- all these bodies are the records of a tree of the child and of trees of the others
   by_record : (d : Direction) (level : ℕ) (x : Child) (todo : Pending) (body : List ℕ) (bodies : List (List ℕ)) (ys : List Child)
       → level ≤ most → IsRecordOf version g m k x body ys
       → AreThere version g m k d most (before_others d (suc level) ys todo) bodies

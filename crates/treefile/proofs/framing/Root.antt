@@ -1,4 +1,4 @@
--- The last record of a file is the root's, and has all its values.
+-- The last record of a file is the root's, and a record of the last pass has the values of all attributes.
 use Rattle.std.proofs.Common.{◌≡◌, ℕ, zero, suc, true, cond, List, [], ◌∷◌, ◌++◌, All, slice_get, refl, ap, ◌∙◌}
 use Rattle.std.specs.Prelude.{nat_le}
 use Rattle.std.proofs.lemmas.Bool.{le-leb}

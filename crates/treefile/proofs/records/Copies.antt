@@ -1,4 +1,4 @@
--- The copies in a record: their values, their number, and that children which match their copies have them.
+-- The copies in a record: their number, that they are well, and that they are the values of the children that match them.
 use Rattle.std.proofs.Common.{◌≡◌, ℕ, zero, suc, ◌≤◌, Bool, true, false, List, [], ◌∷◌, ◌++◌, length, take, drop, Option, Some}
 use Rattle.std.proofs.Common.{None, slice_get, All, refl, ap, sym, subst, ◌∙◌, arith, length-append, length-drop}
 use Rattle.std.proofs.Common.{take-append-drop}
@@ -28,7 +28,7 @@ get_take (suc n) [] a p is = absurd (let bad : ⊥ = cc in bad)
 get_take (suc n) (q ∷ ps) zero p is = is
 get_take (suc n) (q ∷ ps) (suc a) p is = get_take n ps a p is
 
--- a synthesized attribute of a production's left side is one of its attributes
+-- a synthesized attribute of a production's left side is one of the attributes of that side
 pub synthesized_is : (g : Grammar) (m : Passes) (o : Option Production) (a p : ℕ) → slice_get (left_synthesized g m o) a ≡ Some p
     → slice_get (left_passes m o) a ≡ Some p
 synthesized_is g m None a p is = is

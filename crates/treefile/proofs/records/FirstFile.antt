@@ -21,7 +21,7 @@ use Rattle.ag_value.proofs.operations.Wells.{well_text}
 use Rattle.treefile.specs.records.FirstFile.{AreFromOne, IsFirstFile, first_bodies, first_bodies_all, first_file, leaf_texts}
 use Rattle.treefile.specs.records.FirstFile.{no_passes}
 use Rattle.treefile.specs.records.Orders as orders
-use Rattle.treefile.specs.records.Orders.{BodyForest, branch, postfix}
+use Rattle.treefile.specs.records.Orders.{branch, postfix}
 use Rattle.treefile.specs.records.Records.{IsFileOfTree, bodies_of, bodies_of_all, copies_of, left_synthesized, node_body}
 use Rattle.treefile.specs.records.Records.{values_up_to, with_copies}
 use Rattle.treefile.specs.records.TreeFile.{Version, body_of, file}
@@ -106,7 +106,7 @@ module _ (version : Version) (g : Grammar) (m : Passes) (from_one : AreFromOne m
     well_all [] (more t ts) vs fits texts = absurd fits
     well_all (x ∷ xs) (more t ts) vs fits texts = (well x t (vs 0) fits.0 texts.0, well_all xs ts (rest vs) fits.1 texts.1)
 
--- a content with the records of a tree is its only file of pass 0
+-- `first_file` of a tree is the tree's file of pass 0, and no other content is
 pub is_first_file : (version : Version) (g : Grammar) (t : Tree) (content : List ℕ) → IsTreeOf g t
     → content ≡ first_file version t → IsFirstFile version g t content
 is_first_file version g t content fits is m v from_one texts = record {
@@ -123,7 +123,7 @@ first_file_is version g t content is =
     it.occurs ∙ ap (λ b. file version 0 (postfix (direction_of 0) b))
     (bodies_are version g no_passes unassigned_from_one t texts.0)
 
--- a file of pass 0 is one for all passes from 1 on and all values
+-- a file of pass 0 for one assignment with passes from 1 on, and for some values, is the file for all such assignments and values
 pub first_file_of : (version : Version) (g : Grammar) (m : Passes) (t : Tree) (v : Valuation) (content : List ℕ) → AreFromOne m
     → IsTreeOf g t → IsFileOfTree version g m 0 t v content → IsFirstFile version g t content
 first_file_of version g m t v content from_one tree is =

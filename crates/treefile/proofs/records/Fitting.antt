@@ -1,4 +1,4 @@
--- An accepted grammar under a legal assignment has few enough productions and values.
+-- An accepted grammar has few enough productions, and under a legal assignment its records have few enough values.
 use Rattle.std.proofs.Common.{◌≡◌, ℕ, ◌+◌, ◌*◌, ◌≤◌, List, [], ◌∷◌, length, map, Option, Some, None, slice_get, refl, arith}
 use Rattle.std.proofs.Common.{length-append, length-take}
 use Rattle.std.proofs.lemmas.List.{length-map}
@@ -35,7 +35,7 @@ pub few_passes : (g : Grammar) (m : Passes) (s : ℕ) → IsAccepted g → IsLeg
 few_passes g m s accepted legal = let few = few_kinds g s accepted (slice_get g.symbols s) refl in let same = legal.whole s in
     omega arith
 
--- so a copy has at most 16 values,
+-- so the copy of one child has at most 16 values
 few_copied : (g : Grammar) (m : Passes) (x : Item) → IsAccepted g → IsLegal g m → max_copied g m x ≤ 16
 few_copied g m (item.Symbol s) accepted legal =
     omega (arith, length-take (synthesized_count (slice_get g.symbols s)) (m s), few_passes g m s accepted legal)
@@ -46,10 +46,11 @@ few_copies : (g : Grammar) (m : Passes) (xs : List Item) → IsAccepted g → Is
 few_copies g m [] accepted legal = omega arith
 few_copies g m (x ∷ xs) accepted legal = omega (arith, few_copied g m x accepted legal, few_copies g m xs accepted legal)
 
--- and a record no more than either version allows
+-- a record can number the productions of an accepted grammar
 pub numbered : (g : Grammar) → IsAccepted g → IsNumbered g
 numbered g accepted = let few = accepted.limits.production_count in omega arith
 
+-- and a record has no more values than either version allows
 pub fits_version_one : FitsAccepted version_one
 fits_version_one g m accepted legal =
     (numbered g accepted, record { tokens = omega arith; nodes = λ p q is. few_passes g m q.left accepted legal })

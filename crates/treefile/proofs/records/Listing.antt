@@ -26,13 +26,13 @@ use Rattle.treefile.specs.declared.body.Kind.TheVariants.{Node}
 use Rattle.treefile.proofs.records.Spelled.{spelled_apart}
 use Rattle.treefile.proofs.records.Values.{count_of_values, values_well}
 
--- a list of one value more
+-- a list of n + 1 values is its first value and n others
 placed_more : (k : ℕ) (ps : List ℕ) (vs : List Value) (n : ℕ) → length vs ≡ suc n
     → (length (others_of_values vs) ≡ n) × (first_of_values vs ∷ others_of_values vs ≡ vs)
 placed_more k ps [] n e = absurd (omega arith)
 placed_more k ps (v ∷ vs) n e = (omega arith, refl)
 
--- the values up to a pass, of listed values
+-- if a list has as many values as there are attributes up to pass k, the values up to pass k of its listed values are the list
 values_of_placed : (k : ℕ) (ps : List ℕ) (vs : List Value) → length vs ≡ count_up_to k ps
     → values_up_to k ps (listed_value k ps vs) ≡ vs
 values_of_placed k [] [] e = refl
@@ -46,7 +46,7 @@ values_of_placed k (p ∷ ps) vs e = by_test (nat_le p k) e (λ ws. values_of_pl
         ap (λ (ws : List Value). first_of_values vs ∷ ws) (later (others_of_values vs) more.0) ∙ more.1
     by_test false e later = later vs (omega arith)
 
--- the parts of well values are well
+-- of a list of well values the first is well, and so are the others
 others_well : (vs : List Value) → All IsWell vs → All IsWell (others_of_values vs)
 others_well [] all = all
 others_well (v ∷ vs) all = All-tail IsWell v vs all
@@ -197,7 +197,7 @@ listed_record version g m k s body ys = (
       (is_record version g m k s body is.0 is.1 is.2 is.3),
 )
 
--- after values that were read from the spellings of others, the spellings of the rest follow
+-- if the spellings of ws begin with those of vs, the bytes after them are the spellings of the other values of ws
 read_on : (vs ws : List Value) (rest : List ℕ) → All IsWell vs → All IsWell ws → length vs ≤ length ws
     → flat_map spelling_of vs ++ rest ≡ flat_map spelling_of ws
     → (more : List Value) × (length ws ≡ length vs + length more) × All IsWell more × (rest ≡ flat_map spelling_of more)

@@ -38,7 +38,7 @@ same_leaf : (k : ℕ) (e f : ℕ → Value) → e 0 ≡ f 0 → SameAt (λ p. p 
 same_leaf k e f same zero p is le = same
 same_leaf k e f same (suc a) p is le = cc
 
--- the text of a leaf is well where its value is
+-- the text of a leaf is well if the leaf's value is
 well_text : (g : Grammar) (m : Passes) (k c : ℕ) (x : List ℕ) (v : Valuation) → Solves NoRule g (leaf c x) v
     → IsWellOn (λ p. p ≤ k) g m (leaf c x) v → IsWell (Text x)
 well_text g m k c x v texts well = subst IsWell texts (well 0 0 refl (omega arith))

@@ -1,5 +1,5 @@
--- The records of a tree's file: there is one for each node, and each has as many well values as a body may
--- have, so that the file is read back.
+-- The records of a tree's file: there is one for each node, and the length of each body is within the limits, so that the file is
+-- read back.
 use Rattle.std.proofs.Common.{◌≡◌, ℕ, suc, ◌≤◌, Bool, true, false, List, [], ◌∷◌, length, reverse, Some, slice_get, All, refl, ap}
 use Rattle.std.proofs.Common.{sym, subst, arith}
 use Rattle.std.proofs.lemmas.List.{length-append}

@@ -11,7 +11,7 @@ use Rattle.treefile.specs.declared.body.Kind.{Kind}
 use Rattle.treefile.specs.records.TreeFile.{Version, body_of}
 use Rattle.treefile.specs.framing.Ending.{greatest_body}
 
--- the length of the spelling of a well value is its weight
+-- the spelling of a well value has at most 1,048,576 bytes
 spelling_size : (value : Value) → IsWell value → length (spelling_of value) ≤ 1048576
 spelling_size value well = omega (arith, length-spelling value, well.light)
 
@@ -23,7 +23,7 @@ spellings_size (value ∷ values) all =
     spellings_size values (All-drop IsWell 1 (value ∷ values) all) in
     omega (arith, length-append (spelling_of value) (flat_map spelling_of values))
 
--- a kind, a number, and at most as many well values as the version allows
+-- so the body with at most as many well values as the version allows has no more bytes than the greatest body
 pub body_size : (version : Version) (kind : Kind) (number : ℕ) (values : List Value) → length values ≤ version.max_values
     → All IsWell values → length (body_of kind number values) ≤ greatest_body version
 body_size version kind number values few all = omega (arith, spellings_size values all)

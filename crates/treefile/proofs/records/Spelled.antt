@@ -25,7 +25,7 @@ use Rattle.treefile.specs.Laws.{OneNode}
 use Rattle.treefile.specs.records.Records.{node_body, token_body, values_up_to, with_copies}
 use Rattle.treefile.specs.records.TreeFile.{Version}
 
--- a value and the bytes after it
+-- the spelling of a well value followed by bytes determines the value and these bytes
 pub spelled_apart : (v w : Value) (xs ys : List ℕ) → IsWell v → IsWell w → spelling_of v ++ xs ≡ spelling_of w ++ ys
     → (v ≡ w) × (xs ≡ ys)
 spelled_apart v w xs ys a b e =
@@ -42,7 +42,7 @@ same_first k p ps e f h r zero q is le =
     h (subst (λ n. n ≤ k) (sym same) le)
 same_first k p ps e f h r (suc a) q is le = r a q is le
 
--- the values of two records, and the bytes after them
+-- so do the spellings of a record's values followed by bytes
 spelled_values : (k : ℕ) (ps : List ℕ) (e f : ℕ → Value) (xs ys : List ℕ) → WellAt (λ n. n ≤ k) ps e e
     → WellAt (λ n. n ≤ k) ps f f → flat_map spelling_of (values_up_to k ps e) ++ xs ≡ flat_map spelling_of (values_up_to k ps f)
     ++ ys → SameAt (λ n. n ≤ k) ps e f × (xs ≡ ys)
@@ -77,7 +77,7 @@ spelled_values k (p ∷ ps) e f xs ys a b same =
         let rest = later same in
         (same_first k p ps e f (λ le. absurd (let bad : true ≡ false = sym (le-leb p k le) ∙ is in cc)) rest.0, rest.1)
 
--- a number in two bytes, and the bytes after it
+-- so does a number in two bytes followed by bytes
 numbered_apart : (p r : ℕ) (xs ys : List ℕ) → p < 2 ^ 16 → r < 2 ^ 16 → to_be_bytes w16 p ++ xs ≡ to_be_bytes w16 r ++ ys
     → (p ≡ r) × (xs ≡ ys)
 numbered_apart p r xs ys a b e = (
@@ -101,7 +101,7 @@ same_lists (v ∷ vs) (w ∷ ws) a b n e =
     ∙ ap (λ (zs : List Value). w ∷ zs)
     (same_lists vs ws (All-tail IsWell v vs a) (All-tail IsWell w ws b) (omega arith) apart.1)
 
--- the values of two records, and the copies after them
+-- the spellings of a record's values and copies determine the values, and the spellings of the copies if the version has copies
 stored_apart : (has : Bool) (k : ℕ) (ps : List ℕ) (e f : ℕ → Value) (cs ds : List Value) → WellAt (λ n. n ≤ k) ps e e
     → WellAt (λ n. n ≤ k) ps f f → flat_map spelling_of (with_copies has (values_up_to k ps e) cs) ≡ flat_map spelling_of
     (with_copies has (values_up_to k ps f) ds)
@@ -120,7 +120,7 @@ abbrev spelled : Version → Grammar → Passes → ℕ → ℕ → (ℕ → Val
 spelled version g m k p e cs =
     flat_map spelling_of (with_copies version.has_copies (values_up_to k (left_passes m (slice_get g.productions p)) e) cs)
 
--- the production's number, the values and the copies of a node
+-- the body of a node determines the production's number, the values, and the spellings of the copies if the version has copies
 pub one_node : (version : Version) (g : Grammar) (m : Passes) (k p r : ℕ) (e f : ℕ → Value) (cs ds : List Value) → p < 2 ^ 16
     → r < 2 ^ 16 → WellAt (λ n. n ≤ k) (left_passes m (slice_get g.productions p)) e e
     → WellAt (λ n. n ≤ k) (left_passes m (slice_get g.productions r)) f f
@@ -139,7 +139,7 @@ one_node version g m k p r e f cs ds a b well_e well_f same =
     let stored = stored_apart version.has_copies k ps e f cs ds well_e well one in
     (apart.0, stored.0, stored.1)
 
--- equal spellings have equal copies
+-- copies with equal spellings are equal
 same_copies : (has : Bool) (g : Grammar) (m : Passes) (k : ℕ) (xs : List Item) (cs ds : List Value) → AreCopies has g m k xs cs
     → AreCopies has g m k xs ds → (has ≡ true → flat_map spelling_of cs ≡ flat_map spelling_of ds) → cs ≡ ds
 same_copies false g m k xs cs ds a b same = a ∙ sym b
@@ -167,7 +167,7 @@ same_node version g m k s z p r body q w e f few a b =
       same_copies version.has_copies g m k (stored_items q.items) a.copies b.copies a.are_copies copies one.2,
     )
 
--- the text of a token
+-- the body of a token of a class determines its text
 pub one_token : (c : ℕ) (x y : List ℕ) → IsWell (Text x) → IsWell (Text y) → token_body c x ≡ token_body c y → Text x ≡ Text y
 one_token c x y a b same =
     let tails : spelling_of (Text x) ++ [] ≡ spelling_of (Text y) ++ [] =

@@ -1,4 +1,4 @@
--- The laws of a device's calls on its content and its failures. All of this is this project's.
+-- The effects of a device's calls on its content and its failures. All of this is this project's.
 use Rattle.std.specs.Prelude.{◌≡◌, ◌≢◌, ℕ, ◌^◌, ◌-◌, ◌<◌, ◌≤◌, ◌⊎◌, Bool, true, List, [], ◌∷◌, ◌++◌, take, Result, Ok, Err, refl}
 use Rattle.std.proofs.Common.{inl, inr, lit<}
 use Rattle.treefile.specs.declared.device.DeviceFault.{DeviceFault}

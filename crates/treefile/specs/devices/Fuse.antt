@@ -15,7 +15,7 @@ abbrev pub failures_of : {D : Type 0} → (D → ℕ) → Fuse D → ℕ
 failures_of failures fuse = min (failures fuse.inner + fuse.failed) max_failures
 
 -- the effects of a call on a device with a fuse besides its content; `honest` and `failures` give the honesty and the number of
--- failures of the device that gets the calls
+-- failures of the device that gets the calls, and `failed` states that the call failed with D1
 abbrev pub FusePersists : {D : Type 0} → (D → Bool) → (D → ℕ) → Fuse D → Fuse D → Type 0 → Type 0
 FusePersists honest failures old new failed =
     Persists (honest old.inner) (honest new.inner) (failures_of failures old) (failures_of failures new) failed

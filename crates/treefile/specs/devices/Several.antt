@@ -1,5 +1,4 @@
--- The effects of a call on the devices that it uses together, besides their contents. All of this is this
--- project's.
+-- The effects of a call on two or three devices that it uses, besides their contents. All of this is this project's.
 use Rattle.std.specs.Prelude.{ℕ, ◌⊎◌, Bool, true}
 use Rattle.std.proofs.Common.{inl, inr, lit<, lit≤}
 use Rattle.treefile.specs.devices.Device.{HasRisen, Persists}
@@ -9,8 +8,8 @@ use Rattle.treefile.specs.devices.Device.{HasRisen, Persists}
 abbrev pub Lasts : {D : Type 0} → (D → Bool) → (D → ℕ) → D → D → Type 0
 Lasts honest failures old new = Persists (honest old) (honest new) (failures old) (failures new) ⊥
 
--- A call has these effects (`Lasts`) on both devices. If it returns that a device failed, which `failed` states, the failures of
--- one of the two have risen.
+-- A call has these effects (`Lasts`) on two devices: one is `old` before the call and `new` after it, the other `other_old` and
+-- `other_new`. If the call returns that a device failed, which `failed` states, the failures of one of the two have risen.
 pub record BothPersist {D E : Type 0} (honest : D → Bool) (failures : D → ℕ) (old new : D) (other_honest : E → Bool)
     (other_failures : E → ℕ) (other_old other_new : E) (failed : Type 0) : Type 0 where
   pub first : Lasts honest failures old new

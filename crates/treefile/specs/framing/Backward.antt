@@ -29,13 +29,13 @@ some_body (Err fault) = Err fault
 unfoldable pub next_before : Version → List ℕ → ℕ → Result (Option (List ℕ)) FrameFault
 next_before version content at = if nat_eq at header_bytes then Ok None else some_body (body_before version content at)
 
--- From an offset back to the header a content has these bodies, the one that ends at the offset first.
+-- From an offset back to the header a content has these bodies, first the one whose frame ends at the offset.
 abbrev pub ReadsBack : Version → List ℕ → ℕ → List (List ℕ) → Type 0
 ReadsBack version content at [] = next_before version content at ≡ Ok None
 ReadsBack version content at (body ∷ bodies) =
     (next_before version content at ≡ Ok (Some body)) × ReadsBack version content (before_frame at body) bodies
 
--- From one offset back to another a content has these bodies, the one that ends at the first offset first.
+-- From the offset `at` back to the offset `start` a content has these bodies, first the one whose frame ends at `at`.
 abbrev pub ReadsTo : Version → List ℕ → ℕ → List (List ℕ) → ℕ → Type 0
 ReadsTo version content at [] start = at ≡ start
 ReadsTo version content at (body ∷ bodies) start =

@@ -76,7 +76,8 @@ body_before version content at =
     else if fits_before version at len then Ok (slice_range content from (from + len))
     else Err (Damaged at)
 
--- the body of the frame that ends at the end of the content, or B1 if it doesn't begin as a tree file
+-- the body of the frame that ends at the end of the content, or B2 with the offset of that end if no frame ends there; B1 if the
+-- content doesn't begin as a tree file
 unfoldable pub last_body_of : Version → List ℕ → Result (List ℕ) FrameFault
 last_body_of version content =
     if is_tree_file version content then body_before version content (length content) else Err NotATreeFile

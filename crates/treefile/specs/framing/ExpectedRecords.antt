@@ -108,8 +108,8 @@ abbrev pub pending_root : Grammar → Pending
 pending_root g = (1, (item.Symbol g.start, None)) ∷ []
 
 -- A content was read from its end to the offset `at`, and `count` bodies were read. Whenever the content is the file of pass k
--- of a tree that is within some limits `depth` and `nodes`, the bodies before the offset are the expected ones, no level is
--- greater than `depth`, and `count` and the number of these bodies are together at most `nodes`.
+-- of a tree that is within some limits `depth` and `nodes`, the bodies before the offset are those that `todo` expects, no level
+-- is greater than `depth`, and `count` and the number of these bodies are together at most `nodes`.
 abbrev pub ReadSoFar : Version → Grammar → Passes → ℕ → List ℕ → (at count : ℕ) → Pending → Type 0
 ReadSoFar version g m k content at count todo =
     (depth nodes : ℕ) (t : Tree) (v : Valuation) → IsTreeOf g t → IsWithinLimits depth nodes t

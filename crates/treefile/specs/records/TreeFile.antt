@@ -66,6 +66,7 @@ body_of kind number values = body_from kind number (flat_map spelling_of values)
 abbrev pub file_of_fourteen : List ℕ
 file_of_fourteen = 65 ∷ 71 ∷ 84 ∷ 49 ∷ 0 ∷ 0 ∷ 1 ∷ 0 ∷ 0 ∷ 0 ∷ 0 ∷ 0 ∷ 0 ∷ 0 ∷ 0 ∷ 0 ∷ 0 ∷ 14 ∷ 0 ∷ 0 ∷ 0 ∷ 12 ∷ []
 
+-- the spelling of the number 14: the tag 0, and the number in eight bytes
 fourteen : spelling_of (value.Num (pos 14)) ≡ 0 ∷ 0 ∷ 0 ∷ 0 ∷ 0 ∷ 0 ∷ 0 ∷ 0 ∷ 14 ∷ []
 fourteen = ap spelling_of (sym (rolls-Num (pos 14))) ∙ fold-roll-Value (List ℕ) spelling_step (Value-F.Num (pos 14))
 

@@ -4,7 +4,7 @@ use Rattle.std.specs.Fmt.{HasWritten, IsPlainFormatter}
 use Rattle.ag_fault.specs.Printed.{attribute_text}
 use Rattle.ag_fault.proofs.display.write_attributes.Given as goal
 
--- the attributes so far are written
+-- if the formatter has no options, it has written exactly the attributes before the index
 abbrev pub invariant-loop-attribute : goal.invariant-loop-attribute
 invariant-loop-attribute g l =
     IsPlainFormatter l.fn.f → HasWritten g.W.Write.write_str_gives l.fn.f

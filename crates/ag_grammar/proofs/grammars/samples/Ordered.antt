@@ -1,7 +1,7 @@
 -- Sample grammars that are in order, and some that are not.
 use Rattle.std.proofs.Common.{zero, suc, ◌≡◌, [], ◌∷◌, refl, arith}
 use Rattle.ag_grammar.specs.grammars.Order.{IsInOrder, IsInOrderOfAppearance}
-use Rattle.ag_grammar.specs.grammars.Sample.{both_ways, back_first, token_sample, descending}
+use Rattle.ag_grammar.specs.grammars.Sample.{both_ways, back_first, token_sample}
 
 one_number : IsInOrderOfAppearance (0 ∷ [])
 one_number zero n m e lt = let z : 0 ≡ n = cc in absurd (omega arith)
@@ -21,6 +21,3 @@ exchanged o = let h = o.literals 0 1 0 refl (omega arith) in let e = h.1 in absu
 
 pub one_class : IsInOrder token_sample
 one_class = record { classes = λ k lt. absurd (omega arith); literals = one_number }
-
-pub descends : IsInOrder descending → ⊥
-descends o = let e = o.classes 0 (omega arith) in absurd (omega arith)

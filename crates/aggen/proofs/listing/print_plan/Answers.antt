@@ -5,7 +5,7 @@ use Rattle.agoutput.specs.Listings.{AppendsPlanBeginning}
 use Rattle.aggen.proofs.Building.{of_plan, write_exact}
 use Rattle.aggen.proofs.listing.print_plan.Goals as goal
 
--- a listing of the translator's grammar is one of the text
+-- O2: the prefix of the listing that was written is one of the text's listing, since the translator has the text's grammar
 pub returns-in_err-write_plan-clause-write : goal.returns-in_err-write_plan-clause-write
 returns-in_err-write_plan-clause-write g c = λ is.
     let p = err_from_is_err_and c.from_residual-in_err-write_plan.result c.from_residual-in_err-write_plan.ensures.1 in

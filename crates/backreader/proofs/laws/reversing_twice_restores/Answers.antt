@@ -14,7 +14,8 @@ use Rattle.backreader.proofs.turnings.Mirror.{mirror, other-other, postfix-mirro
 use Rattle.backreader.proofs.turnings.Whole.{tree_back}
 use Rattle.backreader.proofs.laws.reversing_twice_restores.Goals as goal
 
--- one list is that of two trees, seen in two directions: of one tree, or of one and its mirror image
+-- If t and u have one postfix list, each in some direction, then their lists in the two other directions are equal too: if the
+-- two directions are equal, t and u are one tree, and else u is the mirror image of t.
 twice : (arity : List ℕ → Option ℕ) (d e : Direction) (t u : BodyTree) → MatchesArity arity t → MatchesArity arity u
     → postfix (other d) t ≡ postfix e u → postfix (other e) u ≡ postfix d t
 twice arity LeftToRight RightToLeft t u r s same =
@@ -36,7 +37,7 @@ pub returns-clause-bodies : goal.returns-clause-bodies
 returns-clause-bodies c arity d e bodies turned again first second =
     second.to ∙ twice arity d e first.tree second.tree first.arities second.arities (sym first.to ∙ second.from) ∙ sym first.from
 
--- a property of each body of a list holds in the list of another direction
+-- if each body of a tree's list in one direction has a property, so has each body of its list in another direction
 module _ (P : List ℕ → Type 0) where
   both_all : (xs ys : List (List ℕ)) → All P (xs ++ ys) → All P xs × All P ys
   both_all [] ys all = (All-nil P, all)

@@ -1,4 +1,4 @@
-use Rattle.std.proofs.Common.{◌<◌, length, sym, arith}
+use Rattle.std.proofs.Common.{sym, arith}
 use Rattle.ag_scan.specs.TokenReader.{token_of}
 use Rattle.llparse.proofs.answers.Nexts.{is_left}
 use Rattle.cases.proofs.sentences.shown.Goals as goal

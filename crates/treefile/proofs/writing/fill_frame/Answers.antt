@@ -4,7 +4,7 @@ use Rattle.treefile.specs.framing.Ending.{IsBody}
 use Rattle.treefile.specs.records.TreeFile.{version_two}
 use Rattle.treefile.proofs.writing.fill_frame.Goals as goal
 
--- the record of a few well values is a body
+-- the body of a record of few well values has a length within the limits
 pub close_frame-requires : goal.close_frame-requires
 close_frame-requires c =
     subst (IsBody version_two) (sym c.in_ok-fill_body.ensures)

@@ -10,7 +10,8 @@ use Rattle.ag_expr.specs.declared.parser.Precedence.{Precedence}
 use Rattle.ag_expr.specs.declared.parser.Precedence.TheVariants as precedence
 use Rattle.ag_expr.proofs.reader.Reader.+parsing.Given as goal
 
--- a bound on the number of nested calls between a precedence and an atom
+-- A bound on the depth of calls within one level, from `operand_after` of a precedence down to a call for an inner expression. It
+-- is a part of the numbers below, which show that the recursion ends.
 abbrev above : Precedence → ℕ
 above precedence.Comparison = 21
 above precedence.Join = 16

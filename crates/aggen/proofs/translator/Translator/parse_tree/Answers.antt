@@ -1,4 +1,4 @@
-use Rattle.std.proofs.Common.{Err, ap, inr, refl, sym, ◌∙◌}
+use Rattle.std.proofs.Common.{Err, ap, inr, refl, sym}
 use Rattle.std.proofs.lemmas.Result.{err_from_is_err_and}
 use Rattle.treefile.proofs.framing.Beginning.{not_begun}
 use Rattle.aggen.specs.Sentences.{IsTreeOfSentence}
@@ -22,7 +22,7 @@ returns-in_err-count-clause-one g c =
 pub returns-clause-one : goal.returns-clause-one
 returns-clause-one g c = rw (sym c.self.view_is) (one_of _ c.self.invariant.0 _ c.self.invariant.1 c.args.sentence.now)
 
--- the tree of the sentence is one of its tokens
+-- a tree of the sentence is a tree of its tokens, of which `parse` states the same
 pub returns-clause-limits : goal.returns-clause-limits
 returns-clause-limits g c = λ t is.
     let i : IsTreeOfSentence c.self.inside.grammar c.args.sentence.now t = rw c.self.view_is is in

@@ -4,7 +4,7 @@ use Rattle.backreader.specs.BackState.{EndsAt}
 use Rattle.backreader.specs.Windows.{unread}
 use Rattle.backreader.proofs.window.Window.next.Goals as goal
 
--- after NoMemory the bytes that were read are dropped
+-- after NoMemory the bytes that `length_before` read are dropped: the unread bytes are those before the call
 pub returns-then-is_err-clause-occur : goal.returns-then-is_err-clause-occur
 returns-then-is_err-clause-occur g c honest =
     let content = g.D.Device.content c.args.device.now in

@@ -5,7 +5,7 @@ use Rattle.llparse.proofs.steps.Prefixes.{on_top}
 use Rattle.llparse.proofs.steps.Stacks.{fewer_opened, fewer_passed}
 use Rattle.llparse.proofs.sentence.expected.can_accept.Goals as goal
 
--- a node that is entered counts against the limit
+-- opening a node makes the bound of the number of remaining steps smaller, since the node counts against the limit of nodes
 pub loop-terminal-smaller-in-Some-Symbol : goal.loop-terminal-smaller-in-Some-Symbol
 loop-terminal-smaller-in-Some-Symbol c =
     let g = c.args.language.now.grammar.now in

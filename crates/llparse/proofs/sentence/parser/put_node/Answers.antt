@@ -10,7 +10,7 @@ use Rattle.llparse.specs.sentence.Refusals.{parse_fault_of}
 use Rattle.llparse.specs.declared.sentence.parse_fault.ParseFault.{ParseFault}
 use Rattle.llparse.proofs.sentence.parser.put_node.Goals as goal
 
--- without texts
+-- the bytes that are appended, after success and after a failure, if the node has no texts
 pub returns-in_err-put-clause-adds : goal.returns-in_err-put-clause-adds
 returns-in_err-put-clause-adds g c h =
     let put = c.in_err-put.ensures in
@@ -26,7 +26,7 @@ returns-then-is_empty-clause-adds g c h =
     (body_of Node c.args.production [])
     (is_body version_two Node c.args.production [] (omega arith) (All-nil IsWell)) (c.in_ok-put.ensures.frame h)
 
--- with texts
+-- the same if the node has texts
 pub returns-in_err-put-2-clause-adds : goal.returns-in_err-put-2-clause-adds
 returns-in_err-put-2-clause-adds g c h =
     let put = c.in_err-put-2.ensures in

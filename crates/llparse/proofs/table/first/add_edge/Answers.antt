@@ -1,4 +1,4 @@
--- The edge and the old edges are in the list.
+-- The list has the old edges and the new one.
 use Rattle.llparse.proofs.look_ahead.Edges.{adds_edge}
 use Rattle.llparse.proofs.table.first.add_edge.Goals as goal
 

@@ -1,4 +1,4 @@
--- `new` returns a value without bytes; its ghost list is that of an empty file.
+-- `new` returns a value without bytes. Its ghost list has one entry, an initial content: here the empty one.
 use mathlib.Core.Path.{refl}
 use mathlib.Core.List.{[], ◌∷◌}
 use seplogic.Ra.Ura.{Ura}

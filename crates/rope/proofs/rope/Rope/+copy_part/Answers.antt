@@ -4,7 +4,7 @@ use Rattle.std.proofs.lemmas.List.{length-take-le, length-drop}
 use Rattle.rope.proofs.PartCopies.{IsCopying, all_right, left_copied, right_copied}
 use Rattle.rope.proofs.rope.Rope.+copy_part.Goals as goal
 
--- the part that is to be copied into
+-- the part of `out` that a recursive call fills has k bytes
 room : (at k : ℕ) (out : List ℕ) → at + k ≤ length out → length (take k (drop at out)) ≡ k
 room at k out within = length-take-le k (drop at out) (omega (arith, length-drop at out))
 

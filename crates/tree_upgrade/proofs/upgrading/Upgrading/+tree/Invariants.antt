@@ -8,8 +8,8 @@ use Rattle.tree_upgrade.proofs.upgrading.Upgrading.+tree.Given as goal
 abbrev pub decreases-tree : goal.decreases-tree
 decreases-tree g l = 257 - l.subtree.level
 
--- The trees of the last items were converted since the record of their parent was read, and the number of
--- records written is the number of records read.
+-- Since the record of their parent was read, the trees of the last items were converted, and as many records were written as
+-- were read after it.
 abbrev pub invariant-loop-at : goal.invariant-loop-at
 invariant-loop-at g l =
     record {
