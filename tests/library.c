@@ -373,14 +373,14 @@ static void *translate_often(void *argument) {
     for (int i = 0; i < 200; i++) {
         size_t needed = 0;
         aggen_refusal found = {0};
-        char told[64];
+        char message[64];
         if (i % 50 == 0) {
-            REQUIRE(aggen_build(work->grammar.start, work->grammar.length, &work->handle, told, 64, &found) == AGGEN_OK);
+            REQUIRE(aggen_build(work->grammar.start, work->grammar.length, &work->handle, message, 64, &found) == AGGEN_OK);
         }
         REQUIRE(aggen_translate(&work->handle, work->sentence.start, work->sentence.length, out, work->text.length, &needed,
-                                told, 64, &found) == AGGEN_OK);
+                                message, 64, &found) == AGGEN_OK);
         REQUIRE(needed == work->text.length && memcmp(out, work->text.start, needed) == 0);
-        REQUIRE(aggen_translate(&work->handle, "\377", 1, out, work->text.length, &needed, told, 64, &found) == AGGEN_SENTENCE);
+        REQUIRE(aggen_translate(&work->handle, "\377", 1, out, work->text.length, &needed, message, 64, &found) == AGGEN_SENTENCE);
     }
     free(out);
     return NULL;
