@@ -183,8 +183,8 @@ impl Back {
     }
 
     /// Returns whether the device lent the last body of the file when the reader was started. If
-    /// not, `lend_back` need not be called: a `SharedDevice` that has shared values would have lent
-    /// that body.
+    /// not, `lend_back` need not be called: a `SharedDevice` lends every body if it has a shared
+    /// value, and none otherwise.
     #[inline(always)]
     pub fn can_lend(&self) -> bool {
         self.can_lend
