@@ -28,10 +28,8 @@ use std::fs;
 use std::io::IsTerminal;
 use std::process::ExitCode;
 use std::rt::{Clock, Env, Files};
-use translation_commands::{
-    convert_file, evaluate, parse_file, run_input, run_sentence, run_sentences,
-};
-use tree_commands::{explain_tree, show_tree};
+use translation_commands::{evaluate, run_input, run_sentence, run_sentences};
+use tree_commands::{convert_file, explain_tree, parse_file, show_tree};
 use why::explain_plan;
 
 /// A path that can be opened, but whose file can be neither read nor written.
