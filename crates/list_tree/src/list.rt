@@ -292,7 +292,8 @@ fn copy_after(header: &[u8; HEADER_LENGTH], rope: &Rope, from: usize, out: &mut 
 }
 
 /// Returns the number of bytes. `encoding_len` calls this function, and not `len`, because of the
-/// clause `bytes`: each byte is below 256. The clause `bytes` of `encoding_len` follows from it.
+/// clause `bytes`: each byte is below 256. With the same clause of `Rope::len` it gives the clause
+/// `bytes` of `encoding_len`.
 fn byte_count(bytes: &[u8]) -> usize
     ensures len { result ≡ length bytes.now }
     ensures bytes { (i : ℕ) → slice_index bytes.now i < 256 }
