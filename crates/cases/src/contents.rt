@@ -166,8 +166,8 @@ fn put_result(put: Result<(), DeviceFault>) -> Result<(), Mistake> {
 }
 
 /// Writes the bytes of a body as they are. Fails with `Unfit` if there are fewer than 3, or more
-/// than 16,777,219 (no row has a longer body; version 2 allows 285,212,675), or if the writer can
-/// count no further record.
+/// than 16,777,219, or if the writer can count no further record. (A body of version 1 has at most
+/// 16,777,219 bytes, and `put_body` allows 285,212,675. No row needs more.)
 fn put_bytes(writer: &mut Writer, device: &mut MemDevice, body: &[u8]) -> Result<(), Mistake> {
     if writer.written() == u64::MAX || body.len() < 3 || body.len() > 16_777_219 {
         return Err(Mistake::Unfit);

@@ -9,8 +9,8 @@ use std::alloc::{AllocError, Global};
 const MAX_PIECE: usize = 256;
 
 /// The greatest depth in a rope, counted from 0 at the root, of a piece to which `join` adds bytes.
-/// In a text that grows at both ends in turn, the piece at the end that grew last has depth 1, and
-/// the piece at the other end has depth 2.
+/// In a text that grows at both ends in turn, the piece at one end has depth 1, and the piece at the
+/// other end depth 2.
 const MAX_LEVELS: u32 = 2;
 
 impl Rope {
