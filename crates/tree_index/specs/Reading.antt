@@ -109,9 +109,10 @@ AreOpen g (o ∷ os) (f ∷ fs) = (q : Production) × IsProduction g o.productio
     × (o.children ≡ length (stored_items q.items)) × AreOpen g os fs
 
 -- `sizes` has the size of the subtree of each node of the tree, n nodes were read, and the list of open nodes begins with the
--- innermost one. Its number is less than n. The subtree of an open node ends before the node with the number e: its own number plus
--- the size of its subtree is e. For the innermost one e is n plus the number of nodes in the subtrees of its unvisited children. For
--- each other one it is the e of the open node within it, plus the number of nodes in the subtrees of its own unvisited children.
+-- innermost one. Its number is less than n. The subtree of an open node ends before the node with the number e: its own number
+-- plus the size of its subtree is e. For the innermost one e is n plus the number of nodes in the subtrees of its unvisited
+-- children. For each other one it is the e of the open node within it, plus the number of nodes in the subtrees of its own
+-- unvisited children.
 abbrev pub AreEnding : Direction → List ℕ → ℕ → List OpenRecord → List Family → Type 0
 AreEnding d sizes n [] fs = Unit {0}
 AreEnding d sizes n (o ∷ os) [] = ⊥
