@@ -20,7 +20,7 @@ target_same a b place attr =
     let made : ℕ → ℕ → Target = λ p n. record { place = p; attr = n } in
     ap (λ (p : ℕ). made p a.attr) place ∙ ap (made b.place) attr
 
--- the number of a rule with the target, where it fits its type
+-- if the conversion of the number of a rule for the target to two bytes succeeds, the result is the number of such a rule
 pub number_found : {E : Type 0} (rules : List Rule) (target : Target) (number : ℕ) (rule : Rule) (converted : Result ℕ E)
     → slice_get rules number ≡ Some rule → (nat_eq rule.target.place target.place && nat_eq rule.target.attr target.attr) ≡ true
     → OkIff converted (number < 65536) number → IfSome (result_ok converted) (IsNumberFor rules target)
@@ -34,7 +34,7 @@ number_found rules target number rule (Ok n) there same is =
           (eqb-true rule.target.attr target.attr parts.1);
     }
 
--- the rule of that number, which is read from the same list
+-- the rule that is read at a number for the target is the one with this number, and its target is that target
 pub rule_there : (rules list : List Rule) (at number : ℕ) (target : Target) (rule : Rule) → list ≡ rules → at ≡ number
     → at < length list → rule ≡ get_or list at rule → IsNumberFor list target number → (slice_get rules number ≡ Some rule)
     × (rule.target ≡ target)

@@ -172,7 +172,7 @@ child_number g index places number place c numbered has_child k t v has tree =
     in
     child_of_tree g index places number place c k t v at.path at.tree has_child has fits at.counted at.there at.occurs
 
--- a chain goes to a child,
+-- `Leads` stays true if a child is added whose number is that of the node at its places
 pub leads_down : (g : Grammar) (index : TreeIndex) (old new : List PathNode) (n : PathNode) → new ≡ old ++ n ∷ []
     → Leads g index old → IsNumberAt g index (places_of old ++ n.place ∷ []) n.node → Leads g index new
 leads_down g index old new n is leads numbered =
@@ -248,7 +248,7 @@ found_body content end body another next before = by_header (nat_eq end header_b
         sym one ∙ other
     by_header false (Err fault) e h = absurd (let bad : ⊥ = cc in bad)
 
--- The values of a record are those of a node of a tree: the rules of its production have the same arguments by both.
+-- The values of a record are those of a node of a tree: by both, the rules' arguments have the same values.
 pub record IsRowAt (g : Grammar) (p : ℕ) (vs : List Value) (r : ℕ) (w : Valuation) : Type 0 where
   pub of : Production
   pub of_record : IsProduction g p of

@@ -23,7 +23,7 @@ use Rattle.causes.specs.Indexed.{HasNoChildAt, LeadsNowhere, Stops, StopsAfter, 
 abbrev pub NoneBefore : List Rule → Target → ℕ → Type 0
 NoneBefore rules target number = (n : ℕ) (r : Rule) → n < number → slice_get rules n ≡ Some r → r.target ≡ target → ⊥
 
--- nor is the one of the number, if it has another target
+-- if the rule with the number is for another target, `NoneBefore` holds for the next number too
 pub none_further : (rules : List Rule) (target : Target) (number : ℕ) (rule : Rule) → slice_get rules number ≡ Some rule
     → (nat_eq rule.target.place target.place && nat_eq rule.target.attr target.attr) ≡ false → NoneBefore rules target number
     → NoneBefore rules target (number + 1)
@@ -102,12 +102,12 @@ leads_nowhere g h j k places way i place same_grammar same_index is there none =
       none = subst (λ (z : Grammar). HasNoChildAt z k (take i places) place) same_grammar of_index;
     }
 
--- a fact that holds if an option is None, where it is None
+-- if an option is None, `IfNone o P` implies P
 pub nothing_there : {X P : Type 0} (o : Option X) → o ≡ None → IfNone o P → P
 nothing_there None is holds = holds
 nothing_there (Some x) is holds = absurd (let bad : ⊥ = cc in bad)
 
--- and a fact of its value, where it has one
+-- if an option is `Some x`, `IfSome o P` implies P of x
 pub some_there : {X : Type 0} (P : X → Type 0) (o : Option X) (x : X) → o ≡ Some x → IfSome o P → P x
 some_there P None x is holds = absurd (let bad : ⊥ = cc in bad)
 some_there P (Some y) x is holds = let one : y ≡ x = cc in subst P one holds

@@ -66,9 +66,9 @@ pub record DoesNextAt (g : Grammar) (p : ℕ) (vs : List Value) (target : Target
   pub there : IsProduction g p production
   pub next : DoesNext production.rules (table_of g production vs) target does
 
--- A *reading* R says what rules do: R places target does means that, at the node at the end of these places from the root, the
--- rule for this target does this. It can be read in a content (`in_content`, and `in_file` of `Indexed.antt`) or in a tree
--- (`in_tree` of `Laws.antt`).
+-- A *reading* R says what rules do. `R places target does` means: at the node at the end of these places from the root, the rule
+-- for this target does what `does` says. A reading is that of a content (`in_content`, and `in_file` of `Indexed.antt`) or of a
+-- tree (`in_tree` of `Laws.antt`).
 abbrev pub Reading : Type 1
 Reading = List ℕ → Target → Next → Type 0
 
@@ -92,7 +92,7 @@ places_of nodes = map (λ (n : PathNode). n.place) nodes
 
 -- A rule at the node at the end of `places` has the argument. The rule that computes it is the one for `target` at the node at
 -- the end of `there`. If the argument is an attribute of the node itself, that rule is at the parent, and its target has the
--- node's place there. If the argument is an attribute of a child, that rule is at the child, and its target has place 0.
+-- node's place at the parent. If the argument is an attribute of a child, that rule is at the child, and its target has place 0.
 abbrev pub GoesTo : List ℕ → Target → List ℕ → Target → Type 0
 GoesTo places argument there target =
     (target.attr ≡ argument.attr)
@@ -112,16 +112,16 @@ Follows R places target there (step.To from) = IsPassedFrom R places target ther
 Follows R places target there (step.Arises number) = (there ≡ places) × R places target (rule_does.Arises number)
 Follows R places target there step.Nothing = Unit {0}
 
--- A chain of n rules that passed an error on. It begins with the rule for `target` at the end of `places`. It leads to the rule
--- from which the last of these n rules has the error, given by the next two arguments (the places of its node, and its target).
--- If n is 0, it leads to the first rule itself.
+-- A chain in which n rules pass an error on, each the error of the next rule. It begins with the rule for `target` at the end of
+-- `places`. The next two arguments are the places and the target of the rule to which it leads, the one after these n rules. Of
+-- what this last rule does, nothing is claimed. If n is 0, it is the first rule itself.
 pub data IsChain (R : Reading) (places : List ℕ) (target : Target) : List ℕ → Target → ℕ → Type 0 where
   itself : IsChain R places target places target 0
   longer : (there : List ℕ) (from : Target) (n : ℕ) (beyond : List ℕ) (next : Target) → IsChain R places target there from n
       → IsPassedFrom R there from beyond next → IsChain R places target beyond next (suc n)
 
--- The cause of the error that the rule for a target computes at the node at the end of some places: the rule of a number, at
--- the node at the end of other places (`there`), whose target is `from`. The error arises in it, and n rules passed the error on.
+-- The cause of the error that the rule for `target` computes at the node at the end of `places`. It is the rule with this number
+-- at the node at the end of `there`, and its target is `from`. The error arises in this rule, and n rules passed the error on.
 pub record IsCause (R : Reading) (places : List ℕ) (target : Target) (there : List ℕ) (number : ℕ) (n : ℕ) : Type 0 where
   pub from : Target
   pub chain : IsChain R places target there from n

@@ -95,7 +95,7 @@ pub record IsWithoutRecord (g : Grammar) (index : TreeIndex) (places : List ℕ)
   pub none : HasNoRecord g index number
 
 -- A record of the content ends at the offset that the index has for the node at the end of some places. With the values of this
--- record no rule for the target has an error as its value.
+-- record no rule for the target has an error as its value (`HasNoErrorAt`, which looks at the first 65,536 rules).
 pub record IsWithoutError (g : Grammar) (index : TreeIndex) (content places : List ℕ) (target : Target) : Type 0 where
   pub end : ℕ
   pub ends : IsEndAt g index places end
@@ -113,8 +113,8 @@ pub record HasNoChildAt (g : Grammar) (index : TreeIndex) (places : List ℕ) (p
   pub numbered : IsNumberAt g index places number
   pub none : HasNoChild g index number place
 
--- No node has a rule for an argument of a rule at the node at the end of some places: it is an attribute of the root itself, or
--- of a child that the node does not have.
+-- No node has a rule for this argument of a rule at the node at the end of some places. The argument is an attribute of the root
+-- itself, or of a child that the node does not have.
 abbrev pub GoesNowhere : Grammar → TreeIndex → List ℕ → Target → Type 0
 GoesNowhere g index places argument = ((argument.place ≡ 0) × (places ≡ []))
     ⊎ ((0 < argument.place) × HasNoChildAt g index places argument.place)

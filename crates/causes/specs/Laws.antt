@@ -31,8 +31,8 @@ abbrev pub FoundIsCause : Type 0
 FoundIsCause = (g : Grammar) (t : Tree) (v : Valuation) (path : List ℕ) (target : Target) (there : List ℕ) (number n : ℕ)
     → IsCause (in_tree g t v) (map suc path) target there number n → HasCause g t v (place_path path target.place) target.attr
 
--- The error of an attribute at a node has a cause that is found along the nodes of the tree: a chain leads to it from a rule for
--- this attribute. `instance` is the path of the attribute's node, and `path` that of the rule's.
+-- The error of an attribute at a node has a cause that is found along the nodes of the tree: a chain leads to this cause from a
+-- rule for the attribute. `instance` is the path of the attribute's node, and `path` that of the rule's node.
 pub record IsFound (g : Grammar) (t : Tree) (v : Valuation) (instance : List ℕ) (attr : ℕ) : Type 0 where
   pub path : List ℕ
   pub target : Target

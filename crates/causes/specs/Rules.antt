@@ -1,4 +1,4 @@
--- The rules of the nodes of a tree, and the errors among their values. In these definitions g is a grammar, t a tree and v its
+-- The rules of the nodes of a tree, and which of them compute no error. In these definitions g is a grammar, t a tree and v its
 -- values. All of this is this project's.
 use Rattle.std.specs.Prelude.{ℕ, suc, ◌≡◌, ◌≤◌, List, [], map, None, Some}
 use Rattle.ag_grammar.specs.declared.grammar.Production.{Production}
@@ -29,8 +29,8 @@ pub record HasRule (g : Grammar) (t : Tree) (path : List ℕ) (target : Target) 
   pub is : IsRule of rule
   pub gives : rule.target ≡ target
 
--- If the values of a tree of at most 1,048,576 nodes are a solution, and the node at the end of some places has a rule for a
--- target, the value of what that rule computes is not an error.
+-- Let the values of a tree of at most 1,048,576 nodes be a solution, and let the node at the end of some places have a rule for a
+-- target. Then the value of the attribute that this rule computes is not an error.
 abbrev pub ComputesNoError : Grammar → List ℕ → Target → Tree → Valuation → Type 0
 ComputesNoError g places target t v = node_count t ≤ max_nodes → Solves AnyRule g t v → (path : List ℕ) → places ≡ map suc path
     → HasRule g t path target → fault_of (values_at v (place_path path target.place) [] target.attr) ≡ None

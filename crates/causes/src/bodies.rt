@@ -9,7 +9,8 @@ use std::alloc::Global;
 use treefile::{Device, FrameFault, read_body};
 
 /// Returns the body of the frame that ends at an offset of a file of version 2. Takes memory for
-/// the body. `tree_index` has a `body_before` too, but no clause of it says which body it returns.
+/// the body. `tree_index` has a `body_before` too. It is not used here, since none of its clauses
+/// says which body it returns.
 ///
 /// Fails with B2 and the offset if no frame ends there, with D1 if a call of the device fails, and
 /// with NoMemory if memory is refused.

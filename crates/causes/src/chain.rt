@@ -59,9 +59,10 @@ pub(crate) enum Step {
     To(Target),
     /// The error arises in the rule of this number, at the node at which the chain is.
     Arises(u16),
-    /// The target has no rule, the rule's value is not an error, or the argument that passes its
-    /// error on has no rule. Or the node is a token, is of a production that the grammar does not
-    /// have, is missing in the index, or has no end of its record there.
+    /// The chain stops without a cause. The target has no rule, the rule's value is not an error,
+    /// or the argument that passes its error on has no rule. Or no record can be read: the node is
+    /// a token, its production is not one of the grammar, or the index lacks the node or the end of
+    /// its record.
     Nothing,
 }
 
@@ -79,8 +80,9 @@ struct Chain<'a> {
 impl<'a> Chain<'a> {
     /// Reads the record of the node at which the chain is, and returns what the rule for a target
     /// does there. Returns `None` if `record` returns `None`, if the node has no such rule, or if
-    /// the rule's value is not an error. Fails with R1 if the record is damaged, with D1 if a call
-    /// of the device fails, and with NoMemory if memory is refused.
+    /// the rule's value is not an error. Fails with R1 if no frame ends where the record should end
+    /// (`?` makes R1 of B2), or if the frame's body is not a record of the node's symbol. Fails
+    /// with D1 if a call of the device fails, and with NoMemory if memory is refused.
     fn read_next<D: Device>(
         &self,
         alloc: Global,
@@ -228,8 +230,8 @@ impl<'a> Chain<'a> {
         Ok(Some(Target { place: 0, attr }))
     }
 
-    /// Goes from the node to its parent. Returns the target of the parent's rule for the attribute
-    /// number `attr` of the node that was left. Returns `None` at the root.
+    /// Goes from the node to its parent. Returns the target, at the parent, of the rule for
+    /// attribute number `attr` of the node that was left. Returns `None` at the root.
     fn go_up(&mut self, attr: u16) -> Option<Target>
         requires leads { Leads self.old.grammar.now self.old.index.now self.old.nodes.items }
         ensures goes { IfSome result (λ target. (target.attr ≡ attr) × (places_of self.old.nodes.items
@@ -300,10 +302,10 @@ impl<'a> Chain<'a> {
 /// file.
 ///
 /// Returns `None` if the places lead to no node, the target has no rule there, or the rule's value
-/// is not an error. Also returns `None` if the chain stops later without a cause, or if 16,777,216
-/// rules passed the error on, 16 for each of `MAX_NODES` nodes. The last two cases do not occur if
-/// the index is that of the file, the grammar is accepted, and the file is that of a tree of at
-/// most `MAX_NODES` nodes whose values are a solution.
+/// is not an error. Also returns `None` in two other cases: the chain stops later without a cause,
+/// or 16,777,216 rules (`MAX_STEPS`) passed the error on. These two cases do not occur if the index
+/// is that of the file, the grammar is accepted, and the file is that of a tree of at most
+/// `MAX_NODES` nodes whose values are a solution.
 ///
 /// Fails with R1 if the record of a rule of the chain is damaged, with D1 if a call of the device
 /// fails, and with NoMemory if memory is refused. Reads a record for each rule in the chain.
@@ -318,9 +320,9 @@ pub fn find_cause<D: Device>(
     ensures found { IfOk result (λ cause. IfSome cause (λ cause. WhenHonest (D.is_honest device.new)
         (IsCause (in_content grammar.now (D.content device.old)) start.now.places.now
         start.now.target cause.places.items cause.rule cause.steps))) }
-    // If the index is that of the content, each rule of the chain is one of its node's production
-    // in each tree of the file, and does the same with the tree's values. So the error of the
-    // attribute that the first rule computes has a cause
+    // Let the index be that of the content. Then in each tree of the file, each rule of the chain
+    // is a rule of the production at its node, and does the same with the tree's values. So the
+    // error of the attribute that the first rule computes has a cause
     ensures in_tree { IfOk result (λ cause. IfSome cause (λ cause. WhenHonest (D.is_honest device.new)
         (IsCauseIn grammar.now index.now (D.content device.old) start.now.places.now
         start.now.target cause.places.items cause.rule cause.steps))) }

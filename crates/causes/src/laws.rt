@@ -2,10 +2,10 @@
 
 ghost use Rattle.causes.specs.Laws.{CauseIsFound, FoundIsCause};
 
-/// States that if a chain along the nodes of a tree, with the tree's values, ends in a rule in
-/// which the error arises, the error that the first rule computes has a cause by the definitions of
-/// `origins`. In an accepted grammar, if the error of an attribute at a node has a cause, there is
-/// such a chain.
+/// States two facts. Let a chain along the nodes of a tree, with the tree's values, end in a rule
+/// in which the error arises. Then the error that the first rule computes has a cause, by the
+/// definitions of `origins`. Conversely, in an accepted grammar, if the error of an attribute at a
+/// node has a cause, such a chain begins with a rule for this attribute.
 pub fn causes_are_found()
     ensures cause { FoundIsCause }
     ensures found { CauseIsFound }

@@ -1,4 +1,5 @@
-//! What a rule does with an error: it passes on the error of an argument, or the error arises in it.
+//! What a rule does with an error: it passes on the error of an argument, or the error arises in
+//! the rule.
 
 ghost use Rattle.std.specs.Prelude.{ℕ, ◌≡◌, ◌<◌, All, IfNone, IfOk, IfSome, Some, length, slice_get};
 ghost use Rattle.ag_grammar.specs.Lists.{DifferIn, Each};
@@ -40,9 +41,9 @@ pub fn rule_for(rules: &[Rule], target: Target) -> Option<u16>
 /// Returns what the rule for a target does at a node. Returns `None` if the node has no such rule,
 /// or the rule's value is not an error. Fails with NoMemory if memory is refused.
 ///
-/// Requires that each rule has exactly one argument for each different occurrence in its expression
-/// (the list `r.expr.1`), and that no two rules have the same target. Both hold in an accepted
-/// grammar.
+/// Requires that each rule has as many arguments as its expression has different occurrences, such
+/// as `$1.lex` (the list `r.expr.1`). Also requires that no two rules have the same target. Both
+/// hold in an accepted grammar.
 fn next_in(alloc: Global, row: &Row<'_>, target: Target) -> Result<Option<Next>, NoMemory>
     requires arguments { Each (λ (r : TheRule). length r.args ≡ length r.expr.1)
         row.now.production.now.rules }
@@ -69,9 +70,9 @@ fn next_in(alloc: Global, row: &Row<'_>, target: Target) -> Result<Option<Next>,
 }
 
 /// Returns what the rule for a target does at a node of the production `number`, with the values of
-/// the node's record. Returns `None` as `next_in` does, and if the grammar has no such production
-/// (`record_of`, from which the caller has the number, excludes that). Fails with NoMemory if memory is
-/// refused.
+/// the node's record. Returns `None` as `next_in` does, and if the grammar has no such production.
+/// (The caller has the number from `record_of`, which excludes that.) Fails with NoMemory if memory
+/// is refused. The clause `accepted` is an invariant of `Grammar`, for the proofs of callers.
 pub(crate) fn next_at(
     alloc: Global,
     grammar: &Grammar,

@@ -18,6 +18,6 @@ abbrev pub LeftTreesAreBeyondTheLimit : Type 0
 LeftTreesAreBeyondTheLimit = (g : Grammar) (words : List Lexeme) (size : Tree → ℕ) (begun : List Open → ℕ) (limit : ℕ) (t : Tree)
     → LeavesOnly g words size begun limit → IsTreeWith g words t → limit < size t
 
--- Each tree has values that give each of its leaves its text, so that its file of pass 0 is defined.
+-- Each tree has values that give each of its leaves its text. `IsFirstFile` of `treefile` is about such values.
 abbrev pub TextsAreGiven : Type 0
 TextsAreGiven = (g : Grammar) (t : Tree) → (v : Valuation) × Solves NoRule g t v

@@ -23,7 +23,8 @@ pub fn left_trees_are_beyond_the_limit()
     ensures { LeftTreesAreBeyondTheLimit }
 {}
 
-/// States that each tree has values that give each of its leaves its text.
+/// States that each tree has values that give each of its leaves its text. The clause `file` of
+/// `parse` is about such values, so it says something of each tree.
 pub fn texts_are_given()
     ensures { TextsAreGiven }
 {}

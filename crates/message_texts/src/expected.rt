@@ -15,8 +15,8 @@ pub fn separator_before(remaining: usize) -> &'static str {
     }
 }
 
-/// Writes `expected` and the list of what a text could go on with. Writes nothing if the list is
-/// empty: then it is not known what the text could go on with.
+/// Writes the word `expected`, and the list of what a text could go on with. Writes nothing if the
+/// list is empty: then it is not known what the text could go on with.
 pub fn write_expected(out: &mut String, expected: &[Expected]) -> Result<(), AllocError> {
     if expected.is_empty() {
         return Ok(());

@@ -19,7 +19,7 @@ const UNBOUND: &str = ", a name that no `let` binds here";
 const NO_VALUE: &str = ", but attributes have values only in a grammar";
 
 /// Returns the location of a fault of an expression: a line and a column if its text has several
-/// lines, and else only the offset that the fault prints.
+/// lines, and otherwise `InFault`, since the fault itself prints its offset.
 pub fn locate_in_expression(fault: ExprFault, text: &str) -> Location {
     match offset_in(fault) {
         Some(at) if text.contains('\n') => Location::At(Position::of(text, at)),
@@ -116,8 +116,8 @@ fn describe_depth(parts: &mut Parts) -> Result<(), AllocError> {
         .push_str("compute a part of it in another attribute")
 }
 
-/// Describes X2: the token that was found, what could be there instead (`expected`) or, in some
-/// cases (`describe_expected`), what is wrong with the token. Adds a hint.
+/// Describes X2: the token that was found, and what could be there instead (`expected`) or what is
+/// wrong with the token (`describe_expected` says when). Adds a hint, if there is one.
 fn describe_unexpected(
     parts: &mut Parts,
     context: &Context<'_>,

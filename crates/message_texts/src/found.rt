@@ -2,10 +2,11 @@
 
 use ag_expr::{Cursor, ExprFault, refusal};
 
-/// Returns the token at an offset in bytes. If no token begins there, returns what looks like a
-/// number or an occurrence (an attribute such as `$1.sum`), for example a number that is too large.
-/// If nothing there looks so, returns the characters up to the next separator, at least one. None
-/// at the text's end, and if the offset is inside a character or after the text.
+/// Returns the token at an offset in bytes. White space at the offset is returned with the token
+/// after it. If there is no token, returns what looks like a number or an occurrence (an attribute
+/// such as `$1.sum`), for example a number that is too large. If nothing there looks so, returns
+/// the characters up to the next separator, at least one. None at the text's end, and if the offset
+/// is inside a character or after the text.
 pub fn found_at(text: &str, at: usize) -> Option<&str> {
     let rest = text.get(at..)?;
     let mut cursor = Cursor::new(rest);
@@ -55,7 +56,7 @@ fn first_word(text: &str) -> Option<&str> {
     if text.is_empty() { None } else { Some(text) }
 }
 
-/// Returns whether a character separates tokens. No other space of Unicode does.
+/// Returns whether a character is a space, tab, CR or LF. Only these separate tokens.
 fn is_separator(character: char) -> bool {
     matches!(character, ' ' | '\t' | '\r' | '\n')
 }

@@ -16,8 +16,7 @@ pub struct GrammarText<'a> {
     pub source: Source<'a>,
     /// The longest prefix of the source's bytes that is UTF-8.
     pub text: &'a str,
-    /// The grammar that the text reads as. None if the text reads as no grammar, or memory is
-    /// refused.
+    /// The grammar that the text reads as. None if the text is not a grammar, or memory is refused.
     pub raw: Option<RawGrammar>,
 }
 
@@ -38,12 +37,13 @@ impl<'a> GrammarText<'a> {
     }
 
     /// Reads the text once more (since `check` consumes what was read), and returns the grammar
-    /// with numbers in place of names. None if the text reads as no accepted grammar, or memory is
+    /// with numbers in place of names. None if the text is not an accepted grammar, or memory is
     /// refused.
     pub fn numbered(&self) -> Option<Grammar> {
         let raw = read_grammar(self.alloc, self.source.bytes).ok()?;
         // Every grammar that was read from a text is readable: its literals are not empty and have
-        // no white space, and its classes exist. `check` requires this, so it is tested here.
+        // no space, tab, CR or LF, and its classes exist. `check` requires this, so it is tested
+        // here.
         if !is_readable(&raw) {
             return None;
         }

@@ -100,8 +100,8 @@ impl<'a> Context<'a> {
         ""
     }
 
-    /// Returns a hint about the token at the offset, in an expression, where it can't be. Returns
-    /// an empty text if there is no hint. `expected` is what could be there.
+    /// Returns a hint about the token at the offset, which is in an expression and can't be there.
+    /// Returns an empty text if there is no hint. `expected` is what could be there.
     pub fn expression_hint(&self, expected: &[Expected]) -> &'static str {
         let is_operand = expected.contains(&Expected::Part(Part::Operand))
             || expected.contains(&Expected::Part(Part::Expression));
@@ -129,8 +129,9 @@ impl<'a> Context<'a> {
         }
     }
 
-    /// Returns a hint about what is at the offset, outside the expressions of a grammar, where it
-    /// can't be. Returns an empty text if there is no hint. `expected` is what could be there.
+    /// Returns a hint about what is at the offset, which is outside the expressions of a grammar,
+    /// and can't be there. Returns an empty text if there is no hint. `expected` is what could be
+    /// there.
     pub fn grammar_hint(&self, expected: &[Expected]) -> &'static str {
         if begins_with(self.found, BYTE_ORDER_MARK) {
             return MARK;

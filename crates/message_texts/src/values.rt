@@ -5,8 +5,9 @@ use message_parts::Parts;
 use message_parts::display::{FoundText, GroupedNumber};
 use std::alloc::{AllocError, Global};
 
-/// The greatest number of bytes of a text that is a value. The encoding of a text in a tree file
-/// has 5 bytes more, and has at most `MAX_WEIGHT` bytes.
+/// The greatest number of bytes of a text that is a value. The encoding of a value in a tree file
+/// has at most `MAX_WEIGHT` bytes. That of a text has 5 bytes more than the text: one for the kind
+/// of value, and four for the length.
 const MAX_BYTES_OF_TEXT: usize = MAX_WEIGHT as usize - 5;
 
 /// What to do about a value that is an error.
@@ -43,7 +44,7 @@ fn describe_shown(parts: &mut Parts, value: &Value, shown: &str) -> Result<(), A
     }
 }
 
-/// Writes the limit of the size of a value, since the error `big` means that a value exceeds it.
+/// Writes the limit of the size of a value. The error `big` means that a value exceeds this limit.
 fn write_size(out: &mut String) -> Result<(), AllocError> {
     let (most, max_of_text) = (
         GroupedNumber(MAX_WEIGHT as usize),

@@ -1,6 +1,6 @@
 -- When an error arises in the rule of a node, rather than being passed on by an argument of the rule. In these definitions r is a
--- rule, o an argument (its place and its number there), q a production, and v a value. In `arises`, e is an expression. In the
--- other definitions, e is a table. All of this is this project's.
+-- rule, o an argument (a place, and the number of an attribute there), q a production, and v a value. In `arises`, e is an
+-- expression, and `env` has the values of its occurrences. In the other definitions, e is a table. All of this is this project's.
 use Rattle.std.specs.Prelude.{ℕ, Bool, false, nat_eq, pos, Option, Some, None, slice_get, if◌then◌else◌}
 use Rattle.std.specs.List.{count_by}
 use Rattle.ag_value.specs.Spelling.{number_of}
@@ -36,8 +36,8 @@ is_same_error None d = false
 is_same_error (Some c) None = false
 is_same_error (Some c) (Some d) = nat_eq (number_of c) (number_of d)
 
--- An error arises in an expression: its value is an error, and would be the same one if every error among the values of its
--- occurrences were exchanged. So it comes from none of them.
+-- A test: an error arises in an expression. The expression's value is an error, and would be the same error if every error among
+-- the values of its occurrences were exchanged. So this error comes from none of the occurrences.
 unfoldable pub arises : Node → (ℕ → Value) → Bool
 arises e env = is_same_error (fault_of (value_of e env)) (fault_of (value_of e (λ k. exchanged (env k))))
 
@@ -51,7 +51,7 @@ value_at e (Some o) = e o.place o.attr
 abbrev pub environment : Rule → Table → ℕ → Value
 environment r e k = value_at e (slice_get r.args k)
 
--- an error arises in a rule of a node with these values
+-- a test: an error arises in a rule of a node with these values
 abbrev pub is_arising : Table → Rule → Bool
 is_arising e r = arises r.expr.0 (environment r e)
 

@@ -27,14 +27,14 @@ place_path path (suc i) = path ++ i ∷ []
 abbrev pub exchanged_below : ℕ → (ℕ → Value) → ℕ → Value
 exchanged_below n env k = if nat_lt k n then exchanged (env k) else env k
 
--- a rule has the same error with the errors among its first n arguments exchanged
+-- a test: a rule's value is an error, and is still this error if the errors among the rule's first n arguments are exchanged
 unfoldable pub is_still : Rule → Table → ℕ → Bool
 is_still r e n =
     is_same_error (fault_of (value_of r.expr.0 (environment r e)))
     (fault_of (value_of r.expr.0 (exchanged_below n (environment r e))))
 
--- Argument k (counted from 0) passes its error on to a rule. With the errors among the arguments before k exchanged, the rule
--- has the same error. With the error of argument k exchanged as well, the rule does not have this error.
+-- Argument k (counted from 0) passes its error on to a rule. If the errors among the arguments before k are exchanged, the rule
+-- still has its error. If the error of argument k is exchanged as well, the rule does not have this error.
 pub record IsSource (r : Rule) (e : Table) (k : ℕ) : Type 0 where
   pub before : is_still r e k ≡ true
   pub after : is_still r e (suc k) ≡ false
@@ -65,8 +65,8 @@ pub record IsRuleAt (g : Grammar) (t : Tree) (v : Valuation) (path : List ℕ) (
   pub rule : IsRule of r
   pub values : e ≡ at (values_at v path)
 
--- The error of an attribute of the node with a path has a cause: the error arises in the rule that defines the attribute there,
--- or this rule passes it on from an argument whose error has a cause.
+-- The error of an attribute of the node at the end of a path has a cause. Either the error arises in the rule that defines this
+-- attribute of the node. Or that rule passes on the error of an argument, and the error of this argument has a cause.
 pub data HasCause (g : Grammar) (t : Tree) (v : Valuation) : List ℕ → ℕ → Type 0 where
   here : (path : List ℕ) (r : Rule) (e : Table) → IsRuleAt g t v path r e → is_arising e r ≡ true
       → HasCause g t v (place_path path r.target.place) r.target.attr
@@ -74,9 +74,10 @@ pub data HasCause (g : Grammar) (t : Tree) (v : Valuation) : List ℕ → ℕ �
       → slice_get r.args k ≡ Some o → HasCause g t v (place_path path o.place) o.attr
       → HasCause g t v (place_path path r.target.place) r.target.attr
 
--- R path ps holds at each node of a tree, where `path` leads to the node, and ps has the pass of each of its attributes, by
--- number. (So ps shows which attributes the node has.) A token has one attribute, `lex`, of pass 0. `HoldsAt` has the path of the
--- tree's root, and `HoldsIn` the path of a node and the number n of the first of the children that it is about.
+-- `R path ps` holds at each node of a tree. `path` leads to the node, and ps has the pass of each attribute of the node, by
+-- number. (So ps shows which attributes the node has.) A token has one attribute, `lex`, of pass 0. The path of `HoldsAt` is that
+-- of the tree's root. `HoldsIn` is about some children of a node: its path is that of the node, and n the number of the first
+-- child.
 abbrev mutual
   pub HoldsAt : (List ℕ → List ℕ → Type 0) → Grammar → Passes → Tree → List ℕ → Type 0
   HoldsAt R g m (leaf c x) path = R path (0 ∷ [])

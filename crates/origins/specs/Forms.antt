@@ -1,6 +1,7 @@
--- What is known of the value of an expression without an evaluation: from its form, from which of its occurrences are errors, and
--- from the numbers and the texts among the others. In these definitions u, v and w are values, `env` and `base` give the value of
--- each occurrence, e is an expression, and o an operator. All of this is this project's.
+-- What is known of the value of an expression without an evaluation. It follows from three things: the form of the expression,
+-- which of its occurrences are errors, and the numbers and texts among the values of the other occurrences. In these definitions
+-- u, v and w are values, `env` and `base` give the value of each occurrence, e is an expression, and o an operator. All of this
+-- is this project's.
 use Rattle.std.specs.Prelude.{ℕ, ◌≡◌, true, List, map, Option, Some, None}
 use Rattle.ag_value.specs.declared.value.ErrorCode.{ErrorCode}
 use Rattle.ag_value.specs.declared.value.Value.{Value}
@@ -41,7 +42,7 @@ States v known.Clean = fault_of v ≡ None
 States v (known.ErrorOf k) = ⊥
 States v known.Nothing = Unit {0}
 
--- the same as `States`, as a statement with a named fact
+-- the same as `States`, as a statement with a named fact; the contracts on sums, differences and products use it
 pub record IsStated (v : Value) (r : Known) : Type 0 where
   pub states : States v r
 
@@ -52,7 +53,8 @@ Describes v k known.Clean = fault_of v ≡ None
 Describes v k (known.ErrorOf j) = (j ≡ k) × (has_fault (fault_of v) ≡ true)
 Describes v k known.Nothing = Unit {0}
 
--- If a number is known, v is a text that spells this number. If nothing is known, nothing is claimed; nothing else can be known.
+-- If a number is known, v is a text that spells this number. If nothing is known, nothing is claimed. `Clean` and `ErrorOf` don't
+-- occur.
 abbrev pub Spells : Value → Known → Type 0
 Spells v (known.Number n) = (text : List ℕ) × (v ≡ value.Text text) × (spelled_number text ≡ Some n)
 Spells v known.Clean = ⊥

@@ -17,7 +17,7 @@ child none i = None
 child (more t ts) zero = Some t
 child (more t ts) (suc i) = child ts i
 
--- the same for a tree, which has no children if it is a leaf
+-- child number i, from 0, of a tree, if there is one; a leaf has no children
 abbrev pub child_of : Option Tree → ℕ → Option Tree
 child_of None i = None
 child_of (Some (leaf c x)) i = None
@@ -34,7 +34,8 @@ abbrev pub HasOrigin : Grammar → List ℕ → Option Tree → Valuation → Ty
 HasOrigin g [] t v = 0 < arising_at g t v
 HasOrigin g (i ∷ path) t v = HasOrigin g path (child_of t i) (below i v)
 
--- the number of rules of a tree in which an error arises; a node with two of them is one origin
+-- the number of rules of a tree in which an error arises. In spite of the name these are not origins but rules: a node with two
+-- such rules is one origin, and counts 2.
 abbrev mutual
   pub origin_count : Grammar → Tree → Valuation → ℕ
   origin_count g (leaf c x) v = 0
@@ -63,8 +64,8 @@ pub record AreOrigins (g : Grammar) (t : Tree) (v : Valuation) (first : Option (
   pub leads : IsFirst g t v first
   pub counted : count ≡ origin_count g t v
 
--- The same of each tree and its values, if the content is their file of the last pass of a legal assignment, and the number of
--- this pass is below 2^16.
+-- `AreOrigins` holds of each tree of the grammar and its values, if the content is their file of the last pass of a legal
+-- assignment, and the number of this pass is below 2^16.
 abbrev pub AreOriginsIn : Grammar → List ℕ → Option (List ℕ) → ℕ → Type 0
 AreOriginsIn g content first count = (m : Passes) (k : ℕ) (t : Tree) (v : Valuation) → k < 2 ^ 16 → IsLegal g m → IsLastPass k m
     → IsTreeOf g t → IsFileOfTree version_two g m k t v content → AreOrigins g t v first count

@@ -1,6 +1,6 @@
--- The indices of the values that a rule uses in a node's record in the file of the last pass, which has all values. In these
--- definitions g is a grammar, s the number of a symbol, q a production, o an argument, and vs are the values of a record. All of
--- this is this project's.
+-- Where a node's record, in the file of the last pass, has the values that a rule of the node uses. (This file has all values.)
+-- In these definitions g is a grammar, s the number of a symbol, q a production, o an argument, and vs are the values of a
+-- record. All of this is this project's.
 use Rattle.std.specs.Prelude.{ℕ, zero, suc, ◌+◌, pos, get_or, List, [], ◌∷◌, Option, Some, None, slice_get, length}
 use Rattle.ag_value.specs.declared.value.Value.{Value, Num}
 use Rattle.ag_grammar.specs.declared.grammar.Item.{Item}
@@ -18,7 +18,7 @@ abbrev pub count_of_symbol : Option Symbol → ℕ
 count_of_symbol None = 0
 count_of_symbol (Some s) = length (attribute_names s)
 
--- the same for the symbol with number s of a grammar
+-- the number of attributes of the symbol with number s of a grammar; 0 if the grammar has no such symbol
 abbrev pub attribute_count : Grammar → ℕ → ℕ
 attribute_count g s = count_of_symbol (slice_get g.symbols s)
 

@@ -97,8 +97,8 @@ ArePending g d (o ∷ os) [] path = ⊥
 ArePending g d (o ∷ os) (f ∷ fs) path =
     ((deeper : List ℕ) × (path ≡ way d os ++ deeper) × OccursIn g (upcoming d o f) deeper) ⊎ ArePending g d os fs path
 
--- Each open node o has a production of the grammar. Its children (those of its family f) are trees of the production's items.
--- Their leaves have their texts, and the values of their attributes up to pass k are well.
+-- Each open node o has a production of the grammar. Its children (those of its family f) are trees of the production's items. In
+-- these trees the attribute of each leaf is its text, and the values of all attributes up to pass k are well.
 abbrev pub AreOpen : Grammar → Passes → ℕ → List Open → List Family → Type 0
 AreOpen g m k [] [] = Unit {0}
 AreOpen g m k [] (f ∷ fs) = ⊥
@@ -113,10 +113,10 @@ abbrev pub IsNotBefore : Option (List ℕ) → List ℕ → Type 0
 IsNotBefore None path = ⊥
 IsNotBefore (Some first) path = is_before path first ≡ false
 
--- What is true between two steps of the walk over a tree. Before the offset `at` are the records of the *pending* subtrees, those
--- of the unvisited children of open nodes. The count, added to the number of pending rules in which an error arises, is that of
--- all such rules. The first origin that was found, and the pending ones, are origins of the tree. Each origin of the tree is
--- pending, or does not come before the first one that was found.
+-- What is true between two steps of the walk over a tree. The *pending* subtrees are those of the unvisited children of open
+-- nodes. Before the offset `at` are the records of these subtrees. `count` is the number of rules of the tree in which an error
+-- arises, without those of the pending subtrees. The first origin that was found is an origin of the tree, and so is each origin
+-- in a pending subtree. Each origin of the tree is in a pending subtree, or does not come before the first one that was found.
 pub record IsSoFar (g : Grammar) (m : Passes) (k : ℕ) (d : Direction) (t : Tree) (v : Valuation) (content : List ℕ) (at : ℕ)
     (open_nodes : List Open) (first : Option (List ℕ)) (count : ℕ) : Type 0 where
   pub families : List Family
@@ -175,7 +175,8 @@ pub record HasFetched (g : Grammar) (honest : Bool) (content : List ℕ) (old ne
   pub is : IsRecord g body r
   pub now : new.progress.at ≡ before_frame old.progress.at body
 
--- the one of two paths whose node comes before the other's in the order of the sentence; `path` if the option is `None`
+-- Of two paths to nodes, the path whose node comes first in the order of the sentence. If the option is `None`, there is only
+-- `path`.
 abbrev pub earlier : Option (List ℕ) → List ℕ → List ℕ
 earlier None path = path
 earlier (Some first) path = if is_before path first then path else first

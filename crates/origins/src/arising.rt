@@ -160,10 +160,11 @@ impl<'a> Row<'a> {
         Ok(error_of(&value))
     }
 
-    /// Returns whether a rule, whose value is the error `code`, has the same error with the errors
-    /// among its first `number + 1` arguments exchanged. Requires that it has the same error with
-    /// those among the first `number` exchanged. Evaluates the rule only if the argument `number`,
-    /// from 0, is an error: otherwise one more exchange changes nothing. Fails as `evaluate` does.
+    /// Returns whether a rule, whose value is the error `code`, still has this error if the errors
+    /// among its first `number + 1` arguments are exchanged. Requires that the rule still has the
+    /// error if those among the first `number` arguments are exchanged. Evaluates the rule only if
+    /// the argument `number`, from 0, is an error: otherwise one more exchange changes nothing.
+    /// Fails as `evaluate` does.
     #[tactic(auto, using(crate::proofs::Sources::still_clean), unfolding(crate::specs::Causes::is_still))]
     fn is_still(
         &self,
@@ -199,7 +200,8 @@ impl<'a> Row<'a> {
     }
 
     /// Returns the argument with this number, from 0, whose error is known to be the value of the
-    /// rule. The rule has such an argument, so `None` is never returned.
+    /// rule. `None` is never returned: a number without an argument stands for the value 0, which
+    /// is not an error.
     fn known_source(&self, rule: &Rule, number: usize) -> Option<Target>
         requires { IsKnown (environment rule.now (table_of self.now.grammar.now
             self.now.production.now self.now.values.now)) rule.now.expr.0 (Known.ErrorOf number) }

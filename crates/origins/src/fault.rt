@@ -10,7 +10,7 @@ use treefile::FrameFault;
 /// Why a record was not read.
 #[derive(Clone, Copy, Debug, PartialEq, Eq)]
 pub enum DecodeFault {
-    /// The body is not a record of the item that `record_of` got, as far as `record_of` checks it.
+    /// The body is not a record of the expected item, as far as `record_of` checks the body.
     Damaged,
     /// Memory was refused.
     NoMemory,
@@ -32,8 +32,8 @@ impl From<ValueFault> for DecodeFault {
 pub enum WalkFault {
     /// R1: the content is not the file of the last pass of a tree of the grammar. The offset in
     /// bytes is 0 if the content does not begin as a tree file. Otherwise the frames are read from
-    /// the last to the first, and the offset is the end of the frame that shows this (a wrong
-    /// record, or one left over), or the offset at which a frame should end and none does.
+    /// the last to the first. Then the offset is the end of the first frame that is wrong or left
+    /// over, or the offset at which a frame should end and none does.
     Damaged(u64),
     /// P2: no tree of at most `MAX_DEPTH` levels has this file.
     TooDeep,

@@ -115,8 +115,8 @@ impl<'a> Row<'a> {
         }
     }
 
-    /// Returns the number that the argument with this index spells, if the argument is a text that
-    /// spells one, and otherwise that nothing is known.
+    /// Returns `Known::Number` of the number that the argument with this index spells, if the
+    /// argument is a text that spells one. Otherwise returns `Known::Nothing`.
     #[tactic(auto, using(crate::proofs::Knowing::known_parsed))]
     fn argument_parsed(&self, rule: &Rule, number: usize) -> Known
         ensures { IsKnown (environment rule.now (table_of self.now.grammar.now self.now.production.now
@@ -156,8 +156,8 @@ fn describe(value: &Value, number: usize) -> Known
     }
 }
 
-/// Returns the number that a value spells, if the value is a text that spells one, and otherwise
-/// that nothing is known.
+/// Returns `Known::Number` of the number that a value spells, if the value is a text that spells
+/// one. Otherwise returns `Known::Nothing`.
 fn parsed(value: &Value) -> Known
     ensures { Spells value.now result }
 {
@@ -191,8 +191,9 @@ fn literal_known(literal: &Literal) -> Known
     literal_stated(literal)
 }
 
-/// Returns the same as `literal_known`. The contract is about the value of the literal, which is
-/// the error big or deep if the literal exceeds the limits of values.
+/// Returns the same as `literal_known`. It is a function of its own because of its contract, which
+/// is about the value of the literal, and not about an expression. The value is the error big or
+/// deep if the literal exceeds the limits of values.
 fn literal_stated(literal: &Literal) -> Known
     ensures { States (fit literal.now) result }
 {
@@ -237,7 +238,7 @@ fn operator_known(operator: Operator, left: i64, right: i64) -> Known
     }
 }
 
-/// Returns the sum if it is a number of 64 bits, and otherwise that nothing is known.
+/// Returns `Known::Number` of the sum if it is a number of 64 bits, otherwise `Known::Nothing`.
 fn sum_known(left: i64, right: i64) -> Known
     ensures { IsStated (number_value (left +ℤ right)) result }
 {
@@ -247,7 +248,8 @@ fn sum_known(left: i64, right: i64) -> Known
     }
 }
 
-/// Returns the difference if it is a number of 64 bits, and otherwise that nothing is known.
+/// Returns `Known::Number` of the difference if it is a number of 64 bits, otherwise
+/// `Known::Nothing`.
 fn difference_known(left: i64, right: i64) -> Known
     ensures { IsStated (number_value (left -ℤ right)) result }
 {
@@ -257,7 +259,7 @@ fn difference_known(left: i64, right: i64) -> Known
     }
 }
 
-/// Returns the product if it is a number of 64 bits, and otherwise that nothing is known.
+/// Returns `Known::Number` of the product if it is a number of 64 bits, otherwise `Known::Nothing`.
 fn product_known(left: i64, right: i64) -> Known
     ensures { IsStated (number_value (left *ℤ right)) result }
 {

@@ -12,8 +12,8 @@ use ag_eval::Environment;
 use ag_grammar::Target;
 use ag_value::{ErrorCode, Value};
 
-/// Lends the values of a rule's arguments, which are in the record of a node. Lends `spare` for an
-/// argument that the record does not have.
+/// Lends the values of a rule's arguments from the record of a node. Lends `spare` for an argument
+/// that the record does not have.
 #[derive(Drop)]
 pub(crate) struct Arguments<'a> {
     /// The values of the record.
@@ -110,7 +110,7 @@ impl<'a> Environment for FirstExchanged<'a> {
     }
 }
 
-/// Returns the error that a value is, if it is one.
+/// Returns the code of an error value. Returns `None` if the value is not an error.
 pub(crate) fn error_of(value: &Value) -> Option<ErrorCode>
     ensures { result ≡ fault_of value.now }
 {
@@ -136,7 +136,8 @@ fn number_of(code: ErrorCode) -> u8
     }
 }
 
-/// Returns whether both are an error, and the same one. A value that is not an error has `None`.
+/// Returns whether both are the code of the same error. `None` stands for a value that is not an
+/// error.
 pub(crate) fn is_same_error(one: Option<ErrorCode>, other: Option<ErrorCode>) -> bool
     ensures { result ≡ is_same_error one other }
 {

@@ -1,4 +1,4 @@
-//! Finds where errors come from in a tree whose tree file the last pass wrote: the rules in which
+//! Finds where errors come from, in the tree of a file that the last pass wrote: the rules in which
 //! an error arises, rather than being passed on by one of the rule's arguments.
 #![tactic(auto)]
 

@@ -108,7 +108,8 @@ pub(crate) struct Open {
 
 impl Open {
     /// Returns the number, from 0 and from the left, of the child that was visited last. If none
-    /// was visited, returns the number of the child that is visited first, or 0 without children.
+    /// was visited yet, returns the number of the child that is visited first. Returns 0 if the
+    /// node has no children.
     pub(crate) fn last(self, direction: Direction) -> u16
         ensures { result ≡ last_of direction self }
     {
@@ -353,10 +354,11 @@ impl Walk {
     }
 }
 
-/// Finds where errors arise in the tree whose file of the last pass a device contains: the first
-/// node in the order of the sentence that has a rule in which an error arises, and the number of
-/// such rules in the tree. A node comes before what is below it. That the file is of the last pass
-/// is not checked: for another file nothing is claimed.
+/// Finds where errors arise in a tree. A device contains the tree's file of the last pass. Returns
+/// the path to the first node, in the order of the sentence, that has a rule in which an error
+/// arises, and the number of such rules in the tree. A node comes before what is below it. That the
+/// file is of the last pass is not checked: for another file nothing is claimed. The program does
+/// not call this function.
 ///
 /// Reads the file once, from its end. Evaluates each rule of the tree that does more than copy an
 /// argument, and a second time if its value is an error. Takes memory for a buffer, for the values

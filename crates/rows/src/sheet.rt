@@ -10,7 +10,8 @@ use std::io;
 pub trait Questions {
     /// Runs a line if its verb, the first word, changes the state of these questions, such as a
     /// current value; `_rest` is the text after the verb. Returns whether the verb changes the
-    /// state. Fails with the mistake of the line, or with `NoMemory` if memory is refused.
+    /// state. Fails with the mistake of the line, or with `NoMemory` if memory is refused. This
+    /// default is for questions without a state.
     fn follow(&mut self, _alloc: Global, _verb: &str, _rest: &str) -> Result<bool, Mistake> {
         Ok(false)
     }
@@ -42,10 +43,10 @@ pub fn try_rows<R: Input + Print, Q: Questions>(
 }
 
 /// Runs the lines on standard input. Prints what is wrong with a line after the line's number, from
-/// 1. If lines of an answer are not compared, a message is printed with the number of the next line
-/// that is neither empty, a comment nor an answer. If that line has a mistake, only the mistake is
-/// printed. If no such line follows, the message has the number of the last line. Fails as
-/// `try_rows` does.
+/// 1. If a row has too few lines `= ANSWER`, some lines of the answer are not compared. Then a
+/// message is printed with the number of the next line that is not empty, a comment or an answer.
+/// If that line has a mistake, only the mistake is printed. If no such line follows, the message
+/// has the number of the last line. Fails as `try_rows` does.
 fn take_lines<R: Input + Print, Q: Questions>(
     rt: &R,
     alloc: Global,

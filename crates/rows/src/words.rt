@@ -10,8 +10,8 @@ use std::fmt::Debug;
 pub enum Mistake {
     /// A word of the row is unknown, missing, or not the number or the bytes that it has to be.
     Misspelt,
-    /// A text is not what the row's verb needs, such as an accepted grammar, or a call did not end
-    /// as the row assumes.
+    /// A text is not what the row's verb needs (for example, it is not an accepted grammar), or a
+    /// call did not end as the row assumes.
     Unfit,
     /// A request for memory was refused.
     NoMemory,
@@ -50,8 +50,8 @@ pub fn short_number(word: &str) -> Result<u16, Mistake> {
 }
 
 /// Returns the parts of a text between separators, or no part for the text `-`. An empty text has
-/// one empty part. The separator must not be empty: the loop takes for granted that each part but
-/// the last one has at least one byte, counting the separator after it. Fails if memory is refused.
+/// one empty part. The separator must not be empty: then the text has at most as many separators as
+/// bytes, and the loop finds all of them. Fails if memory is refused.
 pub fn parts<'a>(
     alloc: Global,
     text: &'a str,
@@ -120,8 +120,8 @@ pub fn shown_bytes(alloc: Global, bytes: &[u8]) -> Result<String, AllocError> {
     encode(alloc, bytes)
 }
 
-/// Returns the number of nodes of a tree and the bytes of its file, as in `5 nodes, 41475432`.
-/// Prints more than `MAX_PRINTED` bytes as their number.
+/// Returns the number of nodes of a tree and the bytes of its file, as in
+/// `1 nodes, 41475432000000000100000003`. Prints more than `MAX_PRINTED` bytes as their number.
 pub fn shown_tree_file(alloc: Global, count: u32, file: &[u8]) -> Result<String, Mistake> {
     let file = shown_bytes(alloc, file)?;
     Ok(format!(in alloc; "{count} nodes, {file}")?)

@@ -27,7 +27,8 @@ V = \"x\" V { $0.c = 0; }
 V = { $0.c = 0; }
 ";
 
-/// The number of nodes of the sentence's tree. Each has a record. (Literals are not nodes.)
+/// The number of nodes of the sentence's tree. Each has a record. (Literals are not nodes.) With
+/// this number the frames fill whole blocks (`is_by_blocks`).
 const NODES: u64 = 65_536;
 
 /// The length in bytes of a frame whose record is a node without values: 3 bytes of kind and
@@ -44,21 +45,24 @@ fn sentence(alloc: Global) -> Result<String, AllocError> {
     group.repeat(alloc, 85)
 }
 
-/// Returns the number of frames that were read, and the number of appends without the first
-/// `before` ones. `bytes` is the number of bytes that were read, all of frames of `FRAME` bytes,
-/// and `puts` is the number of all appends. Each append is a header or a frame.
+/// Returns the number of frames that were read, and the number of frames that passes appended.
+/// `bytes` is the number of bytes that were read, all of frames of `FRAME` bytes. `puts` is the
+/// number of all appends, each of a header or a frame. `before` is the number of the other appends:
+/// the parser's, and the headers of passes.
 fn frames_answer(alloc: Global, bytes: u64, puts: u64, before: u64) -> Result<String, AllocError> {
     let (read, put) = (bytes / FRAME, puts.saturating_sub(before));
     format!(in alloc; "{read} read, {put} put")
 }
 
-/// Returns whether each file of a device was read at least 112 times after its header, and at least
-/// 400 frames were appended between two successive ones of these reads, except before the last one.
+/// Returns whether each file of a device was read at least 112 times after its header, and whether
+/// at least 400 frames were appended between each read and the next one. The interval before the
+/// last read is ignored.
 ///
-/// The frames of the tree's nodes fill 112 blocks of 4,096 bytes, so with fewer reads one read
-/// would be longer than a block. A block has about 585 frames. Before the next read a pass has
-/// appended the frames of all nodes of the block that are no longer open. At most 140 nodes are
-/// open at a time, since the tree has 140 levels.
+/// A pass reads blocks of at most 4,096 bytes. The frames of the tree's nodes fill 112 of these, so
+/// with fewer reads one read would be longer than a block. A block has about 585 frames. Before the
+/// next read a pass has appended the frames of all nodes of the block that are no longer open. At
+/// most 140 nodes are open at a time, since the tree has 140 levels: 85 of groups, 23 of lists, and
+/// 32 in the last list of 31 letters.
 fn is_by_blocks(device: &CountingDevice<'_>) -> bool {
     device.fewest_reads() >= 112 && device.least_gap() >= 400
 }

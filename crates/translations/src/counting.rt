@@ -6,7 +6,8 @@ use std::alloc::Global;
 use std::cell::Cell;
 use treefile::{Device, DeviceFault, MemDevice};
 
-/// Counts for the file that is being read. They are reset when a header is read.
+/// Counts for the file that is being read. They are reset when a header is read, since a pass reads
+/// the header of its file first.
 #[derive(Clone, Copy)]
 struct Reading {
     /// The number of reads after the header.

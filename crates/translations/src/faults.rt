@@ -11,7 +11,7 @@ use std::alloc::Global;
 
 /// Returns the fault that the first word of a text names. `tests/README.md` lists these names. Some
 /// names need a number after them: for `no-text` it is the value of the root's `out`, and for the
-/// others it is an offset in bytes.
+/// others it is an offset in bytes. Fails with `Misspelt` if there is no such name or number.
 fn fault(text: &str) -> Result<Fault, Mistake> {
     let (name, rest) = first_word(text);
     match name {

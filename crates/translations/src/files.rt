@@ -1,5 +1,6 @@
 //! Answers questions about the file that `show_value` writes, and about `bytes_of`, which reads at
-//! most 1,048,577 bytes from a reader: one more than the text of a grammar or a sentence may have.
+//! most 1,048,577 bytes from a reader: one more than the text of a grammar or a sentence may have,
+//! so that a text that is too long can be noticed.
 
 use aggen::{bytes_of, show_value};
 use rows::words::{Mistake, shown_bytes};

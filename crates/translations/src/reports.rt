@@ -15,7 +15,7 @@ fn text_answer(alloc: Global, text: &str) -> Result<String, AllocError> {
     format!(in alloc; "{text:?}")
 }
 
-/// Returns a report and the text that was written. Fails with `Unfit` if that is not UTF-8.
+/// Returns a report and the text that was written. Fails with `Unfit` if the text is not UTF-8.
 fn report_answer(alloc: Global, report: &Report, out: &[u8]) -> Result<String, Mistake> {
     let Ok(text) = str::from_utf8(out) else {
         return Err(Mistake::Unfit);

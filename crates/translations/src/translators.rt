@@ -6,7 +6,7 @@ use rows::words::{Mistake, printed, shown_tree_file};
 use std::alloc::Global;
 use treefile::MemDevice;
 
-/// Returns `accepted`, or the fault of a grammar's text.
+/// Returns `accepted`, or the fault of a grammar's text. (`grammar_of` doesn't look for L1 and A1.)
 pub fn grammar_of_answer(alloc: Global, text: &str) -> Result<String, Mistake> {
     match grammar_of(alloc, text.as_bytes()) {
         Ok(_) => Ok(String::from_str(alloc, "accepted")?),

@@ -21,7 +21,8 @@ use treefile::Device;
 pub struct NodeRequest<'a> {
     /// The places of children, from 1, that lead from the root to the node.
     pub places: &'a [u16],
-    /// The names of the attributes; if the list is empty, all are explained.
+    /// The names of the attributes; if the list is empty, all are explained. A name that the node
+    /// does not have is ignored.
     pub names: &'a [&'a str],
     /// The greatest number of characters of a value that is not a number; 0 for whole values. In
     /// the line about an error's cause (`write_cause`), the limit is always 40 characters.
@@ -39,11 +40,10 @@ struct RulePlace<'a> {
 impl<'a> ExplainedTree<'a> {
     /// Writes the path of a node and its production, or the class of a token. Then writes for each
     /// attribute of the request its value, the rule for it, and the values of the rule's arguments
-    /// that the file has. If the file does not have the attribute's value yet, writes the pass that
-    /// computes it in place of the value. If the value is an error and the file is of the last
-    /// pass, a line about its cause follows. Writes nothing if the tree does not have the node.
-    /// Fails with R1 if a record is damaged, with D1 if a call of the device fails, and if memory
-    /// is refused.
+    /// that the file has. If the file does not have the attribute's value yet, names the pass that
+    /// computes the value. If the value is an error and the file is of the last pass, a line about
+    /// its cause follows. Writes nothing if the tree does not have the node. Fails with R1 if a
+    /// record is damaged, with D1 if a call of the device fails, and if memory is refused.
     pub fn write_node<D: Device>(
         &self,
         out: &mut String,
@@ -282,8 +282,8 @@ impl<'a> ExplainedTree<'a> {
         is_whole && is_error(self.format.own_value(record, selected.item, selected.attr))
     }
 
-    /// Writes a line about the cause of the error that is the value of an attribute of the node to
-    /// which `places` lead. Writes nothing if no cause is found (`find_cause`).
+    /// Writes a line about the cause of an error: the value of an attribute of the node at the end
+    /// of `places`. Writes nothing if no cause is found (`find_cause`).
     fn write_cause_of<D: Device>(
         &self,
         out: &mut String,
@@ -313,7 +313,7 @@ impl<'a> ExplainedTree<'a> {
     }
 }
 
-/// Returns whether there is a value that is an error.
+/// Returns whether a value is an error; false if there is none.
 fn is_error(value: Option<&Carried>) -> bool {
     match value {
         Some(value) => value.as_fault().is_some(),

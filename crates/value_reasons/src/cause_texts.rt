@@ -33,7 +33,7 @@ impl<'a> ErrorTranslation<'a> {
     /// arises, the rule's position, where the rule's node is in the sentence (without a sentence,
     /// in the tree), the values of the rule's arguments, and the number of rules that passed the
     /// error on. `device` contains the file of the last pass. The file was just written, so its
-    /// values are not all read and checked (`read_shape`).
+    /// index is made without reading the values (`read_shape`).
     ///
     /// Returns `None` if no cause is found (`find_cause`). Fails with R1 if the file is damaged,
     /// with P2 or P3 if its tree exceeds a limit, with D1 if a call of the device fails, and if

@@ -16,8 +16,8 @@ use tree_index::{NodePath, SentenceWalk, TreeFault, body_before};
 use tree_text::ShowFault;
 use treefile::Device;
 
-/// The number of buffered bytes from which on the buffer is written to the output. The buffer saves
-/// a write for each line.
+/// If the buffer has at least this number of bytes, it is written to the output. The buffer saves a
+/// write for each line, and the limit keeps it small.
 const BUFFER_BYTES: usize = 65_536;
 
 impl<'a> ExplainedTree<'a> {
@@ -34,10 +34,9 @@ impl<'a> ExplainedTree<'a> {
     }
 
     /// Reads the record of node `node`, whose path is `path`, in the file of the last pass. Writes
-    /// a line for each rule of the node's production in which an error arises at the node. Returns
-    /// the number of such rules: 0 for a token, or if the index does not have the node. Fails with
-    /// R1 if the record is damaged, with D1 if a call of the device fails, and if memory is
-    /// refused.
+    /// a line for each rule in which an error arises at this node. Returns the number of such
+    /// rules: 0 for a token, or if the index does not have the node. Fails with R1 if the record is
+    /// damaged, with D1 if a call of the device fails, and if memory is refused.
     fn write_errors_at<D: Device>(
         &self,
         out: &mut String,
@@ -67,10 +66,10 @@ impl<'a> ExplainedTree<'a> {
         }
     }
 
-    /// Writes a line for each rule of production `number` in which an error arises at a node.
-    /// `values` are those of the node's record; they have to be well (of the right form and within
-    /// the limits). Returns the number of such rules; 0 if the grammar does not have the
-    /// production.
+    /// Writes a line for each rule in which an error arises at a node. `number` is that of the
+    /// node's production. `values` are those of the node's record; they have to be well (of the
+    /// right form and within the limits). Returns the number of such rules; 0 if the grammar does
+    /// not have the production.
     fn write_errors_among(
         &self,
         out: &mut String,
@@ -93,9 +92,9 @@ impl<'a> ExplainedTree<'a> {
         self.write_errors_in(out, path, number, &row)
     }
 
-    /// Writes a line for each rule of the row's production in which an error arises at the row's
-    /// node. `number` is that of the production. Returns the number of such rules. Requires an
-    /// argument for each distinct occurrence in a rule's expression, as `is_arising` does.
+    /// Writes a line for each rule in which an error arises at the row's node. `number` is that of
+    /// the row's production. Returns the number of such rules. Like `is_arising`, it requires that
+    /// each rule has an argument for each distinct occurrence in its expression.
     fn write_errors_in(
         &self,
         out: &mut String,

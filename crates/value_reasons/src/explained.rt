@@ -7,9 +7,9 @@ use message_parts::Source;
 use std::alloc::Global;
 use tree_index::{FileFormat, TreeIndex};
 
-/// The index of a tree file, and the text of its grammar, which is read again for the positions of
-/// rules. The file is not in it: each call that reads records has an argument `device`, which has
-/// to contain the file.
+/// The index of a tree file, and its grammar, whose text is read again for the positions of rules.
+/// The struct does not have the file: each call that reads records has an argument `device`, which
+/// has to contain it.
 #[derive(Drop)]
 pub struct ExplainedTree<'a> {
     /// The allocator of the records that are read, and of the texts that calls make.
@@ -18,7 +18,7 @@ pub struct ExplainedTree<'a> {
     pub(crate) source: Source<'a>,
     /// The grammar as it was read from this text, with the offsets of its rules.
     pub(crate) raw: RawGrammar,
-    /// The grammar, its plan and the file's pass, by which records are read.
+    /// How records are read: the grammar, its plan and the file's pass.
     pub(crate) format: FileFormat<'a>,
     /// The index of the file.
     pub(crate) index: &'a TreeIndex,

@@ -37,7 +37,7 @@ enum NextToken {
     Token(u32),
     /// A symbol: the node of this number. The tokens below it come next.
     Below(u32),
-    /// Nothing: all items were visited, or the index does not have the next child.
+    /// Nothing: all items were visited, or the index or the grammar does not have the next one.
     Nothing,
 }
 

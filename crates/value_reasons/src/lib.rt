@@ -1,10 +1,10 @@
-//! Where the values in a tree file come from: what `aggen explain` prints, and what the message of
-//! O1 says of the error that the root's `out` is.
+//! Where the values in a tree file come from: what `aggen explain` prints and, if the root's `out`
+//! is an error, what the message of O1 says of this error.
 //!
 //! Control characters, white space other than the plain space, and some invisible characters are
 //! written as escapes, such as `\u{1b}`. In the text of a value, LF, tab and CR are `\n`, `\t` and
-//! `\r`; in a rule, a line break is a space. The functions that write to a `String` fail if memory
-//! is refused.
+//! `\r`. In a rule, a space replaces a line break and the white space around it. The functions that
+//! write to a `String` fail if memory is refused.
 #![tactic(auto)]
 
 mod attributes;

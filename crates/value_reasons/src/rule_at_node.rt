@@ -90,9 +90,9 @@ impl<'a> ExplainedTree<'a> {
 
     /// Writes a cause: the target of the rule in which the error arises, the rule's position, the
     /// text `place`, the values of the rule's arguments, and the number of rules that passed the
-    /// error on. `place` says where the rule's node is, and begins with a space. Writes nothing if
-    /// the node has no such rule. Fails with R1 if the node's record is damaged, with D1 if a call
-    /// of the device fails, and if memory is refused.
+    /// error on, unless this is 0. `place` says where the rule's node is, and begins with a space.
+    /// Writes nothing if the node has no such rule. Fails with R1 if the node's record is damaged,
+    /// with D1 if a call of the device fails, and if memory is refused.
     pub fn write_cause<D: Device>(
         &self,
         out: &mut String,

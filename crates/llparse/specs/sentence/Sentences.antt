@@ -30,7 +30,7 @@ pub record IsStuckAt (g : Grammar) (words : List Lexeme) (index : ℕ) : Type 0 
 -- the open nodes (P2), or the nodes that are open or done (P3). At some index the limit is reached: some tree begins with the
 -- words before the index, is cut at that index (`IsCutAt`), and `begun` of the open nodes above the cut is at least the limit.
 -- Each tree that begins with the words before the index, and continues with any words whose look-ahead is that of the given words
--- at the index, is beyond the limit. So each tree of the given words is beyond the limit. There may be no such tree.
+-- at the index, is beyond the limit. So each tree of the given words is beyond the limit (a law). There may be no such tree.
 pub record LeavesOnly (g : Grammar) (words : List Lexeme) (size : Tree → ℕ) (begun : List Open → ℕ) (limit : ℕ) : Type 0 where
   pub index : ℕ
   pub within : index ≤ length words

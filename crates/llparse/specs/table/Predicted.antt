@@ -52,8 +52,8 @@ IsLeastFrom qs marks from (Some p) =
     (from ≤ p.first) × AreConflicting qs marks p.first p.second
     × ((a b : ℕ) → from ≤ a → AreConflicting qs marks a b → IsNoLater p a b)
 
--- If `before` are the choices among the productions after this one, `after` are those among this one and the
--- productions after it, in any grammar in which this production has this symbol and this mark.
+-- Let the production with the number `production` have this symbol and this mark, in any lists of productions and of marks. If
+-- `before` are the choices among the productions after this one, `after` are those among this one and the productions after it.
 abbrev pub PutsEarliest : ℕ → ℕ → Bool → List (Option ℕ) → List (Option ℕ) → Type 0
 PutsEarliest symbol production mark before after =
     (qs : List Production) (marks : List Bool) (q : Production) → slice_get qs production ≡ Some q → q.left ≡ symbol

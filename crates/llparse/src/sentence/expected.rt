@@ -18,8 +18,8 @@ use ag_value::NoMemory;
 use std::alloc::Global;
 
 /// Takes the next token as `Parser::take` does, but writes no record and keeps no text. Fails with
-/// P1 if its terminal is not `terminal` or there is no token. Fails with P2 or P3 if `terminal` is
-/// a class and a limit is reached.
+/// P1 if there is no token, or if the token's terminal is not `terminal`. Fails with P2 or P3 if
+/// `terminal` is a class and a limit is reached.
 fn take_unwritten(parser: &mut Parser<'_>, terminal: Terminal) -> Result<(), ParseFault>
     ensures waiting { OnOk result (parser.new.waiting.items ≡ parser.old.waiting.items) }
     ensures count { OnOk result (parser.old.count ≤ parser.new.count) }
@@ -34,7 +34,8 @@ fn take_unwritten(parser: &mut Parser<'_>, terminal: Terminal) -> Result<(), Par
 }
 
 /// Returns the next item of an open node, and moves the node past it. Returns `None` at the node's
-/// end, and if the grammar doesn't have the node's production.
+/// end, and if the grammar doesn't have the node's production, as tables of another grammar may
+/// choose it.
 fn next_if_any(grammar: &Grammar, node: &mut OpenProduction) -> Option<Item>
     ensures { Advances (right_side grammar.now node.old.production) node.old result node.new }
 {
@@ -205,8 +206,8 @@ pub struct StuckPlace<'t> {
 }
 
 /// Runs a parser that takes as many tokens as it can, and writes nothing. Returns the parser, and
-/// whether `parse` fails with P1 where it stopped: the next token can't be taken, or the sentence
-/// can't end. Fails with NoMemory if memory is refused.
+/// whether `parse` fails with P1 where this parser stopped: the next token can't be taken, or the
+/// sentence can't end. Fails with NoMemory if memory is refused.
 fn run_until_stuck<'t>(
     alloc: Global,
     language: &Language<'_>,
@@ -245,16 +246,17 @@ fn position_after<'t>(
 
 /// Returns the place where `parse` refuses this sentence with P1, and the look-aheads expected
 /// there. Each look-ahead is tried after the tokens before that place, with all nodes that are open
-/// there, so one that the tables allow only in other contexts is not returned. If `parse` doesn't
-/// fail with P1, no look-ahead is returned, and the place is only where the parser stopped: at the
-/// end, or where it reached a limit. Here, `parse` is a call that fails neither with D1 nor with
-/// NoMemory.
+/// there. So a look-ahead that the tables allow only in other contexts is not returned. If `parse`
+/// doesn't fail with P1, no look-ahead is returned, and the place is only where the parser stopped:
+/// at the end, or where it reached a limit. (`parse` stands for a call that doesn't fail with D1 or
+/// NoMemory.) The contract says only that the look-aheads are literals of the grammar, classes or
+/// the end; the rest is tested.
 ///
 /// If the tables are not the grammar's, the result is the place where a parse by them is stuck, and
-/// what they allow there: literals of the grammar, classes and the end. Reads the tokens before the
-/// place twice, and copies the stack of open nodes there for each look-ahead of the grammar. Takes
-/// memory for three stacks of open nodes like the one of `parse` (without texts), and for the
-/// result. Fails with NoMemory if memory is refused.
+/// what they allow there. Reads the tokens before the place twice, and copies the stack of open
+/// nodes there for each look-ahead of the grammar. Takes memory for three stacks of open nodes like
+/// the one of `parse` (without texts), and for the result. Fails with NoMemory if memory is
+/// refused.
 pub fn expected_at<'t>(
     alloc: Global,
     grammar: &Grammar,

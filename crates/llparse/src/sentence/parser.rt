@@ -169,8 +169,8 @@ pub(crate) fn put_node<D: Device>(
     ensures device { BreaksWriter D.is_honest D.failures device.old device.new
         writer.new.is_broken (IsErrOf result ParseFault.Device) }
 {
-    // Most nodes have no texts. `put` is inlined: with a list that is known to be empty, the
-    // compiler drops its tests of the values.
+    // Most nodes have no texts. `put` is inlined: for a list that is known to be empty, the
+    // compiler drops the tests that `put` makes of the values.
     if texts.is_empty() {
         writer.put(device, Kind::Node, production, &[])?;
         return Ok(());
@@ -238,7 +238,9 @@ impl<'t> Parser<'t> {
 
     /// Opens a node of the symbol that `outer` has just passed. `outer` waits until this node ends.
     /// Fails with P1 if no production is predicted, with P2 or P3 if a limit is reached, and with
-    /// NoMemory if memory is refused.
+    /// NoMemory if memory is refused. Clause `steps`: the bound of the steps that remain falls, so
+    /// that the parse ends. Clause `counted`: the number of waiting nodes and the count rise by the
+    /// same number. Clause `calm`: the fault is never D1, since no device is called.
     #[inline(always)]
     pub(crate) fn open(
         &mut self,
@@ -267,9 +269,10 @@ impl<'t> Parser<'t> {
     }
 
     /// Takes the next token. If its terminal is a class, appends its record and keeps its text.
-    /// Fails with P1 if its terminal is not `terminal` or there is no token. For a class, fails
-    /// with P2 or P3 if a limit is reached, and as `put_leaf` does. Clause `written`: the nodes
-    /// counted so far are those whose records are written, those that wait, and the innermost one.
+    /// Fails with P1 if there is no token, or if the token's terminal is not `terminal`. For a
+    /// class, fails with P2 or P3 if a limit is reached, and as `put_leaf` does. Clause `written`:
+    /// the nodes counted so far are those whose records are written, those that wait, and the
+    /// innermost one.
     #[inline(always)]
     pub(crate) fn take<D: Device>(
         &mut self,

@@ -84,24 +84,22 @@ fn run<D: Device>(
 /// has the texts of the tokens of a class among its children.
 ///
 /// Requires tables of the grammar, a sentence whose tokens fit the grammar, and a writer that was
-/// just begun on the device with pass 0. The tokens are taken one by one. Of them, only the texts
-/// of the tokens of a class among the children of open nodes are kept. Takes memory for these
-/// texts, for a stack of sixteen bytes for each open node except the innermost one, and for one
-/// frame.
+/// just begun on the device with pass 0. The tokens are taken one by one. The parser keeps the
+/// texts of those tokens of a class that are children of open nodes. Takes memory for these texts,
+/// for a stack of sixteen bytes for each open node except the innermost one, and for one frame.
 ///
 /// Fails with P1 Unexpected if no tree has these tokens, unless a limit is reached first. Fails
-/// with P2 TooDeep or P3 TooManyNodes if the limit is reached at some token or at the end: some
-/// tree begins with the tokens before this point, and when the next node of this tree is to be
-/// opened, at least as many nodes are open as there may be levels (P2), or at least as many were
-/// opened as there may be nodes (P3). Each tree that begins with these tokens and continues with
-/// the look-ahead there is then beyond the limit, and so is each tree with all tokens, of which
-/// there may be none. Fails with D1 Device if the device failed, and with NoMemory if memory is
-/// refused.
+/// with P2 TooDeep or P3 TooManyNodes if the limit is reached at some token or at the end. This
+/// means: Some tree begins with the tokens before this point, and when the next node of this tree
+/// is to be opened, at least 65,536 nodes are open (P2), or at least 1,048,576 nodes were opened
+/// (P3). Each tree that begins with these tokens and continues with the look-ahead there is beyond
+/// the limit. So each tree with all tokens is beyond the limit; there may be no such tree. Fails
+/// with D1 Device if the device failed, and with NoMemory if memory is refused.
 ///
 /// After a fault an honest device has a prefix, possibly all, of a header of pass 0 followed by
-/// frames of bodies, each of 3 to 285,212,675 bytes. The contract does not say that the bodies are
-/// records of a tree: after P1 there is none. The writer is broken after D1, and after no other
-/// fault.
+/// frames. Each body has 3 to 285,212,675 bytes, the lengths that a tree file allows
+/// (`docs/FORMATS.md`). The contract does not say that the bodies are records of a tree: after P1
+/// there is none. The writer is broken after D1, and after no other fault.
 pub fn parse<D: Device>(
     alloc: Global,
     grammar: &Grammar,
@@ -116,7 +114,8 @@ pub fn parse<D: Device>(
     requires header { WhenHonest (D.is_honest device.old)
         (D.content device.old ≡ header version_two 0) }
 
-    // Ok: there is one tree, it is within the limits, and its file is written.
+    // Ok: there is one tree, it is within the limits, and its file is written. (`one` holds after a
+    // failure too.)
     ensures tree { IfOk result (λ _. (t : Tree)
         × IsTreeWith grammar.now (words_of sentence.now) t) }
     ensures one { (t u : Tree) → IsTreeWith grammar.now (words_of sentence.now) t

@@ -27,7 +27,7 @@ pub(crate) struct Column {
 }
 
 /// Returns the least conflict after one more production. Productions are handled from the last to
-/// the first, so the number of `production` is less than those handled so far. `chosen` is the
+/// the first, so `production` is less than the numbers of those handled so far. `chosen` is the
 /// choice so far for the symbol of `production`, and `conflict` is the least conflict so far. If
 /// there is a choice, it conflicts with `production`, and this pair is the least conflict: each
 /// other pair has a greater first production, or the same and a greater second one. Otherwise the

@@ -49,9 +49,10 @@ fn column_of(
     Ok(column)
 }
 
-/// Returns the lesser conflict, in the order of `tables`: `least`, or that of `pair` at `ahead`.
-/// This look-ahead comes after that of `least`, so if both have the same productions, `least` is
-/// the lesser. If there is only one of them, returns that one, and `None` if there is neither.
+/// Returns the lesser of two conflicts, in the order of `tables`: `least`, and the conflict of
+/// `pair` at `ahead`. The look-ahead of `least` comes before `ahead`, so if both have the same
+/// productions, `least` is the lesser. If there is only one conflict, returns this one, and `None`
+/// if there is none.
 fn lesser_conflict(least: Option<Conflict>, pair: Option<Pair>, ahead: Ahead) -> Option<Conflict>
     ensures { IsLesserConflict least pair ahead result }
 {

@@ -1,5 +1,6 @@
 //! The nullable symbols. Each production becomes a Horn clause of the crate `closure`, with the
-//! left side as the head, and the items of the right side as the body.
+//! left side as the head, and the items of the right side as the body: the head is nullable if each
+//! item of the body is.
 ghost use Rattle.std.specs.Prelude.{◌≡◌, IfOk};
 ghost use Rattle.closure.specs.Following.{is_marked};
 ghost use Rattle.llparse.specs.table.Nullable as spec;

@@ -49,8 +49,8 @@ pub fn locate_conflict(fault: TableFault, text: &GrammarText<'_>) -> Location {
     }
 }
 
-/// Describes L1: the productions that conflict, at which look-ahead, and what to do. Writes nothing
-/// if memory for reading the text again is refused.
+/// Describes L1: the two productions, the look-ahead that predicts both, and what to do. Writes
+/// nothing if memory for reading the text again, or for numbering its names, is refused.
 pub fn describe_conflict(
     parts: &mut Parts,
     fault: TableFault,

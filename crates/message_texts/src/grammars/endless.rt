@@ -7,7 +7,7 @@ use std::alloc::Global;
 use std::collections::HashSet;
 
 /// The greatest number of rounds over all productions. Each round finds symbols that end. The limit
-/// bounds the time for a message; without the names the message is shorter.
+/// bounds the time for a message. If it is reached, the message names only one symbol.
 const MAX_ROUNDS: usize = 64;
 
 /// Returns the names of the symbols that never end, in declared order. None if the last of

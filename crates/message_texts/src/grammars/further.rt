@@ -1,6 +1,6 @@
 //! Counts the faults of a grammar that have the number (such as N1) of its first fault, and lists
-//! missing rules. In this file a place is a number in a production: 0 is the left side, and 1, 2, ..
-//! are the symbols and classes of the right side.
+//! missing rules. In this file a place is a number in a production: 0 is the left side, and 1, 2,
+//! .. are the symbols and classes of the right side.
 
 use ag_grammar::{Named, Occ, RawGrammar, RawItem, RawProduction, RawSymbol, occurrences};
 use ag_value::NoMemory;
@@ -91,9 +91,9 @@ impl<'a> Declarations<'a> {
         Ok(())
     }
 
-    /// Returns the number of faults in productions that are of the kind of `fault`, if this kind is
-    /// N1, N7, N8 or N9, and 0 for other kinds. An occurrence that is several times in an
-    /// expression counts once. Takes memory.
+    /// Returns the number of faults of the kind of `fault` in productions. Counts only N1, N7, N8
+    /// and N9, and returns 0 for other kinds. An occurrence that is several times in an expression
+    /// counts once. Takes memory.
     fn count(
         &self,
         fault: &NormalFault,
@@ -269,8 +269,8 @@ impl<'a> Declarations<'a> {
     }
 }
 
-/// Returns the number of faults of a grammar besides `fault` that are of its kind, if it is N1, N7,
-/// N8 or N9, and 0 for other kinds. Takes memory.
+/// Returns the number of faults of a grammar that are of the kind of `fault`, without `fault`
+/// itself. Counts only N1, N7, N8 and N9, and returns 0 for other kinds. Takes memory.
 pub fn count_further(
     alloc: Global,
     fault: &NormalFault,
@@ -281,8 +281,8 @@ pub fn count_further(
     Ok(count.saturating_sub(1))
 }
 
-/// Returns the number of symbols of a production that are not declared if the fault is N1, and else
-/// 0.
+/// If the fault is N1, returns the number of places of a production whose symbol is not declared.
+/// Otherwise returns 0.
 fn undeclared_in(fault: &NormalFault, places: &[ItemAtPlace]) -> usize {
     match fault {
         NormalFault::UnknownName(_) => places

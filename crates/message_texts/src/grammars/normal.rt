@@ -69,7 +69,7 @@ pub fn describe_normal(
 }
 
 /// Returns whether a fault is N1, N7, N8 or N9. Messages about these have the number of further
-/// faults of the same kind.
+/// faults of the same kind. (Messages about N4 and N6 mention the others in their own way.)
 fn is_of_one_place(fault: &NormalFault) -> bool {
     matches!(
         fault,
@@ -442,7 +442,8 @@ fn describe_elsewhere(
     }
 }
 
-/// Describes N9: that a production defines what a rule of it uses, and what the rule can use.
+/// Describes N9: that a rule uses an attribute which its own production defines, and what the rule
+/// can use instead.
 fn describe_unusable(
     parts: &mut Parts,
     raw: &RawGrammar,
@@ -463,7 +464,7 @@ fn describe_unusable(
 
 /// Writes the occurrences that the rules of a production define if `is_defined`, and otherwise
 /// those that the rules can use: the first `MAX_NAMED`, and whether there are more. Returns the
-/// number of all these occurrences, with those that are not written.
+/// number of all these occurrences, written or not.
 fn write_occurrences(
     out: &mut String,
     raw: &RawGrammar,

@@ -18,9 +18,9 @@ const MAX_NAMED_RULES: usize = 8;
 /// waits for the rule of that strike.
 ///
 /// The message names rules of one direction that wait for no other rule, at most `MAX_NAMED_RULES`.
-/// It chooses the direction with fewer such rules. If both directions have the same number of them,
-/// it chooses the direction of pass 1, from right to left. Writes nothing if memory for reading the
-/// text again is refused.
+/// It chooses the direction with fewer such rules (docs/DECISIONS.md says why). If both directions
+/// have the same number of them, it chooses the direction of pass 1, from right to left. Writes
+/// nothing if memory for reading the text again is refused.
 pub fn describe_stuck(
     parts: &mut Parts,
     stuck: &Stuck,
@@ -69,8 +69,8 @@ enum Reason {
     Within,
 }
 
-/// The target of a rule that a pass reaches before one of its arguments is computed, and that
-/// argument.
+/// A rule that a pass reaches before an argument of the rule is computed: the rule's target, that
+/// argument, and the reason.
 #[derive(Clone, Copy)]
 struct Obstacle<'a> {
     target: &'a Occ,
@@ -105,8 +105,9 @@ struct DirectionStrikes<'a> {
 }
 
 impl<'a> DirectionStrikes<'a> {
-    /// Returns the rule of a strike that waits for no other strike. None if the strike waits for
-    /// one, or if the grammar does not have the rule or its argument.
+    /// Returns the obstacle of a strike that waits for no other strike: the target and the argument
+    /// of its rule, and the reason. None if the strike waits for another one, or if the grammar
+    /// does not have the rule or the argument.
     fn obstacle(&self, strike: Strike) -> Option<Obstacle<'a>> {
         let productions = self.raw.productions.as_slice();
         let production = productions.get(usize::from(strike.production))?;

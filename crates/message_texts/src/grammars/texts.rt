@@ -1,4 +1,4 @@
-//! Texts that read as no grammar.
+//! Texts that are not grammars.
 
 use crate::expected::write_expected;
 use crate::expressions::{describe_fault, offset_in};
@@ -19,8 +19,8 @@ const LITERAL_NEEDS: &str =
 /// What a writer may have meant by a name that no `let` binds.
 const ATTRIBUTE: &str = "an attribute is written with its place, as in `$1.s`";
 
-/// Returns the location from which on a text can't be read as a grammar, or `Whole` if the text is
-/// too long or memory was refused.
+/// Returns the location of a fault of a grammar's text. `Whole` if the text is too long, or if
+/// memory was refused.
 pub fn locate_in_text(fault: TextFault, text: &GrammarText<'_>) -> Location {
     match offset_of(fault) {
         Some(at) => text.location(at),
@@ -28,8 +28,7 @@ pub fn locate_in_text(fault: TextFault, text: &GrammarText<'_>) -> Location {
     }
 }
 
-/// Returns the offset in bytes from which on a text can't be read as a grammar. None if the fault
-/// has none.
+/// Returns the offset in bytes of a fault of a grammar's text. None if the fault has none.
 fn offset_of(fault: TextFault) -> Option<usize> {
     match fault {
         TextFault::BadUtf8(at) | TextFault::Unexpected(_, at) => Some(at),
@@ -91,17 +90,18 @@ fn describe_rule(
     Ok(())
 }
 
-/// Returns the fault of what was found, if it begins with a quote where an item is expected, or
-/// with a `$` where a rule is expected (a rule begins with its target, such as `$1.sum`), and no
-/// token begins there. None otherwise.
+/// Returns why what was found begins with no token, if a literal or a rule was meant. A literal is
+/// meant by a quote where an item is expected. A rule is meant by a `$` where a rule is expected,
+/// since a rule begins with its target, such as `$1.sum`. None if neither was meant, or if what was
+/// found begins with a token.
 fn damaged_token(found: Option<&str>, expected: &[Expected]) -> Option<ExprFault> {
     let is_meant = begins_with(found, '"') && expected.contains(&Expected::Item)
         || begins_with(found, '$') && expected.contains(&Expected::Rule);
     if is_meant { token_fault(found?) } else { None }
 }
 
-/// Describes a token outside the expressions, and what the text could go on with, or what is wrong
-/// with the literal there.
+/// Describes a token outside the expressions, and what the text could go on with. At a text in
+/// quotes where an item is expected, writes instead what a literal needs.
 fn describe_unexpected(
     parts: &mut Parts,
     context: &Context<'_>,

@@ -62,8 +62,8 @@ pub fn describe_scan(
     }
 }
 
-/// Describes S2 at a quote that begins no TEXT, with the quote before it if that is in another
-/// line.
+/// Describes S2 at a quote that begins no TEXT. `before` is the position of the previous quote if
+/// that is in another line: the fault may be there.
 fn describe_quote(parts: &mut Parts, before: Option<Place<'_>>) -> Result<(), AllocError> {
     parts.add(NO_SECOND_QUOTE, ADD_QUOTE)?;
     match before {

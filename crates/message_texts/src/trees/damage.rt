@@ -14,7 +14,7 @@ use treefile::{Device, FileVersion, HEADER_BYTES};
 /// What is expected of a tree file.
 const TREE_FILE: &str = "expected a tree file, which begins with `AGT2` and the number of a pass";
 
-/// What is expected of a tree file of version 1, which is converted.
+/// What is expected of a file that `upgrade` converts.
 const OLD_FILE: &str =
     "expected a tree file of version 1, which begins with `AGT1` and the number of a pass";
 
@@ -34,7 +34,7 @@ const AGAIN: &str = "make the file again by `aggen parse` with this grammar";
 const AGAIN_OR_UPGRADE: &str =
     "make the file again by `aggen parse` with this grammar, or convert one that begins with `AGT1` by `aggen upgrade`";
 
-/// What to do about a file that is not of version 1.
+/// What to do about a file that `upgrade` can't convert, since it is not of version 1.
 const NO_UPGRADE: &str =
     "a file that begins with `AGT2` needs no upgrade, make any other again by `aggen parse` with this grammar";
 
@@ -57,8 +57,8 @@ pub struct TreeFormat<'a> {
 
 /// Describes R1 of a tree file at the offset `at` in bytes. If a record is damaged, and not the
 /// header, the file is read once more from its end. If `expected_before` returns None, the message
-/// doesn't say what was expected. If the record that ends at `at` can't be read, the message says
-/// that none ends there or, at the end of the header, that there are no more records.
+/// doesn't say what was expected. If no record that ends at `at` can be read, the message says that
+/// no record ends there. If `at` is the end of the header, it says that there are no more records.
 pub fn describe_damage<D: Device>(
     alloc: Global,
     parts: &mut Parts,
@@ -117,8 +117,9 @@ impl TreeFormat<'_> {
         parts.help.push_str(AGAIN)
     }
 
-    /// Writes what ends at the offset `at`: a record, with the number of bytes of its values, or
-    /// none. Before the values a body has 3 bytes, with the record's kind and number.
+    /// Writes which record ends at the offset `at`, with the number of bytes of its values, or that
+    /// no record ends there. Before the values a body has 3 bytes, with the record's kind and
+    /// number.
     fn write_found(
         &self,
         out: &mut String,
@@ -185,7 +186,8 @@ impl TreeFormat<'_> {
         }
     }
 
-    /// Describes P2 of a tree file, and what to do.
+    /// Describes P2 of a tree file, and what to do. `upgrade` has a lower limit, since it recurses
+    /// over the tree.
     pub fn describe_depth_limit(&self, parts: &mut Parts) -> Result<(), AllocError> {
         let most = match self.version {
             FileVersion::One => MAX_REVERSED_DEPTH,
@@ -194,7 +196,8 @@ impl TreeFormat<'_> {
         parts.add_tree_limit(most, "levels", FILE, NEST_LESS)
     }
 
-    /// Describes P3 of a tree file, and what to do.
+    /// Describes P3 of a tree file, and what to do. `upgrade` has a lower limit: no program wrote a
+    /// larger tree in version 1.
     pub fn describe_node_limit(&self, parts: &mut Parts) -> Result<(), AllocError> {
         let most = match self.version {
             FileVersion::One => MAX_REVERSED_NODES,

@@ -23,7 +23,7 @@ pub struct Frame {
 }
 
 /// Returns the frame that ends at the offset `end`, in bytes, of a tree file of this version. None
-/// if no frame ends there, or if it can't be read. Takes no memory.
+/// if no frame ends there, or if the file can't be read there. Takes no memory.
 pub fn frame_before<D: Device>(version: FileVersion, tree: &mut D, end: u64) -> Option<Frame>
     ensures content { LeavesContent (D.is_honest tree.new)
         (D.content tree.old) (D.content tree.new) }

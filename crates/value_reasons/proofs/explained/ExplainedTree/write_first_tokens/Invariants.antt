@@ -1,6 +1,7 @@
 use Rattle.treefile.specs.devices.Device.{LeavesContent, Persists}
 use Rattle.value_reasons.proofs.explained.ExplainedTree.write_first_tokens.Given as goal
 
+-- the calls so far have left the content of an honest device unchanged, and `Persists` holds of all of them together
 abbrev pub invariant-loop-turn : goal.invariant-loop-turn
 invariant-loop-turn g l = record {
   content : LeavesContent (g.D.Device.is_honest l.device) (g.D.Device.content l.fn.device) (g.D.Device.content l.device);
