@@ -82,11 +82,12 @@ Outcome Fault A = Result (A × Input) Fault
 abbrev pub Parser : Type 0 → Type 0 → Type 0
 Parser Fault A = Input → Outcome Fault A
 
--- runs the parser `f a` on the remaining input, if a is the outcome's value; keeps a fault. In `p >>= f`, p has this outcome
+-- if the outcome has a value a and a remaining input, runs the parser `f a` on this input; keeps a fault
 abbrev pub and_then : {Fault A B : Type 0} → Outcome Fault A → (A → Parser Fault B) → Outcome Fault B
 and_then (Ok p) f = f p.0 p.1
 and_then (Err e) f = Err e
 
+-- runs the parser p, and then f with the value and the remaining input of p's outcome
 infixl 10 ◌>>=◌
 abbrev pub ◌>>=◌ : {Fault A B : Type 0} → Parser Fault A → (A → Parser Fault B) → Parser Fault B
 p >>= f = λ i. and_then (p i) f

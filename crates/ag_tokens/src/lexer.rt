@@ -460,8 +460,8 @@ fn plain_token<'t>(
 /// Reads the first token of a text; returns it and the text after it. Fails with `Nothing` if no
 /// token begins there, and with `TooLarge` if the number or place of the token is above its limit.
 ///
-/// The functions that read a name, a quoted text or an occurrence are not inlined, and return less
-/// than a whole token; so this function assembles the token in registers.
+/// For speed, the functions that read a name, a quoted text or an occurrence are not inlined and
+/// return only the parts of a token. So this function assembles the token in registers.
 #[inline(never)]
 #[tactic(auto, using(crate::proofs::Numerals::some_digit), unfolding(crate::specs::Lexing::token_from))]
 pub fn leading_token(text: &str) -> Result<(GrammarToken<'_>, &str), TokenFault>
