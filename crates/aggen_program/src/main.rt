@@ -14,12 +14,9 @@
 
 ghost use Rattle.aggen.specs.Status.{IsCommandFault};
 
-mod listings;
-mod why;
-
 use aggen::{Fault, status};
 use command_line::{CommandLine, CommandLineFault, Request};
-use listings::{Part, print_part, print_value};
+use grammar_commands::{Part, explain_plan, print_part, print_value};
 use messages::FaultReport;
 use program_io::fault_or;
 use screen::Screen;
@@ -30,7 +27,6 @@ use std::process::ExitCode;
 use std::rt::{Clock, Env, Files};
 use translation_commands::{evaluate, run_input, run_sentence, run_sentences};
 use tree_commands::{convert_file, explain_tree, parse_file, show_tree};
-use why::explain_plan;
 
 /// A path that can be opened, but whose file can be neither read nor written.
 const FOLDER: &str = "/";

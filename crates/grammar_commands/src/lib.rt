@@ -1,0 +1,9 @@
+//! The commands about a grammar, which need no sentence and no tree: `check`, `plan`, `code` and
+//! `why`. Also `value`, which evaluates an expression.
+#![tactic(auto)]
+
+mod listings;
+mod why;
+
+pub use listings::{Part, print_part, print_value};
+pub use why::explain_plan;
