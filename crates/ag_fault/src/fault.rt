@@ -14,11 +14,10 @@ use ag_job::JobFault;
 use ag_scan::ScanFault;
 use ag_text::TextFault;
 use ag_value::{NoMemory, Value};
-use agoutput::{ListingFault, TextOutFault};
+use agoutput::{ListingFault, OutFault, TextOutFault};
 use llparse::{ParseFault, TableFault};
 use normalform::NormalFault;
 use pass_rows::RunFault;
-use roottext::OutFault;
 use std::alloc::AllocError;
 use treefile::{DeviceFault, FileFault, FrameFault};
 

@@ -24,8 +24,8 @@ use Rattle.passrun.specs.declared.passing.ends.Passed.{Passed}
 use Rattle.aggen.specs.declared.translations.report.Report.{Report}
 use Rattle.pass_rows.specs.declared.run_fault.RunFault.{RunFault}
 use Rattle.pass_rows.specs.declared.run_fault.RunFault.TheVariants as run
-use Rattle.roottext.specs.declared.fault.OutFault.{OutFault}
-use Rattle.roottext.specs.declared.fault.OutFault.TheVariants as out
+use Rattle.agoutput.specs.declared.out_fault.OutFault.{OutFault}
+use Rattle.agoutput.specs.declared.out_fault.OutFault.TheVariants as out
 use Rattle.ag_fault.specs.Faults.{out_fault_of, run_fault_of}
 use Rattle.aggen.specs.Translation.{BeginsTranslation, IsOneTree}
 use Rattle.passrun.specs.Rounds.{last_content}

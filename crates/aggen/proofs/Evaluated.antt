@@ -36,8 +36,8 @@ use Rattle.passrun.specs.Rounds.{HasRunAll, last_content, other_content, other_l
 use Rattle.passrun.proofs.Totals.{greatest_is_last}
 use Rattle.agoutput.specs.Writing.{AppendsBeginning}
 use Rattle.roottext.specs.Roots.{IsRootText, MatchesRoot}
-use Rattle.roottext.specs.declared.fault.OutFault.{OutFault}
-use Rattle.roottext.specs.declared.fault.OutFault.TheVariants as out
+use Rattle.agoutput.specs.declared.out_fault.OutFault.{OutFault}
+use Rattle.agoutput.specs.declared.out_fault.OutFault.TheVariants as out
 use Rattle.aggen.specs.Building.{IsLeastPlan}
 use Rattle.aggen.specs.Evaluating.{AreLeftOfTree, EvaluatesTree, IsEvaluationFault, IsTreeFaultBeforeText, LeavesFilesOfTree}
 use Rattle.ag_fault.specs.Faults.{out_fault_of, run_fault_of}

@@ -12,8 +12,8 @@ use Rattle.ag_scan.specs.declared.fault.ScanFault.{ScanFault}
 use Rattle.ag_scan.specs.declared.fault.ScanFault.TheVariants as scan
 use Rattle.pass_rows.specs.declared.run_fault.RunFault.{RunFault}
 use Rattle.pass_rows.specs.declared.run_fault.RunFault.TheVariants as run
-use Rattle.roottext.specs.declared.fault.OutFault.{OutFault}
-use Rattle.roottext.specs.declared.fault.OutFault.TheVariants as out
+use Rattle.agoutput.specs.declared.out_fault.OutFault.{OutFault}
+use Rattle.agoutput.specs.declared.out_fault.OutFault.TheVariants as out
 use Rattle.treefile.specs.devices.Device.{WhenHonest}
 use Rattle.treefile.specs.records.FirstFile.{IsFirstFile, no_passes}
 use Rattle.treefile.specs.records.Orders.{postfix}

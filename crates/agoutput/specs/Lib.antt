@@ -1,4 +1,5 @@
 pub mod Lines
 pub mod Listings
+pub mod OutFaults
 pub mod Sample
 pub mod Writing

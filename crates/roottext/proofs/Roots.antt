@@ -34,9 +34,9 @@ use Rattle.treefile.proofs.framing.Files.{damaged_at_end}
 use Rattle.treefile.proofs.records.Fitting.{fits_version_two}
 use Rattle.treefile.proofs.framing.Root.{root_is_last, values_are_whole}
 use Rattle.treefile.proofs.records.Spelled.{same_node}
-use Rattle.roottext.specs.declared.fault.OutFault.{OutFault}
-use Rattle.roottext.specs.declared.fault.OutFault.TheVariants as out_fault
-use Rattle.roottext.specs.Faults.{out_fault_of}
+use Rattle.agoutput.specs.declared.out_fault.OutFault.{OutFault}
+use Rattle.agoutput.specs.declared.out_fault.OutFault.TheVariants as out_fault
+use Rattle.agoutput.specs.OutFaults.{out_fault_of}
 use Rattle.roottext.specs.Roots.{EndsWithNoRoot, EndsWithRoot, FindsText, FindsValue, IsRootRecord, MatchesRoot}
 
 -- no attribute of a symbol is of a later pass than the greatest

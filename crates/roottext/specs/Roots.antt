@@ -16,8 +16,8 @@ use Rattle.treefile.specs.records.Records.{IsFileOfTree}
 use Rattle.treefile.specs.records.TreeFile.{version_two}
 use Rattle.treefile.specs.declared.reading.FrameFault.{FrameFault}
 use Rattle.treefile.specs.declared.reading.FrameFault.TheVariants as frame_fault
-use Rattle.roottext.specs.declared.fault.OutFault.{OutFault}
-use Rattle.roottext.specs.declared.fault.OutFault.TheVariants as out_fault
+use Rattle.agoutput.specs.declared.out_fault.OutFault.{OutFault}
+use Rattle.agoutput.specs.declared.out_fault.OutFault.TheVariants as out_fault
 
 -- A body is a root's record in a file of the last pass: the record of a node of the start symbol, with well values. It has the
 -- value x for `out`.

@@ -1,8 +1,7 @@
 //! Reading the translation from the tree file of the last pass.
 #![tactic(auto)]
 
-mod fault;
 mod root;
 
-pub use fault::OutFault;
+pub use agoutput::OutFault;
 pub use root::root_text;

@@ -11,10 +11,10 @@ ghost use Rattle.treefile.specs.devices.Device.{LeavesContent, Persists, WhenHon
 ghost use Rattle.roottext.specs.Roots.{FindsText, FindsValue, IsRootRecord, IsWellText};
 ghost use Rattle.roottext.specs.Roots.{MatchesRoot};
 
-use crate::fault::OutFault;
 use ag_carried::Carried;
 use ag_grammar::Grammar;
 use ag_value::{Text, Value};
+use agoutput::OutFault;
 use passrun::{RecordFault, Setting, read_node};
 use planchecker::Plan;
 use std::alloc::Global;

@@ -1,9 +1,9 @@
 use Rattle.std.proofs.Common.{rules, Err, Ok, subst}
 use Rattle.std.proofs.lemmas.Result.{err_from_is_err_and}
 use Rattle.ag_value.specs.Well.{IsWell}
-use Rattle.roottext.specs.Faults.{out_fault_of}
+use Rattle.agoutput.specs.OutFaults.{out_fault_of}
 use Rattle.roottext.specs.Roots.{EndsWithRoot}
-use Rattle.roottext.specs.declared.fault.OutFault.TheVariants as out_fault
+use Rattle.agoutput.specs.declared.out_fault.OutFault.TheVariants as out_fault
 use Rattle.roottext.proofs.Roots.{fault_found, found_matches_root}
 use Rattle.roottext.proofs.root.root_text.Goals as goal
 

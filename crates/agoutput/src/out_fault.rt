@@ -1,7 +1,7 @@
 //! The reasons why no text can be read from the file of the last pass.
 
 ghost use Rattle.std.specs.Prelude.{◌≡◌};
-ghost use Rattle.roottext.specs.Faults.{out_fault_of};
+ghost use Rattle.agoutput.specs.OutFaults.{out_fault_of};
 
 use ag_value::Value;
 use treefile::FrameFault;

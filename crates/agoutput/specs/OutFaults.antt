@@ -1,8 +1,8 @@
 -- The fault that `root_text` returns for a fault of the tree file (this project's).
 use Rattle.treefile.specs.declared.reading.FrameFault.{FrameFault}
 use Rattle.treefile.specs.declared.reading.FrameFault.TheVariants as frame_fault
-use Rattle.roottext.specs.declared.fault.OutFault.{OutFault}
-use Rattle.roottext.specs.declared.fault.OutFault.TheVariants as out_fault
+use Rattle.agoutput.specs.declared.out_fault.OutFault.{OutFault}
+use Rattle.agoutput.specs.declared.out_fault.OutFault.TheVariants as out_fault
 
 -- each fault becomes the one of the same name
 abbrev pub out_fault_of : FrameFault → OutFault
