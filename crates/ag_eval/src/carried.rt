@@ -22,8 +22,8 @@ use std::alloc::Global;
 ///
 /// Takes memory as `eval` does, but none for a copy of a result that is the value of an occurrence,
 /// a shared text or a tree. Every other result that is not a number or an error is stored in memory
-/// that its owners share, with its encoding if that has more than 24 bytes. Fails with `NoMemory`
-/// if memory is refused.
+/// that its owners share. If its encoding has more than 24 bytes, the encoding is stored beside it.
+/// Fails with `NoMemory` if memory is refused.
 #[inline(always)]
 pub fn eval_carried<C: CarriedEnvironment>(
     alloc: Global,

@@ -283,8 +283,9 @@ impl<'e, V: Lender> Evaluation<'e, V> {
         Ok(Operand::owned(list.into_list()))
     }
 
-    /// Evaluates the expression. Tries two cases first, since they need no `Operand`: the
-    /// expression is one occurrence or literal, or `scalar` computes its value.
+    /// Evaluates the expression. First tries two ways that need no `Operand`, since most rules are
+    /// flat expressions: the expression is one occurrence or literal, or `scalar` computes its
+    /// value.
     #[inline(never)]
     fn value(&self) -> Result<Value, NoMemory>
         ensures value { IfOk result (λ v. v

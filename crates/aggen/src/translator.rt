@@ -197,9 +197,9 @@ impl Translator {
     ///
     /// After O1 and O2 the devices have the last two tree files. After P `a` has a prefix of a file
     /// of pass 0. After D1 and NoMemory each device has its old content, or a prefix of a file of
-    /// some pass. A file of a pass here is any header and frames, as with `parse_tree`: after P1
-    /// the sentence has no tree. The next call can use the devices in any state, since it clears
-    /// each device before it writes to it. Claims on contents hold if the devices return the bytes
+    /// some pass. A file of a pass here is any header with any frames after it, as with
+    /// `parse_tree`. The next call can use the devices in any state, since it clears each device
+    /// before it writes to it. What is said here of contents holds if the devices return the bytes
     /// that were written to them.
     #[tactic(auto, using(crate::proofs::Begun::begun))]
     pub fn translate<D: Device, W: Write>(

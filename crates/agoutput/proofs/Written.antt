@@ -1,8 +1,14 @@
 -- The bytes of a writer after one more write: it took some bytes, or it failed.
-use Rattle.std.proofs.Common.{ℕ, List, ◌++◌, take, drop, Option, Some, None, sym, ap, ◌∙◌, append_assoc}
+use Rattle.std.proofs.Common.{ℕ, List, ◌++◌, take, drop, Option, Some, None, ◌≡◌, sym, ap, ◌∙◌, append_assoc}
 use Rattle.std.proofs.lemmas.List.{take-append-drop}
 use Rattle.std.specs.Io.KnownBytes.{Appends, Keeps}
-use Rattle.agoutput.specs.Writing.{AppendsBeginning, HasWritten}
+use Rattle.agoutput.specs.Writing.{AppendsBeginning}
+
+-- `bytes` without its suffix `rest` was appended to the writer's bytes, if contracts can name these
+pub record HasWritten (old new : Option (List ℕ)) (bytes rest : List ℕ) : Type 0 where
+  pub prefix : List ℕ
+  pub cut : bytes ≡ prefix ++ rest
+  pub put : Appends old new prefix
 
 -- bytes were appended, and then more bytes or none
 appended : (old mid new : Option (List ℕ)) (xs ys : List ℕ) → Appends old mid xs → Appends mid new ys → Appends old new (xs ++ ys)

@@ -9,7 +9,7 @@ IsSymbolNamed symbols s name = (x : Symbol) × (slice_get symbols s ≡ Some x) 
 
 -- A text names an attribute of the grammar g: the attribute of number a of the symbol of number s, both from 0. The text is the
 -- name of the symbol, a dot (its code is 46), and the attribute's own name. `attribute_names` has a symbol's synthesized
--- attributes first, then the inherited ones. This project's.
+-- attributes first, then the inherited ones.
 pub record IsAttributeNamed (g : Grammar) (text : List ℕ) (s a : ℕ) : Type 0 where
   pub symbol : Symbol
   pub own : List ℕ

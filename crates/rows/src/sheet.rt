@@ -42,11 +42,12 @@ pub fn try_rows<R: Input + Print, Q: Questions>(
     println!(rt; "{} answers are right", sheet.right)
 }
 
-/// Runs the lines on standard input. Prints what is wrong with a line after the line's number, from
-/// 1. If a row has too few lines `= ANSWER`, some lines of the answer are not compared. Then a
-/// message is printed with the number of the next line that is not empty, a comment or an answer.
-/// If that line has a mistake, only the mistake is printed. If no such line follows, the message
-/// has the number of the last line. Fails as `try_rows` does.
+/// Runs the lines on standard input, and prints what is wrong with each, after its number from 1.
+///
+/// If a row has too few lines `= ANSWER`, this is found at the first line after the row, apart from
+/// comments and empty lines, and is printed with the number of that line. It is not printed if that
+/// line has a mistake of its own. After the last row it is printed with the number of the last
+/// line. Fails as `try_rows` does.
 fn take_lines<R: Input + Print, Q: Questions>(
     rt: &R,
     alloc: Global,

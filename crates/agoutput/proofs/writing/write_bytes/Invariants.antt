@@ -1,5 +1,5 @@
 use Rattle.std.proofs.Common.{length}
-use Rattle.agoutput.specs.Writing.{HasWritten}
+use Rattle.agoutput.proofs.Written.{HasWritten}
 use Rattle.agoutput.proofs.writing.write_bytes.Given as goal
 
 abbrev pub invariant-loop-rest : goal.invariant-loop-rest
