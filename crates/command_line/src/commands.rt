@@ -287,8 +287,8 @@ fn sentences<'a>(alloc: Global) -> Arg<'a> {
     .action(ArgAction::Append)
 }
 
-/// Returns the argument that is an expression. A word that begins with a hyphen is an expression
-/// here, and not an option: `-1` is then refused with X2, whose message says how to write it.
+/// Returns the argument that is an expression. A word that begins with a hyphen, and is no option
+/// of `value`, is an expression: `-1` is then refused with X2, whose message says how to write it.
 fn expression<'a>(alloc: Global) -> Arg<'a> {
     Arg::new(alloc, EXPRESSION)
         .required(true)

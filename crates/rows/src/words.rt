@@ -50,8 +50,8 @@ pub fn short_number(word: &str) -> Result<u16, Mistake> {
 }
 
 /// Returns the parts of a text between separators, or no part for the text `-`. An empty text has
-/// one empty part. The separator must not be empty. (A text has at most as many separators of at
-/// least one byte as it has bytes, so the loop finds all of them.) Fails if memory is refused.
+/// one empty part. The separator must not be empty. (So a text of n bytes has at most n separators,
+/// and the loop finds them all.) Fails if memory is refused.
 pub fn parts<'a>(
     alloc: Global,
     text: &'a str,

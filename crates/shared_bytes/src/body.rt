@@ -44,8 +44,8 @@ impl<'a> Model for Body<'a> {
         × (b.base + length b.own.now < 2 ^ 64) };
 }
 
-/// Returns the number of own bytes of the whole list before `offset`: `from`, the number of those
-/// before the offset `start`, plus the number of bytes from `start` to `offset`. This is right if
+/// Returns the number of own bytes of the whole list before `offset`, given that `from` of them are
+/// before the offset `start`: adds the number of bytes from `start` to `offset`. This is right if
 /// no splice is between the two offsets, which the callers check. Returns `None` if `offset` is
 /// before `start`, or if the number would exceed `end`.
 fn own_from(from: usize, start: u64, end: usize, offset: u64) -> Option<usize>
@@ -173,8 +173,8 @@ impl<'a> Body<'a> {
     }
 
     /// Returns the number of shared values of this part that begin before an offset, in bytes from
-    /// the first byte of the part, for calls of `cut`. No clause states the result. With a wrong
-    /// number `cut` returns `None`, or still the right parts.
+    /// the first byte of the part, for calls of `cut`. No clause states the result. The clauses of
+    /// `cut` hold for every number.
     pub fn splices_before(&self, offset: u64) -> usize {
         let place = self.at.saturating_add(offset);
         self.splices.partition_point(|splice| splice.at < place)
