@@ -32,7 +32,8 @@ enum Source {
 
 /// The encoding of a large value, a shared text or a tree. An `Encoded` is one more owner of that
 /// value. Contracts see the bytes. `append_to` and `share` fail with AllocError, as the calls of
-/// `Vec` do, and `value` with NoMemory, as those of `Carried` do. Both faults mean the same.
+/// `Vec` do, and `value` with NoMemory, as those of `Carried` do. Both faults have the causes that
+/// README.md lists.
 #[derive(Drop)]
 pub struct Encoded {
     source: Source,
@@ -119,8 +120,8 @@ impl Encoded {
         }
     }
 
-    /// Appends a copy of the bytes to a vector. Fails with AllocError if memory runs out; the
-    /// vector is then unchanged.
+    /// Appends a copy of the bytes to a vector. Fails with AllocError if memory is refused, or if
+    /// the vector would have 2^64 bytes or more; its bytes are then unchanged.
     pub fn append_to(&self, out: &mut Vec<u8>) -> Result<(), AllocError>
         ensures ok { OnOk result (out.new.items ≡ out.old.items ++ self.now) }
         ensures err { OnErr result (out.new.items ≡ out.old.items) }

@@ -14,8 +14,9 @@ use rope::Rope;
 use std::alloc::{AllocError, Global};
 use std::marker::Model;
 
-/// The greatest length in bytes of a text that `++` (the operator of expressions) is to make flat,
-/// that is, in one string. It is to make a longer one a `SharedText`.
+/// The greatest length in bytes of a flat text (one string) that the operator `++` of expressions
+/// makes. `++` makes a longer text as a `SharedText`. `ag_eval` keeps to this limit; no contract
+/// says so.
 pub const MAX_FLAT_TEXT: usize = 256;
 
 /// The number of bytes before those of a text in its encoding: one for the kind of a text, and four

@@ -1,4 +1,4 @@
--- Arguments none of which is an error, and arguments of which one is.
+-- Arguments none of which is an error; the value of an operator if an argument is an error.
 use Rattle.std.proofs.Common.{◌≡◌, ℤ, [], ◌∷◌, Option, Some, None, ap, refl, sym, ◌∙◌}
 use Rattle.ag_value.specs.declared.value.ErrorCode.{ErrorCode}
 use Rattle.ag_value.specs.declared.value.Value.{Value}

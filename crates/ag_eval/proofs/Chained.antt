@@ -14,8 +14,8 @@ module _ (others : List (Operator × Node)) (i : ℕ) (x : Operator × Node) (lt
   left : drop i others ≡ get_or others i x ∷ drop (i + 1) others
   left = drop_more others i x lt
 
-  -- `old` is the value of the first operands of a chain, and `new` that with one more operand. The chain's value is the same from
-  -- `old` on with the operands left, and from `new` on with one fewer.
+  -- `old` is the value of the first i + 1 operands of a chain, and `new` that of the first i + 2. The chain has the value `whole`
+  -- if it goes on from `old` with the remaining operands, and also if it goes on from `new` without the first of these.
   pub chained_more : (env : ℕ → Value) (bound : List Value) (old new right whole : Value) → x ≡ get_or others i x
       → right ≡ value_in x.1 env bound → new ≡ operation_result x.0 old right
       → chain_value env bound old (map (λ (p : Operator × Node). (p.0, value_in p.1)) (drop i others)) ≡ whole

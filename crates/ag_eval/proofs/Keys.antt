@@ -69,7 +69,7 @@ same_key a b n m = go (order a b) refl n
     go Greater e n = let back : is_before b a ≡ true = ap is_lt (nat_list_cmp_total.antisymm b a ∙ ap ordering_reverse e) in
         let bad : true ≡ false = sym back ∙ m in let worse : ⊥ = cc in absurd worse
 
--- the first of rising keys is before the next, and these rise
+-- the first of ascending keys is before the second, and the keys from the second on ascend
 rising_parts : (a b : List ℕ) (keys : List (List ℕ)) → is_ascending (a ∷ b ∷ keys) ≡ true
     → (is_before a b ≡ true) × (is_ascending (b ∷ keys) ≡ true)
 rising_parts a b keys h = and_parts (is_before a b) (is_ascending (b ∷ keys)) h
@@ -133,7 +133,7 @@ index_found key (x ∷ xs) (suc i) rising le before backs =
       belongs = λ none. let e = rest.belongs none in (rw n e.0, rw differs e.1);
     }
 
--- the keys before a key come first
+-- the first of ascending keys is before each other one
 first_least : (a : List ℕ) (xs : List Pair) (j : ℕ) (d : Pair) → is_ascending (a ∷ map key_of xs) ≡ true → j < length xs
     → is_before a (get_or xs j d).0 ≡ true
 first_least a [] j d rising lt = absurd (omega arith)

@@ -3,7 +3,7 @@ use Rattle.std.specs.Prelude.{Bool, true, false}
 use Rattle.ag_value.specs.declared.value.Value.{Value, out-Value}
 use Rattle.ag_value.specs.declared.value.Value.TheOpen.{Value-F}
 
--- whether the outermost form of a value is a list
+-- whether a value is a list, from its outermost level
 abbrev pub is_list_at : Value-F Value → Bool
 is_list_at (Value-F.List items) = true
 is_list_at v = false

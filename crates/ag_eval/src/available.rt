@@ -27,8 +27,8 @@ use std::alloc::Global;
 
 impl<'e, V: Lender> Evaluation<'e, V> {
     /// Computes the next step of a chain. `other` has an operator and its right operand, and
-    /// `so_far` is the left operand. Returns `None` unless both operands are scalars and the right
-    /// one is a literal, an occurrence or a bound name, and for `++` of two numbers.
+    /// `so_far` is the left operand. Returns `None` if the left operand is not a scalar, if
+    /// `leaf_scalar` returns `None` for the right operand, and for `++` of two numbers.
     #[inline(always)]
     pub fn next_scalar(
         &self,
@@ -49,9 +49,9 @@ impl<'e, V: Lender> Evaluation<'e, V> {
         Some(Operand::owned(Measured::new(scalar.into_value())))
     }
 
-    /// Computes the value of a literal, an occurrence or a bound name, or of a chain whose operands
-    /// are these or again such chains, without making an `Operand`. Returns `None` for any other
-    /// part of an expression, if `leaf_scalar` does for one of the operands, and for `++` of two
+    /// Computes the value of a literal, an occurrence, a bound name or a chain, without making an
+    /// `Operand`. An operand of the chain may be a chain too. Returns `None` for any other node, if
+    /// `leaf_scalar` returns `None` for the node or for an operand of a chain, and for `++` of two
     /// numbers. Takes no memory.
     #[cycle(scalars)]
     #[inline(always)]
@@ -119,8 +119,8 @@ impl<'e, V: Lender> Evaluation<'e, V> {
 }
 
 /// Returns the value of an expression that is a number literal, and raises the meter by one
-/// evaluation, as `eval` does; no environment is needed. Returns `None` for any other expression,
-/// which is then not evaluated, and leaves the meter unchanged. Takes no memory.
+/// evaluation. Needs no environment. Returns `None` for any other expression, and then leaves the
+/// meter unchanged. Takes no memory.
 #[inline(always)]
 pub fn eval_number(expr: &Expr, meter: &mut Meter) -> Option<i64>
     requires not_full { meter.old < 2 ^ 64 - 1 }
@@ -153,7 +153,8 @@ fn within_limits(item: &Value) -> Option<&Value>
     }
 }
 
-/// Returns the value of a literal, lent if it is within the limits, else the error for it.
+/// Lends the value of a literal that is within the limits. For any other literal, returns the error
+/// `deep` or `big`.
 pub fn literal_value<'e>(literal: &'e Literal) -> Held<'e>
     ensures { held_value result ≡ fit literal.now }
 {

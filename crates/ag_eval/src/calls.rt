@@ -145,8 +145,8 @@ fn apply_to_number(operator: Operator, m: i64, right: Scalar) -> Option<Scalar>
     }
 }
 
-/// Computes `m == n`. Not inlined, since it needs references to values, which the other operators
-/// don't.
+/// Computes `m == n`. Not inlined: it stores both numbers as values in memory, which the other
+/// operators don't need.
 #[tactic(auto, unfolding(ag_value::specs::operations::Arguments::leftmost))]
 #[inline(never)]
 fn equal_numbers(m: i64, n: i64) -> Option<Scalar>
@@ -174,8 +174,8 @@ fn apply_to_numbers(operator: Operator, m: i64, n: i64) -> Option<Scalar>
     }
 }
 
-/// Computes the value of a call of one operand. Takes memory for a value that it makes, and
-/// `number` for a copy of a shared text.
+/// Computes the value of a call of one operand. Takes memory for a value that it makes. The call
+/// `number` also takes memory for a copy of a shared text.
 pub fn call_unary<'e>(
     alloc: Global,
     call: UnaryCall,
@@ -330,9 +330,9 @@ fn call_append<'e>(
     Ok(Operand::owned(append(list, item)?))
 }
 
-/// Computes the value of a call that only reads its operands (`nth`, `join`, `get`, `has`). A part
-/// of the first operand is lent if the environment or the expression lends this operand; otherwise
-/// the part is copied.
+/// Computes the value of a call that only reads its operands (`nth`, `join`, `get`, `has`). The
+/// value of `nth` and `get` is a part of the first operand. This part is lent if the environment or
+/// the expression lends the operand; otherwise it is copied.
 fn call_reading<'e>(
     alloc: Global,
     call: BinaryCall,
@@ -359,8 +359,8 @@ fn call_reading<'e>(
     Ok(Operand::owned(held.into_owned(alloc)?))
 }
 
-/// Computes the value of a call that only reads its arguments, for arguments that are not errors; a
-/// part of the first one is lent.
+/// Computes the value of a call that only reads its arguments, for arguments that are not errors.
+/// If the value is a part of the first argument, it is lent.
 fn reading_result<'a>(
     alloc: Global,
     call: BinaryCall,

@@ -14,16 +14,15 @@ use ag_grammar::Expr;
 use ag_value::NoMemory;
 use std::alloc::Global;
 
-/// Computes the value of an expression as `eval` does, for an `env` that lends carried values, and
-/// raises the meter by one evaluation, also if memory is refused. If the value is that of an
-/// occurrence (`$0.env`, also as chosen by `if`, `let` or `orelse`), it is shared and not copied,
-/// unless it is a number or an error. A text of more than 256 bytes that `++` made keeps the shared
-/// bytes of its operands, and a table or list that is a tree keeps the nodes that it shares.
+/// Computes the value of an expression as `eval` does, for an `env` that lends carried values.
+/// Raises the meter by one evaluation, also if memory is refused. Fails with `NoMemory` if memory
+/// is refused.
 ///
-/// Takes memory as `eval` does, but none for a copy of a result that is the value of an occurrence,
-/// a shared text or a tree. Every other result that is not a number or an error is stored in memory
-/// that its owners share. If its encoding has more than 24 bytes, the encoding is stored beside it.
-/// Fails with `NoMemory` if memory is refused.
+/// The result is shared and not copied if it is a shared text, a tree, or the value of an
+/// occurrence (`$0.env`, also as chosen by `if`, `let` or `orelse`). A number or an error is stored
+/// in the `Carried` itself. Every other result is stored in memory that its owners share. If its
+/// encoding has more than 24 bytes, the encoding is stored beside it. The call takes memory for
+/// this, and otherwise as `eval` does.
 #[inline(always)]
 pub fn eval_carried<C: CarriedEnvironment>(
     alloc: Global,
@@ -44,10 +43,10 @@ pub fn eval_carried<C: CarriedEnvironment>(
 }
 
 /// Returns the value of an expression that is a literal, an occurrence or a chain of these, if each
-/// of them is a number or an error, and raises the meter by one evaluation, as `eval_carried` does.
-/// Returns `None` for any other expression, for literals and occurrences of another kind, and for
-/// `++` of two numbers: no evaluation is counted then. No contract says for which expressions a
-/// value is returned. Takes no memory.
+/// of them is a number or an error. Then raises the meter by one evaluation, as `eval_carried`
+/// does. Returns `None` for any other expression, for literals and occurrences of another kind, and
+/// for `++` of two numbers. Then leaves the meter unchanged. No contract says for which expressions
+/// a value is returned. Takes no memory.
 #[inline(always)]
 pub fn eval_scalar<C: CarriedEnvironment>(
     alloc: Global,

@@ -27,9 +27,9 @@ use std::alloc::Global;
 /// The greatest length of a text in bytes. The encoding of a text has 5 bytes more than the text.
 const MAX_TEXT: usize = MAX_WEIGHT as usize - 5;
 
-/// Computes `a ++ b`. The value is the leftmost error of the two operands, if one is an error; the
-/// error `kind` unless both are texts or both are lists; and the error `big` if the result is
-/// beyond the limit of weight.
+/// Computes `a ++ b` for two texts or two lists. The value is the error `big` if the result is
+/// beyond the limit of weight. If an operand is an error, the value is the leftmost error of the
+/// two. For all other operands the value is the error `kind`.
 ///
 /// A result of at most `MAX_FLAT_TEXT` bytes or `MAX_FLAT_LIST` items is made by extending the left
 /// operand. First each operand that is lent, bound, shared or a tree is copied. The exception is a
@@ -99,8 +99,8 @@ fn flat_text<'e>(
     extend_text(alloc, left, bytes_of(right.get()))
 }
 
-/// Concatenates two operands that are not both texts. Returns the error `kind` unless both are
-/// lists.
+/// Concatenates two operands that are not both texts. Returns the error `kind` if one of them is
+/// not a list.
 fn list_of_both<'e>(
     alloc: Global,
     left: Operand<'e>,
@@ -141,7 +141,7 @@ fn tree_of_both<'e>(
     list_trees::concatenate(alloc, &left, &right)
 }
 
-/// Returns the number of items of two lists together, or `None` unless both are lists.
+/// Returns the number of items of two lists together, or `None` if an operand is not a list.
 fn joined_count(left: &Operand<'_>, right: &Operand<'_>, bindings: &Bindings<'_>) -> Option<usize>
     requires left { IsIn bindings.now left.now }
     requires right { IsIn bindings.now right.now }
@@ -154,7 +154,7 @@ fn joined_count(left: &Operand<'_>, right: &Operand<'_>, bindings: &Bindings<'_>
 }
 
 /// Extends the left list by the items of the right one. The operands must not both be texts.
-/// Returns the error `kind` unless both are lists.
+/// Returns the error `kind` if one of them is not a list.
 fn extended_list<'e>(
     alloc: Global,
     left: Operand<'e>,
@@ -173,7 +173,7 @@ fn extended_list<'e>(
     extend_list(left, right)
 }
 
-/// Returns the length in bytes of two texts together, or `None` unless both are texts.
+/// Returns the length in bytes of two texts together, or `None` if an operand is not a text.
 fn joined_len(left: &Operand<'_>, right: &Operand<'_>, bindings: &Bindings<'_>) -> Option<usize>
     requires left { IsIn bindings.now left.now }
     requires right { IsIn bindings.now right.now }

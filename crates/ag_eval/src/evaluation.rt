@@ -304,7 +304,7 @@ impl<'e, V: Lender> Evaluation<'e, V> {
     }
 
     /// Returns the value of the expression as a carried one. The value of an occurrence is shared,
-    /// unless it is a number or an error.
+    /// except a number or an error.
     #[inline(never)]
     pub fn carried(&self) -> Result<Carried, NoMemory>
         ensures value { IfOk result (λ v. v
@@ -342,9 +342,9 @@ fn empty_table<'e>(alloc: Global) -> Operand<'e>
     Operand::owned(Measured::new(Value::Table(Items::from_vec(Vec::new(alloc)))))
 }
 
-/// Returns whether a condition holds: whether its number is not 0. Fails with the condition's error
-/// if it is one, and with the error `kind` for a text, a list or a table. In the contract, e and f
-/// are any values of the two branches of the `if`.
+/// Returns whether a condition holds: whether its number is not 0. If the condition is an error,
+/// fails with that error. If it is a text, a list or a table, fails with the error `kind`. In the
+/// contract, e and f are any values of the two branches of the `if`.
 #[tactic(auto, using(crate::proofs::Decided::chooses))]
 fn decide(condition: Operand<'_>, bindings: &Bindings<'_>) -> Result<bool, ErrorCode>
     requires { IsIn bindings.now condition }
@@ -366,10 +366,10 @@ fn decided(condition: ValueRef<'_>) -> Result<bool, ErrorCode>
     }
 }
 
-/// Computes the value of an expression for an `env` that lends the values of its occurrences, and
-/// raises the meter by one evaluation, also if memory is refused. Fails with `NoMemory` if memory
-/// is refused. Requires that `env` lends a well value for each occurrence of the expression, and
-/// that the meter is not full.
+/// Computes the value of an expression. `env` lends the values of its occurrences. Raises the meter
+/// by one evaluation, also if memory is refused. Fails with `NoMemory` if memory is refused.
+/// Requires that `env` lends a well value for each occurrence of the expression, and that the meter
+/// is not full.
 ///
 /// Takes memory for values that it makes, and for copies. It copies:
 ///

@@ -36,8 +36,8 @@ impl<'e, V: Lender> Evaluation<'e, V> {
         }
     }
 
-    /// Computes the value of a chain of flat operands. Returns `None` if `flat_operand` does
-    /// for one of them, and for `++` of two numbers, as `apply_to_scalars` does.
+    /// Computes the value of a chain of flat operands. Returns `None` if `flat_operand` returns
+    /// `None` for an operand, and for `++` of two numbers.
     #[inline(always)]
     fn flat_chain(&self, first: &Node, others: &[(Operator, Node)]) -> Option<Scalar>
         requires first { is_within (length self.now.expr.now.1) first.now 0 ≡ true }

@@ -10,8 +10,8 @@ use ag_value::{Items, NoMemory, Value};
 use std::alloc::Global;
 use std::marker::Model;
 
-/// Items for a list, with the weight and the depth of the list. A greater weight than 2^64 - 1, or
-/// a greater depth than 2^32 - 1, is stored as this number.
+/// Items for a list, with the weight and the depth of the list. The stored weight is saturated at
+/// `u64::MAX`, and the stored depth at `u32::MAX`.
 #[derive(Drop)]
 pub struct ListBuilder {
     items: Vec<Value>,

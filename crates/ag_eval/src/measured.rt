@@ -59,8 +59,8 @@ impl Measured {
 
     /// Returns the value, or the error `deep` if its depth exceeds 64, or else the error `big` if
     /// its weight exceeds 1,048,576. The value must be one that a list or table may contain.
-    /// `weight` must be its weight, or 2^64 - 1 if the weight is greater than that number, and
-    /// `depth` its depth, or 2^32 - 1 if the depth is greater.
+    /// `weight` must be the weight of the value, saturated at `u64::MAX`. `depth` must be its
+    /// depth, saturated at `u32::MAX`.
     pub fn fit(value: Value, weight: u64, depth: u32) -> Measured
         requires item { is_item value ≡ true }
         requires weighed { weight ≡ min (weight_of value) (2 ^ 64 - 1) }

@@ -69,7 +69,8 @@ impl<'e> Lent<'e> {
         }
     }
 
-    /// Returns the value as a carried one: shared if `carried` has one that stores it, else a copy.
+    /// Returns the value as a carried one. Shares the value of the field `carried` if there is one,
+    /// and copies the lent value otherwise.
     pub fn into_carried(self, alloc: Global) -> Result<Carried, NoMemory>
         ensures value { IfOk result (λ c. c ≡ self.entry) }
         ensures well { IfOk result (λ c. IsWell c) }
@@ -250,7 +251,7 @@ impl<'e> Held<'e> {
         ListTree::from_list(alloc, items)
     }
 
-    /// Returns the value as a carried one, which is shared if a carried one lends it.
+    /// Returns the value as a carried one. If a carried value lends it, shares that carried value.
     pub fn into_carried(self, alloc: Global) -> Result<Carried, NoMemory>
         ensures value { IfOk result (λ c. c ≡ held_value self.entry) }
         ensures well { IfOk result (λ c. IsWell c) }
@@ -329,7 +330,7 @@ impl<'e> Operand<'e> {
         }
     }
 
-    /// Returns the error that the value is, if it is one.
+    /// Returns the code of the value if the value is an error, else `None`.
     pub fn fault(&self, bindings: &Bindings<'e>) -> Option<ErrorCode>
         requires { IsIn bindings.now self.now }
         ensures { result ≡ fault_of (operand_value bindings.now self.now) }
@@ -390,7 +391,7 @@ impl<'e> Operand<'e> {
         self.into_held(alloc, bindings)?.into_list(alloc)
     }
 
-    /// Returns the value as a carried one, which is shared if a carried one lends it.
+    /// Returns the value as a carried one. If a carried value lends it, shares that carried value.
     pub fn into_carried(self, alloc: Global, bindings: &Bindings<'e>) -> Result<Carried, NoMemory>
         requires { IsIn bindings.now self }
         ensures value { IfOk result (λ c. c ≡ operand_value bindings.now self.entry) }

@@ -105,9 +105,9 @@ fn note(
     Ok(occurs)
 }
 
-/// Returns the description of an operand that could follow `before`, a prefix of `text`: a bound
-/// name if the token after `before` in `text` is a name that is not reserved, else an expression if
-/// `if` could follow, else an operand. Fails with `NoMemory`.
+/// Describes the operand that could follow `before`, a prefix of `text`. Returns `BoundName` if the
+/// token after `before` in `text` is a name that is not reserved. Otherwise returns `Expression` if
+/// `if` could follow, and `Operand` if not. Fails with `NoMemory`.
 fn operand_at(alloc: Global, text: &str, before: &str) -> Result<ExpectedPart, NoMemory> {
     if let Some(rest) = text.get(before.len()..) {
         if let Some(GrammarToken::Name(name)) = Cursor::new(rest).peek() {

@@ -19,12 +19,16 @@ use std::alloc::Global;
 
 /// Parses a text as an expression, and returns its tree with the distinct occurrences in it.
 ///
-/// Fails at the first token that cannot be accepted: with X1 if no token begins there; with X3 if
-/// its number or place is above the limit; with X2 if no expression continues with it, or if the
-/// text ends there; with X4 if it begins an expression of level 65. If several of these hold, the
-/// first in this order is returned: for a number above the limit at an offset where no number may
-/// be, X3 and not X2. Fails with `NoMemory` if memory runs out. Every fault but `NoMemory` means
-/// that the text is not an expression.
+/// Fails at the first offset where parsing can't continue, with the first of these faults that
+/// fits:
+///
+/// - X1: no token begins there.
+/// - X3: the number or the place of the token there is above the limit.
+/// - X2: no expression continues with the token there, or the text ends there.
+/// - X4: the token there begins an expression of level 65.
+///
+/// So a number above the limit results in X3, also where no number may be. Fails with `NoMemory` if
+/// memory runs out. Every fault but `NoMemory` means that the text is not an expression.
 pub fn read_expr(alloc: Global, text: &str) -> Result<Expr, ExprFault>
     ensures exact { IsRead text.now result }
     ensures first { IfErr result (λ e. IsFirstOf text.now e) }
@@ -35,13 +39,14 @@ pub fn read_expr(alloc: Global, text: &str) -> Result<Expr, ExprFault>
     whole(Reader::new(alloc, Cursor::new(text), false))
 }
 
-/// Parses the expression from the byte offset `from` up to the first `;` (a token, not a part of a
-/// text literal), and returns it with the offset of the `;`. Offsets are those of the whole text.
+/// Parses the expression from the byte offset `from` up to the first `;`, and returns it with the
+/// offset of the `;`. A `;` in a text literal doesn't count. Offsets are those of the whole text.
+/// `from` must be a character boundary of the text.
 ///
-/// Fails as `read_expr` fails for the part of the text from `from` up to the first `;`. If there is
-/// no `;`, fails as `read_expr` fails for the text from `from` on, or, if that is an expression,
-/// with X2 at the end of the text. Every fault but `NoMemory` means that no expression followed by
-/// a `;` begins at `from`.
+/// Fails as `read_expr` does for the text from `from` up to the first `;`. If there is no `;`,
+/// fails as `read_expr` does for the text from `from` on. If there is no `;` and this text is an
+/// expression, fails with X2 at the end of the text. Every fault but `NoMemory` means that no
+/// expression followed by a `;` begins at `from`.
 pub fn read_until(alloc: Global, text: &str, from: usize) -> Result<(Expr, usize), ExprFault>
     requires { IsCharBoundary text.now from }
     ensures exact { IsReadUntil text.now from result }

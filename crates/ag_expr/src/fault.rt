@@ -10,8 +10,8 @@ use ag_value::OutOfMemory;
 pub enum ExprFault {
     /// X1: the character at this offset is not a separator, and no token begins with it.
     NoToken(usize),
-    /// X2: no expression continues with the token at this offset, or the text ends here before the
-    /// expression does, or before the `;` after it.
+    /// X2: no expression continues with the token at this offset. Or the text ends here, in an
+    /// expression or where a `;` has to follow.
     Unexpected(usize),
     /// X3: at this offset there is a number above 9223372036854775807, or an occurrence with a
     /// place above 65535.

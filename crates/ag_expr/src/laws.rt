@@ -14,9 +14,9 @@ ghost use Rattle.ag_expr.specs.language.Until.{first_semicolon, semicolon};
 ghost use Rattle.ag_expr.specs.language.Worked.{occurrence_and_number, sum_and_product};
 ghost use Rattle.ag_expr.specs.language.Worked.{bound_and_compared, let_and_compare};
 
-/// States that the reading function of expressions (`expr_of` of the specification, which
-/// `read_expr` agrees with) returns a tree for all tokens of a text if and only if the syntax
-/// relates these tokens to the tree.
+/// States that the reading function of expressions, `expr_of`, returns a tree for all tokens of a
+/// text if and only if the syntax relates these tokens to the tree. The clause `exact` of
+/// `read_expr` says that its results are those of `expr_of`.
 #[tactic(auto, using(crate::proofs::language::Agree::exact))]
 pub fn reading_agrees_with_the_syntax()
     ensures { ReadingAgrees }
@@ -53,8 +53,9 @@ pub fn worked_scope()
     ensures { IsExpr [] 2 (tokens let_and_compare) bound_and_compared }
 {}
 
-/// States that `x` refers to the innermost of the bindings `x`, `y`, `x`, and `y` to none if only
-/// `x` is bound; and that `len`, the name of a call, is reserved, but `lens` is not.
+/// States that `x` refers to the last of the bindings `x`, `y`, `x`, which is the innermost, and
+/// that `y` refers to no binding if only `x` is bound. Also states that `len`, the name of a call,
+/// is reserved, and `lens` is not.
 pub fn worked_names()
     ensures hidden { binding_in (codes "x" ∷ codes "y" ∷ codes "x" ∷ []) (codes "x") ≡ Some 2 }
     ensures unbound { binding_in (codes "x" ∷ []) (codes "y") ≡ None }

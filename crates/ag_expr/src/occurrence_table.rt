@@ -54,9 +54,9 @@ impl<'t> OccurrenceTable<'t> {
         self.indexes.get(&(place, attr)).copied()
     }
 
-    /// Appends an occurrence whose `$` is at the byte offset `at`, unless one with the same place
-    /// and name is listed already. Returns the index, from 0, of the occurrence with this place and
-    /// name. Fails with `NoMemory` if memory runs out; the list is then unchanged.
+    /// Returns the index, from 0, of the listed occurrence with this place and name. If none is
+    /// listed, first appends one, whose `$` is at the byte offset `at`. Fails with `NoMemory` if
+    /// memory runs out; the list is then unchanged.
     pub fn intern(
         &mut self,
         alloc: Global,

@@ -276,13 +276,14 @@ impl<'t> Reader<'t> {
         }
     }
 
-    /// Parses an expression of at most `levels` levels. An expression has one level more than the
-    /// deepest one inside it (in parentheses, a list, a call, a `let` or an `if`), and one level if
-    /// none is inside it.
+    /// Parses an expression of at most `levels` levels. An expression contains others in
+    /// parentheses, lists, calls, `let` and `if`. Its number of levels is one more than the
+    /// greatest number of levels of these, and 1 if it contains none.
     ///
-    /// Fails with `level_fault` if `levels` is 0, with `refusal` at the first token that cannot be
-    /// accepted, and with `NoMemory`. The other parsing functions of this file fail with `refusal`
-    /// and `NoMemory` too, and if an expression inside fails.
+    /// Fails with `level_fault` where an expression would begin with no level left, with `refusal`
+    /// at any other place where parsing can't continue, and with `NoMemory`. The other parsing
+    /// functions of this file fail with `refusal` and `NoMemory`, and if an expression that they
+    /// parse fails.
     #[cycle(parsing)]
     #[tactic(auto, using(crate::proofs::language::Parts::one_level), unfolding(crate::specs::language::Reading::expr_in, crate::specs::language::Reading::whole_from))]
     pub fn expression(&mut self, levels: usize) -> Result<Node, ExprFault>
@@ -485,7 +486,8 @@ impl<'t> Reader<'t> {
     }
 
     /// Parses an operand of one token: a number, a text, a bound name or an occurrence. `atom`
-    /// reads numbers itself and never calls this function at one; the contract includes numbers.
+    /// reads numbers itself, and never calls this function at a number, but the contract includes
+    /// numbers.
     fn single_operand(&mut self) -> Result<Node, ExprFault>
         ensures { Reads (λ all names. reading.token_as (syntax.operand_of all names))
             self.old result self.new }

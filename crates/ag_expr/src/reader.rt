@@ -51,9 +51,9 @@ impl<'t> Model for Reader<'t> {
     } };
 }
 
-/// Returns the fault for a cursor whose next token cannot be accepted: X2 at the token's offset. If
-/// the cursor has no next token: X2 at the end of the text; X1 if no token begins with the
-/// character there; X3 if the number or place of the token there is above its limit.
+/// Returns the fault for a cursor at an offset where parsing can't continue. The fault is X1 if no
+/// token begins with the character there, and X3 if the number or the place of the token there is
+/// above its limit. It is X2 at any other token, and at the end of the text.
 #[tactic(auto, using(crate::proofs::language::States::reported_is))]
 pub fn refusal(cursor: &Cursor<'_>) -> ExprFault
     ensures { result ≡ reading.refusal cursor.now }
@@ -66,8 +66,8 @@ pub fn refusal(cursor: &Cursor<'_>) -> ExprFault
     }
 }
 
-/// Returns the next token of a statement: `next_token`, or `None` if this is a `;`, which ends the
-/// tokens of a statement.
+/// Returns the next token of a statement: `next_token`, or `None` if `next_token` is a `;`, which
+/// ends the tokens of a statement.
 fn before_semicolon(next_token: Option<GrammarToken<'_>>) -> Option<GrammarToken<'_>>
     ensures { option_map token_of result ≡ state.before_end true (option_map token_of next_token.entry) }
 {
@@ -169,7 +169,8 @@ impl<'t> Reader<'t> {
     }
 
     /// Reads the next token, which is this occurrence, and returns its index among the distinct
-    /// ones. Fails with `NoMemory` if it is the first with its place and name and memory runs out.
+    /// occurrences. Takes memory only for the first occurrence of a place and a name. Fails with
+    /// `NoMemory`.
     #[tactic(auto, using(crate::proofs::language::States::taken_number))]
     pub fn take_occurrence(&mut self, place: u16, attr: &'t str) -> Result<usize, NoMemory>
         requires { next_token (input self.old) ≡ Some (tokens.Occurrence place attr.now) }

@@ -44,13 +44,13 @@ abbrev pub job_fault_of : JobFault → Fault
 job_fault_of job.NoMemory = fault.NoMemory
 job_fault_of e = fault.Job e
 
--- the faults of parsing a sentence: a failed device becomes `Device`, and refused memory `NoMemory`; neither is put into `Parse`
+-- the faults of parsing a sentence: `Device` becomes `Device`, `NoMemory` becomes `NoMemory`, and the others are put into `Parse`
 abbrev pub parse_fault_of : ParseFault → Fault
 parse_fault_of parse.Device = fault.Device
 parse_fault_of parse.NoMemory = fault.NoMemory
 parse_fault_of e = fault.Parse e
 
--- the faults of running passes and of converting a tree file; a failed device and refused memory as in `parse_fault_of`
+-- the faults of running passes and of converting a tree file; `Device` and `NoMemory` become what they become in `parse_fault_of`
 abbrev pub run_fault_of : RunFault → Fault
 run_fault_of run.Device = fault.Device
 run_fault_of run.NoMemory = fault.NoMemory

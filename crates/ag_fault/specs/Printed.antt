@@ -35,7 +35,7 @@ attribute_text g x = codes " " ++ qualified_name g x.0 x.1
 abbrev pub printed_stuck : StuckGrammar → List ℕ
 printed_stuck s = codes "A1" ++ flat_map (attribute_text s.grammar) s.stuck.set
 
--- the text of a fault; a fault that contains one of another crate is printed as that one
+-- the text of a fault; a fault that contains a fault of another crate is printed as the contained fault
 abbrev pub printed : Fault → List ℕ
 printed fault.Usage = codes "usage: the arguments of the command line can't be read"
 printed fault.File = codes "F1 the file can't be opened, read or created"

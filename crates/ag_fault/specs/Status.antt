@@ -11,9 +11,9 @@ use Rattle.pass_rows.specs.declared.run_fault.RunFault.TheVariants as run
 use Rattle.ag_fault.specs.declared.fault.Fault.{Fault}
 use Rattle.ag_fault.specs.declared.fault.Fault.TheVariants as fault
 
--- 2 for the command line, J1 and J3; 3 for X, G, N, L and A (a letter alone means all its numbers); 4 for S, and for P of a
--- sentence; 5 for B1, B2, R1, and for P2 and P3 of a tree file; 6 for O1; 7 for NoMemory; 8 for F1, J2, D1 and O2. A fault that
--- contains NoMemory has 7, one that contains D1 has 8.
+-- The exit status: 2 for usage, J1 and J3; 3 for X, G, N, L and A; 4 for S, and for P of a sentence; 5 for B1, B2 and R1, and for
+-- P2 and P3 of a tree file; 6 for O1; 7 for NoMemory; 8 for F1, J2, D1 and O2. A letter alone means all its numbers. A fault that
+-- contains NoMemory also has 7, and a fault that contains D1 also has 8.
 abbrev pub status_of : Fault → ℕ
 status_of fault.Usage = 2
 status_of fault.File = 8

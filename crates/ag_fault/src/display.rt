@@ -11,8 +11,8 @@ use std::error::Error;
 use std::fmt;
 
 /// Prints the number of the fault first, as in `D1 reading or writing failed`. A fault without a
-/// number prints `usage` or `NoMemory` in place of the number. A fault that contains the fault of
-/// another crate is printed as that one.
+/// number prints `usage` or `NoMemory` in place of the number. A fault that contains a fault of
+/// another crate is printed as the contained fault.
 impl fmt::Display for Fault {
     ghost use Rattle.std.specs.Prelude.{Some};
     ghost use Rattle.ag_fault.specs.Printed.{printed};
@@ -57,8 +57,8 @@ impl fmt::Display for StuckGrammar {
     }
 }
 
-/// Writes attributes with a space before each. The first number of a pair is that of a symbol, the
-/// second one that of its attribute, both from 0.
+/// Writes attributes with a space before each. A pair has the number of a symbol and the number of
+/// an attribute in the symbol, both from 0.
 fn write_attributes<W: fmt::Write>(
     f: &mut fmt::Formatter<W>,
     grammar: &Grammar,

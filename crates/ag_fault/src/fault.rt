@@ -30,7 +30,7 @@ pub enum Fault {
     Usage,
     /// F1: a file can't be opened, read or created.
     File,
-    /// X1 to X4: the text is not an expression. X2 also if the expression has an occurrence of an
+    /// X1 to X4: the text is not an expression. Or X2: the expression has an occurrence of an
     /// attribute (`$1.a`), which has no value without a tree.
     Expr(ExprFault),
     /// G1 to G4: the text can't be read as a grammar.
@@ -54,8 +54,8 @@ pub enum Fault {
     NoText(Value),
     /// B1: a device does not contain a tree file.
     NotATreeFile,
-    /// B2: no record ends at this offset (in bytes from 0), or not the expected one. At the end of
-    /// the last tree file, the root's record is expected.
+    /// B2: no record ends at this offset (in bytes from 0), or another record than the expected
+    /// one. At the end of the last tree file, the root's record is expected.
     Damaged(u64),
     /// D1: a call of a device failed.
     Device,
@@ -66,10 +66,15 @@ pub enum Fault {
     NoMemory,
 }
 
-/// Returns the exit status of the program for a fault: 2 for usage, J1 and J3; 3 for X, G, N, L and
-/// A (a letter alone means all its numbers); 4 for S, and for P of a sentence; 5 for B1, B2, R1,
-/// and for P2 and P3 of a tree file; 6 for O1; 7 for NoMemory; 8 for F1, J2, D1 and O2. A fault
-/// that contains NoMemory has 7 too, and one that contains D1 has 8.
+/// Returns the exit status of the program for a fault. A letter alone means all its numbers:
+///
+/// - 2 for usage, J1 and J3;
+/// - 3 for X, G, N, L and A;
+/// - 4 for S, and for P of a sentence;
+/// - 5 for B1, B2 and R1, and for P2 and P3 of a tree file;
+/// - 6 for O1;
+/// - 7 for NoMemory, also if another fault contains it;
+/// - 8 for F1, J2, O2 and D1; for D1 also if another fault contains it.
 pub fn status(fault: &Fault) -> u8
     ensures { result ≡ status_of fault.now }
 {

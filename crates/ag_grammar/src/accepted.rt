@@ -54,8 +54,8 @@ impl Model for Grammar {
 
 impl Grammar {
     /// Makes a grammar from its lists. The caller must prove that the grammar is accepted and in
-    /// order; nothing is checked at run time. `check` of the crate `normalform` calls it, through
-    /// its function `number`.
+    /// order; nothing is checked at run time. The crate `normalform` calls this function at the end
+    /// of `check`.
     pub fn new(
         symbols: Items<Symbol>,
         productions: Items<Production>,

@@ -36,9 +36,9 @@ pub enum Item {
     Terminal(Terminal),
 }
 
-/// An attribute at a place of a production (Knuth 1968; often called an attribute occurrence): the
-/// target of a rule, or, in spite of the name of this type, one of the rule's arguments. An `Occ`
-/// in an expression, such as `$1.sum`, refers to a `Target`.
+/// An attribute at a place of a production (Knuth 1968; often called an attribute occurrence). In
+/// spite of the name of this type, the attribute may be the target of a rule or one of the rule's
+/// arguments. An `Occ` in an expression, such as `$1.sum`, refers to a `Target`.
 #[derive(Clone, Copy, PartialEq, Eq)]
 pub struct Target {
     /// The place: 0 is the left side; 1, 2, .. are the children, which are the items of the right

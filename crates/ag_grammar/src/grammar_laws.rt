@@ -24,8 +24,8 @@ pub fn one_translation()
     ensures { OneTranslation }
 {}
 
-/// States that, if the rules use only what the assignment of passes allows, the equations of a pass
-/// stay true as long as the values of this pass and of the earlier ones are kept.
+/// States that the equations of a pass stay true if only values of later passes change. The law
+/// requires that the rules use only what the assignment of passes allows.
 #[tactic(auto, using(crate::proofs::grammars::Kept::equations_kept))]
 pub fn equations_kept()
     ensures { EquationsKept }
@@ -37,11 +37,11 @@ pub fn passes_solve()
     ensures { PassesSolve }
 {}
 
-/// States which values consecutive passes leave. Before the first of them the values are any that
-/// give each leaf its text. One more pass has run if it keeps the values of the passes before it
-/// and satisfies its own equations. After the last pass every equation from the first pass on is
-/// satisfied. If the first was pass 1, the values are the solution, for an accepted grammar with a
-/// legal assignment.
+/// States which values consecutive passes leave. Before the first of them, the values must give
+/// each leaf its text, and are not restricted otherwise. One more pass has run if it keeps the
+/// values of the passes before it and satisfies its own equations. After the last pass, the
+/// equations of the first of these passes and of all later ones are satisfied. If the first was
+/// pass 1, the values are the solution, for an accepted grammar with a legal assignment.
 pub fn runs_compose()
     ensures begins { RunBegins }
     ensures goes { RunGoesOn }
@@ -49,8 +49,8 @@ pub fn runs_compose()
     ensures solution { RunIsTheSolution }
 {}
 
-/// States that, for an accepted grammar with a legal assignment, the numbers of rules of the passes
-/// up to the last one add up to the number of rules of a tree.
+/// States that, for an accepted grammar with a legal assignment, the number of rules of a tree is
+/// the sum of the numbers of its rules of each pass, up to the last pass.
 pub fn passes_have_all_rules()
     ensures { PassesHaveAllRules }
 {}

@@ -17,9 +17,9 @@ pub const MAX_ITEMS: usize = 64;
 pub const MAX_CHILDREN: usize = 16;
 
 /// The number of rules of a production, or of arguments of a rule, that 16 bits can index. An
-/// accepted grammar never has more: no two rules of a production have the same target, no two
-/// arguments of a rule are the same, and each of these is one of at most 16 attributes at one of at
-/// most 17 places.
+/// accepted grammar never has more. Each target and each argument is one of at most 16 attributes
+/// at one of at most 17 places. The targets of a production's rules are different, and so are the
+/// arguments of a rule.
 pub const MAX_RULES: usize = 65_536;
 
 /// The maximum number of distinct literals of a grammar.
@@ -46,9 +46,9 @@ pub const CLASS_COUNT: u16 = 3;
 /// The maximum length of the text of a token of a sentence, in bytes.
 pub const MAX_TOKEN_BYTES: usize = 65_535;
 
-/// The maximum number of levels of an expression. An expression has one level more than the deepest
-/// expression inside it (in parentheses, a list, a call, a `let` or an `if`), and one level if
-/// there is none inside it.
+/// The maximum number of levels of an expression. An expression has one level if it contains no
+/// other expression, and otherwise one level more than the deepest expression in it. The parts of
+/// parentheses, a list, a call, a `let` and an `if` are expressions; operands of operators are not.
 pub const MAX_EXPR_LEVELS: usize = 64;
 
 /// The greatest place that an occurrence in a text may name.

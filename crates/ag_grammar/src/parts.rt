@@ -12,10 +12,10 @@ use ag_value::NoMemory;
 use std::alloc::Global;
 
 impl Item {
-    /// Returns whether the item is a child, which has a place and is stored in a tree: declared
-    /// symbols and token classes are, literals are not (this project's). The contract says that
-    /// `stored_items`, which lists the children of a right side, keeps the item exactly if the
-    /// result is true.
+    /// Returns whether the item is a child (this project's). A declared symbol is a child, and so
+    /// is a token class. Children have places, and are stored in a tree. A literal is not a child.
+    /// The contract says that `stored_items`, which lists the children of a right side, keeps the
+    /// item exactly if the result is true.
     pub fn is_stored_child(self) -> bool
         ensures { (xs : List TheItem) → stored_items (self ∷ xs)
             ≡ cond result (self ∷ stored_items xs) (stored_items xs) }
@@ -46,9 +46,9 @@ fn child_at(items: &[Item], index: usize) -> Option<Item>
 }
 
 impl Production {
-    /// Returns the item at a place, or `None` if the place does not exist. At place 0 it is the
-    /// symbol of the left side; from place 1 on, the children from left to right. The time of a
-    /// call grows with the number of items up to the place.
+    /// Returns the item at a place, or `None` if the place does not exist. The symbol of the left
+    /// side is at place 0, and the children are at the places from 1 on, from left to right. The
+    /// time of a call grows with the number of items up to the place.
     pub fn item_at(&self, place: u16) -> Option<Item>
         ensures { result ≡ item_at self.now place }
     {
@@ -84,8 +84,9 @@ impl Symbol {
         self.syn.as_slice().len() + self.inh.as_slice().len()
     }
 
-    /// Returns the name of the attribute with this number, or `None` if there is none: the
-    /// synthesized attributes come first, in declared order, then the inherited ones.
+    /// Returns the name of the attribute with this number, or `None` if there is none. Attributes
+    /// are numbered from 0, the synthesized ones first, then the inherited ones, both in declared
+    /// order.
     pub fn attribute_name(&self, attr: u16) -> Option<&str>
         ensures some { IfSome result (λ name. slice_get (attribute_names self.now) attr ≡ Some name.now) }
         ensures none { result ≡ None → slice_get (attribute_names self.now) attr ≡ None }

@@ -31,8 +31,9 @@ pub struct RawSymbol {
 }
 
 impl RawSymbol {
-    /// Returns the name of the attribute with this number, or `None` if there is none: the
-    /// synthesized attributes come first, in the order of the text, then the inherited ones.
+    /// Returns the name of the attribute with this number, or `None` if there is none. Attributes
+    /// are numbered from 0, the synthesized ones first, then the inherited ones, both in the order
+    /// of the text.
     pub fn attribute_name(&self, number: usize) -> Option<&str>
         ensures some { IfSome result
             (λ name. slice_get (raw_attribute_names self.now) number ≡ Some name.now) }
@@ -63,10 +64,10 @@ pub enum RawItem {
 }
 
 impl RawItem {
-    /// Returns whether the item is a child, which has a place and is stored in a tree: names of
-    /// symbols and token classes are, literals are not (this project's). The contract says that
-    /// `raw_stored`, which lists the children of a right side, keeps the item exactly if the result
-    /// is true.
+    /// Returns whether the item is a child (this project's). A symbol's name is a child, and so is
+    /// a token class. Children have places, and are stored in a tree. A literal is not a child. The
+    /// contract says that `raw_stored`, which lists the children of a right side, keeps the item
+    /// exactly if the result is true.
     pub fn is_stored_child(&self) -> bool
         ensures { (xs : List TheRawItem) → raw_stored (self.now ∷ xs)
             ≡ cond result (self.now ∷ raw_stored xs) (raw_stored xs) }

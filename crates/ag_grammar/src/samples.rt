@@ -167,10 +167,10 @@ pub fn not_in_order()
     ensures classes { IsInOrder descending → ⊥ }
 {}
 
-/// States that no assignment is legal, for any number of passes, for the first grammar with one
-/// more production, in which the second child's `i` uses the first child's `s`. Since `s` and `i`
-/// use each other, a legal assignment would give them the same pass, and each direction is wrong
-/// for one of the two productions of `R`.
+/// States that the grammar `both_ways` has no legal assignment, with any number of passes. This is
+/// the first grammar with one more production, in which the second child's `i` uses the first
+/// child's `s`. Since `s` and `i` use each other, a legal assignment would give them the same pass,
+/// and each direction is wrong for one of the two productions of `R`.
 pub fn none_legal()
     ensures { (m : Passes) → IsLegal both_ways m → ⊥ }
 {}

@@ -19,8 +19,9 @@ ghost use Rattle.ag_grammar.specs.values.Operators.{operation_result};
 ghost use Rattle.ag_value.specs.operations.Tables.{with_pair};
 ghost use Rattle.ag_grammar.specs.values.Worked.{bound_error, least, number, other_branch, two_keys};
 
-/// States that `fit` (of `ag_value`) turns a value that is too deep into the error `deep`, another
-/// that is too heavy into the error `big`, and leaves a value within both limits as it is.
+/// States that `fit` (of `ag_value`) turns a value that is too deep into the error `deep`, and any
+/// other value that is too heavy into the error `big`. It leaves a value within both limits as it
+/// is.
 pub fn a_value_beyond_the_limits_is_an_error()
     ensures deep { DeepComesFirst }
     ensures big { BigComesNext }
@@ -53,10 +54,11 @@ pub fn a_rule_has_one_value()
     ensures holds { RuleHoldsByOne }
 {}
 
-/// States, in examples, which error an operation returns: the leftmost error among its arguments,
-/// else the error `kind` if an argument is of a wrong kind, else the operation's own error. Further
-/// examples: `orelse` replaces an error; an `if` whose condition is a text is the error `kind`; a
-/// name can be bound to an error; and an error in the branch that is not chosen has no effect.
+/// States, in examples, which error an operation returns. The leftmost error among its arguments
+/// comes first, then the error `kind` if an argument is of a wrong kind, and only then the
+/// operation's own error. Further examples: `orelse` replaces an error; an `if` whose condition is
+/// a text is the error `kind`; a name can be bound to an error; and an error in the branch that is
+/// not chosen has no effect.
 pub fn worked_errors()
     ensures leftmost { operation_result operator.Add (value.Fault code.Index) (value.Fault code.Key)
         ≡ value.Fault code.Index }

@@ -47,7 +47,7 @@ is_free before bytes zero = true
 is_free before [] (suc n) = true
 is_free before (byte ∷ bytes) (suc n) = not ((before == 10) && separates (byte ∷ bytes)) && is_free byte bytes n
 
--- if this holds of a text and the bytes after it, and a line `%%` begins after the text, the text has at least n bytes
+-- if `is_free` holds of a text and the bytes after it, and a line `%%` begins after the text, the text has at least n bytes
 after_free : (n before : ℕ) (text rest : List ℕ) → is_free before (text ++ rest) n ≡ true → last_after before text ≡ 10
     → separates rest ≡ true → n ≤ length text
 after_free zero before text rest free ended separated = omega arith

@@ -16,8 +16,8 @@ max_job_bytes = MAX_JOB_BYTES
 abbrev pub AreWholeLines : List ℕ → Type 0
 AreWholeLines text = (text ≡ []) ⊎ ((prefix : List ℕ) × (text ≡ prefix ++ codes "\n"))
 
--- The separator is the line `%%` with its end: an LF, or a CR and an LF. If no byte comes after it (`rest` is empty), it may end
--- without them.
+-- The separator is the line `%%` with its end: an LF, or a CR and an LF. If no byte comes after the separator (`rest` is empty),
+-- it may also be `%%` without an end.
 abbrev pub IsSeparator : (separator rest : List ℕ) → Type 0
 IsSeparator separator rest =
     (separator ≡ codes "%%\n") ⊎ ((separator ≡ codes "%%\r\n") ⊎ ((separator ≡ codes "%%") × (rest ≡ [])))

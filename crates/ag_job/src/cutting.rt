@@ -60,8 +60,8 @@ fn begins_a_line(bytes: &[u8], at: usize) -> bool
 }
 
 /// Returns the length in bytes of a line `%%` at the beginning of the bytes, or `None` if they
-/// don't begin with such a line. The length includes the line's end: an LF, or a CR and an LF. The
-/// line may lack its end only if no byte comes after `%%`.
+/// don't begin with such a line. The length includes the line's end: an LF, or a CR and an LF. If
+/// no byte comes after `%%`, the line has no end.
 fn separator_length(bytes: &[u8]) -> Option<usize>
     ensures within { IfSome result (λ n. n ≤ length bytes.now) }
     ensures separator { IfSome result

@@ -36,8 +36,8 @@ impl Model for Job {
 
 impl Job {
     /// Reads a job: a grammar, the first line that is exactly `%%`, and a sentence, which ends at
-    /// the reader's end. A CR directly before the LF of that line is ignored. The last line may be
-    /// `%%` without an LF, but not with a CR alone.
+    /// the reader's end. A CR directly before the LF of that line is ignored. At the end of a job,
+    /// `%%` needs no LF, but `%%` with a CR and without an LF doesn't count.
     ///
     /// Reads up to the reader's end, but at most 2,097,157 bytes: one more than a job may have.
     /// Fails with J2 `Read` if the reader fails meanwhile, with J3 `TooLong` if it returns all

@@ -26,7 +26,7 @@ use Rattle.ag_scan.proofs.OneToken.{IsWordIn, one_word, token_plain, no_spaces}
 
 -- ---- the tokens of a text up to the first fault
 
--- the word that was read, unless its text is too long for a token
+-- the word that was read; `None` if its text is too long for a token
 abbrev short_of : Option LeadingWord → Option LeadingWord
 short_of None = None
 short_of (Some f) = cond (nat_lt max_token_bytes (length f.lex)) None (Some f)
@@ -113,7 +113,7 @@ at_once v n at cs plain =
     let there : at + prefix_len is_separator cs ≡ at = omega (arith, none) in
     λ i. taken_at (taken_from v n) v (there i) (drop (none i) cs)
 
--- tokens that end where no more can be read are those that the function reads
+-- tokens that end where no more can be read are the tokens that `taken_from` returns
 taken_is : (v : Vocabulary) → IsClean v → (n : ℕ) {at : ℕ} {cs : List ℕ} {ts : List Token} {end : ℕ} {rest : List ℕ}
     → AreTokens v at cs ts end rest → AreShort ts → IsEnd v rest → length ts < n
     → taken_from v n at cs ≡ record { tokens = ts; end = end; rest = rest }
@@ -186,7 +186,7 @@ answers v s readable t taken = go t.rest taken.are taken.ends (word_from v t.res
           },
         )
 
--- the result of the function is an answer,
+-- the result of `answer_to` is an answer
 answered : (v : Vocabulary) → IsClean v → (s : List ℕ) → IsAnswer v s (answer_to v s)
 answered v clean s = go (nat_lt max_sentence_bytes (length s)) (is_utf8 s) refl refl
   where
@@ -234,7 +234,7 @@ module _ (v : Vocabulary) (clean : IsClean v) (s : List ℕ) where
       absurd (omega (arith, ap length cut.split, length-append cut.word f.rest))
   long_left (c ∷ cs) f ts at cut = refl
 
-  -- and each answer is the result of the function
+  -- each answer is the result of `answer_to`
   pub is_answer : (q : Result (List Token) ScanFault) → IsAnswer v s q → answer_to v s ≡ q
   is_answer (Ok ts) is = reached is.readable is.tokens (record { plain = tt; none = rw no_word_left refl })
   is_answer (Err fault.NoMemory) is = absurd is

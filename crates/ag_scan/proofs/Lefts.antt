@@ -15,7 +15,7 @@ rest_none [] i e = drop-nil i
 rest_none (y ∷ ys) zero e = absurd (cc)
 rest_none (y ∷ ys) (suc i) e = rest_none ys i e
 
--- if the rest from index i on begins with x, the rest after x begins at i + 1, and this is at most the length of the list
+-- if the rest from index i on begins with x, the rest after x begins at i + 1, and i + 1 is at most the length of the list
 pub following : {A : Type 0} (xs : List A) (i : ℕ) (x : A) (rest : List A) → drop i xs ≡ x ∷ rest
     → (drop (i + 1) xs ≡ rest) × (i + 1 ≤ length xs)
 following {A} [] i x rest e = let none = drop-nil {A = A} i in absurd (cc)

@@ -68,7 +68,7 @@ pub record ScanState (v : Vocabulary) (at : ℕ) (cs : List ℕ) (ts : List Toke
   pub short : AreShort ts
   pub fit : FitAll v ts
 
--- The text up to `rest` was scanned: if tokens follow at the beginning of the rest, then these, after the tokens before them, are
+-- The text up to `rest` was scanned: any tokens at the beginning of the rest, together with the tokens before the rest, are
 -- tokens of the text. The rest does not begin with a separator.
 pub record Scanned (v : Vocabulary) (text rest : List ℕ) : Type 0 where
   pub whole : (us : List Token) (end : ℕ) (last : List ℕ) → ScanState v (length text - length rest) (chars rest) us end last

@@ -37,7 +37,7 @@ abbrev pub close_quote : List ℕ → List ℕ → Option LeadingWord
 close_quote body [] = None
 close_quote body (c ∷ cs) = cond (c == 34) (Some (record { kind = Class 2; lex = body; rest = cs })) None
 
--- the TEXT whose opening quote has been read; `None` if its closing quote is missing on this line
+-- the TEXT whose opening quote is directly before the characters; `None` if its closing quote is missing on the same line
 abbrev pub text_from : List ℕ → Option LeadingWord
 text_from cs = close_quote (encode_utf8_all (prefix_in is_quotable cs)) (rest_after is_quotable cs)
 
@@ -84,7 +84,7 @@ literal_or literals cs n other =
     elim (number_from 0 literals (encode_utf8_all (take n cs)))
     [ Some l ↦ Some (record { kind = Literal l; lex = encode_utf8_all (take n cs); rest = drop n cs }) | None ↦ other ]
 
--- the longest literal at the beginning of the characters that has at most n of them
+-- the longest literal of at most n characters at the beginning of the characters cs
 abbrev pub literal_within : List (List ℕ) → List ℕ → ℕ → Option LeadingWord
 literal_within literals cs zero = literal_or literals cs zero None
 literal_within literals cs (suc n) = literal_or literals cs (suc n) (literal_within literals cs n)
@@ -99,7 +99,7 @@ longer_of (Some f) (Some g) = cond (nat_lt (width g.rest) (width f.rest)) (Some 
 abbrev pub word_from : Vocabulary → List ℕ → Option LeadingWord
 word_from v cs = longer_of (literal_within v.literals cs (length cs)) (class_from v.classes cs)
 
--- the first n tokens of the characters, which begin at the offset `at`; fewer if, after some tokens, no word begins
+-- the first n tokens of the characters, which begin at the offset `at`; fewer than n if no word begins after some of them
 abbrev pub tokens_from : Vocabulary → ℕ → ℕ → List ℕ → List Token
 tokens_from v zero at cs = []
 tokens_from v (suc n) at cs =

@@ -43,7 +43,7 @@ abbrev pub after_last : Option ℕ → ℕ
 after_last None = 0
 after_last (Some k) = k + 1
 
--- `shorter` has, for each entry, the index of the last entry before it whose text is a prefix of its own.
+-- For each entry e, `shorter` has the index of the last entry before e whose text is a prefix of the text of e, or `None`.
 pub record AreLinked (entries : List LiteralEntry) (shorter : List (Option ℕ)) : Type 0 where
   pub each : (i : ℕ) (w : LiteralEntry) (o : Option ℕ) → slice_get entries i ≡ Some w → slice_get shorter i ≡ Some o
       → IsLastPrefixIfAny entries i w.text.now o
@@ -59,8 +59,8 @@ pub record AreLiterals (literals : List (List ℕ)) (entries : List LiteralEntry
   pub whole : (n : ℕ) (x : List ℕ) → slice_get literals n ≡ Some x
       → (k : ℕ) × (w : LiteralEntry) × (slice_get entries k ≡ Some w) × (w.text.now ≡ x)
 
--- The entries are those of the literals, sorted by their texts, each linked to the last one before it whose
--- text is a prefix of its own.
+-- The entries are those of the literals, sorted by their texts. Each is linked by `shorter` (see `AreLinked`) to an entry whose
+-- text is a prefix of its text, if there is one.
 pub record IsTable (literals : List (List ℕ)) (entries : List LiteralEntry) (shorter : List (Option ℕ)) : Type 0 where
   pub literals_all : AreLiterals literals entries
   pub ordered : AreOrdered entries
@@ -91,9 +91,9 @@ Covers k (Sole index) = index ≡ k
 Covers k Several = Unit {0}
 
 -- Each of the first `count` entries begins with a byte b, and the value stored for b does not exclude the entry.
--- (`get_or starts b d` is that value, or d if b is not an index of `starts`. As it covers the entry for every d, even for
--- `Nothing`, b is an index.) It is not claimed that a stored value includes no other entries: with `Several` at each byte all of
--- this holds too, but the search is slower.
+-- (`get_or starts b d` is that value, or d if b is not an index of `starts`. The claim is for every d, also for `Nothing`, which
+-- covers no entry, so b is an index.) It is not claimed that a stored value includes no other entries: with `Several` at each
+-- byte all of this holds too, but the search is slower.
 pub record AreCovered (entries : List LiteralEntry) (starts : List StartingLiterals) (count : ℕ) : Type 0 where
   pub whole : length starts ≡ 256
   pub each : (k : ℕ) (w : LiteralEntry) → k < count → slice_get entries k ≡ Some w

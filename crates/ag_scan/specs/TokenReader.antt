@@ -42,8 +42,8 @@ IsLeadingWordOf v end left (Some f) at =
     (more : List Token) × (left ≡ record { kind = f.kind; lex = f.lex; at = at } ∷ more) × (width f.rest ≤ end)
     × AreTokens v (end - width f.rest) f.rest more end []
 
--- The word and the offset that `next_word` returns for `following`, a suffix of the text: if `following` consists of tokens and
--- separators, they are those of the first of these tokens. Without tokens the word is `None`.
+-- If `following`, a suffix of the text, consists of tokens and separators, then `next` and `at` are the word and the offset of
+-- the first of these tokens. Without tokens `next` is `None`. (`next_word` returns `next` and `at`.)
 abbrev pub IsNextWordFrom : Vocabulary → List ℕ → List ℕ → Option LeadingWord → ℕ → Type 0
 IsNextWordFrom v text following next at =
     (ts : List Token) → AreTokens v (length text - length following) (chars following) ts (length text) []

@@ -63,7 +63,7 @@ pub record LongTokenAt (v : Vocabulary) (cs : List ℕ) (at : ℕ) : Type 0 wher
   pub token : IsToken v kind lex word rest
   pub long : max_token_bytes < length lex
 
--- The bytes are UTF-8, and at most as many as a sentence may have.
+-- The bytes are UTF-8, and their number is within the limit for sentences.
 pub record IsReadable (sentence : List ℕ) : Type 0 where
   pub short : length sentence ≤ max_sentence_bytes
   pub utf8 : IsUtf8 sentence

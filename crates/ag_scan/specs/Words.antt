@@ -53,7 +53,7 @@ IsClassWord classes word = (c : ℕ) × (lex : List ℕ) × Has classes c × IsW
 abbrev pub IsAnyWord : Vocabulary → List ℕ → Type 0
 IsAnyWord v word = (t : Terminal) × (lex : List ℕ) × IsWord v t word lex
 
--- Each prefix of the characters `word ++ rest` that has the property is at most as long as `word`.
+-- No prefix of the characters `word ++ rest` that has the property is longer than `word`.
 abbrev pub IsLongest : (List ℕ → Type 0) → List ℕ → List ℕ → Type 0
 IsLongest P word rest = (longer more : List ℕ) → word ++ rest ≡ longer ++ more → P longer → length longer ≤ length word
 
@@ -66,8 +66,8 @@ abbrev pub LiteralWins : Vocabulary → Terminal → List ℕ → Type 0
 LiteralWins v (Literal l) word = Unit {0}
 LiteralWins v (Class c) word = IsLiteral v.literals word → ⊥
 
--- The word before `rest` is a token of the terminal: it is a word of the terminal. Each prefix of the characters that is a word
--- of any terminal is at most as long. A literal wins a tie.
+-- The word before `rest` is a token of the terminal: it is a word of the terminal, and no longer prefix of the characters is a
+-- word of any terminal. A literal wins a tie.
 pub record IsToken (v : Vocabulary) (t : Terminal) (lex word rest : List ℕ) : Type 0 where
   pub is : IsWord v t word lex
   pub longest : IsLongest (IsAnyWord v) word rest

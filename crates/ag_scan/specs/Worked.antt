@@ -11,6 +11,6 @@ LongestWins =
     AreTokensOf (vocabulary (codes "if" ∷ []) (0 ∷ [])) (codes "iffy if")
     (record { kind = Class 0; lex = codes "iffy"; at = 0 } ∷ record { kind = Literal 0; lex = codes "if"; at = 5 } ∷ [])
 
--- If the only word is the literal `1`, since no class is in use, no token begins at the offset 1 of `12`.
+-- With the literal `1` and no class in use, no token begins at offset 1 of `12`.
 abbrev pub UnusedIsNone : Type 0
 UnusedIsNone = NoTokenAt (vocabulary (codes "1" ∷ []) []) (codes "12") 1

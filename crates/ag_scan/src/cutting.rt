@@ -49,9 +49,9 @@ fn is_shorter(text: &str, other: &str) -> bool
     text.len() < other.len()
 }
 
-/// Returns the longer of a literal and a word of a class, both at the beginning of the same text;
-/// the literal if they have the same length; the only one if the other is `None`. The longer word
-/// is the one with the shorter rest.
+/// Returns the longer of two words at the beginning of the same text: a literal and a word of a
+/// class. If they have the same length, returns the literal. If one is `None`, returns the other.
+/// The longer word is the one with the shorter rest.
 #[inline(always)]
 pub(crate) fn longer_of<'t>(
     literal: Option<LeadingWord<'t>>,

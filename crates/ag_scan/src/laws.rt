@@ -24,8 +24,8 @@ pub fn the_longest_word_wins()
     ensures { LongestWins }
 {}
 
-/// States a worked example: if the only word is the literal `1`, since no class is in use, no token
-/// begins at the offset 1 of `12`.
+/// States a worked example: with the literal `1` and no class in use, no token begins at offset 1
+/// of `12`.
 #[tactic(auto, using(crate::proofs::Examples::unused_is_none))]
 pub fn a_class_that_is_not_in_use_has_no_words()
     ensures { UnusedIsNone }

@@ -21,10 +21,10 @@ pub struct LiteralEntry<'g> {
     pub number: u16,
 }
 
-/// The table of a grammar's literals. Its `entries` are sorted by their texts. For each entry,
-/// `shorter` has the index of the last entry before it whose text is a prefix of its own, or
-/// `None`. For each byte, `starts` says whether no entry, one entry or several have a text that
-/// begins with the byte, and has the index of a sole one. In contracts the table is the list of the
+/// The table of a grammar's literals. Its `entries` are sorted by their texts. For each entry e,
+/// `shorter` has the index of the last entry before e whose text is a prefix of the text of e, or
+/// `None`. For each byte, `starts` says whether the texts of no entry, of one or of several begin
+/// with the byte; for one, it has the index of the entry. In contracts the table is the list of the
 /// texts, indexed by the literals' numbers.
 #[derive(Drop)]
 pub struct Literals<'g> {
@@ -69,7 +69,7 @@ fn count_not_after(entries: &[LiteralEntry<'_>], text: &str) -> usize
     entries.partition_point(|word| word.text <= text)
 }
 
-/// Returns the index after this one; 0 for `None`. `last_prefix` goes on with the entries before
+/// Returns the index after `last`, or 0 for `None`. `last_prefix` goes on with the entries before
 /// the returned index.
 fn index_after(last: Option<u16>) -> usize
     ensures { result ≡ after_last last }
@@ -142,9 +142,9 @@ fn ordered<'g>(alloc: Global, literals: &'g [Text]) -> Result<Vec<LiteralEntry<'
     Ok(entries)
 }
 
-/// Returns for each entry the index of the last entry before it whose text is a prefix of its own,
-/// or `None`: for `+`, `++`, `-` these are `None`, 0 and `None`. Fails with `NoMemory` if the list
-/// cannot be allocated.
+/// Returns for each entry e the index of the last entry before e whose text is a prefix of the text
+/// of e, or `None`: for `+`, `++`, `-` these are `None`, 0 and `None`. Fails with `NoMemory` if the
+/// list cannot be allocated.
 fn linked(alloc: Global, entries: &[LiteralEntry<'_>]) -> Result<Vec<Option<u16>>, NoMemory>
     requires many { length entries.now ≤ max_literals }
     requires ordered { AreOrdered entries.now }
@@ -194,9 +194,9 @@ fn prefix_at<'w, 'g>(
     }
 }
 
-/// Returns the longest literal that is a prefix of the text, or `None`; for an empty text `None`,
-/// since no literal is empty. Searches the sorted table only if several literals begin with the
-/// first byte of the text.
+/// Returns the longest literal that is a prefix of the text, or `None`. For an empty text returns
+/// `None`, since no literal is empty. Searches the sorted table only if several literals begin with
+/// the first byte of the text.
 #[inline(always)]
 fn longest_by_start<'w, 'g>(
     texts: &[Text],
@@ -222,8 +222,8 @@ fn longest_by_start<'w, 'g>(
 }
 
 impl<'g> Literals<'g> {
-    /// Makes the table of a grammar's literals. Fails with `NoMemory` if memory runs out: allocates
-    /// for each literal, and for each of the 256 bytes with which a literal can begin.
+    /// Makes the table of a grammar's literals. Takes memory for each literal, and for each of the
+    /// 256 bytes with which a literal can begin. Fails with `NoMemory` if memory runs out.
     pub fn new(alloc: Global, texts: &'g [Text]) -> Result<Literals<'g>, NoMemory>
         requires many { length texts.now ≤ max_literals }
         requires not_empty { HasNoEmpty texts.now }

@@ -34,8 +34,8 @@ fn leading_span(span: Class, class: u16, text: &str) -> LeadingWord<'_>
     }
 }
 
-/// Returns the TEXT whose opening quote has been read, or `None` if its closing quote is missing on
-/// this line.
+/// Returns the TEXT whose opening quote is directly before `text`, or `None` if its closing quote
+/// is missing on the same line.
 fn leading_text(text: &str) -> Option<LeadingWord<'_>>
     ensures { option_map (λ f. cutting.leading_word_of f) result ≡ cutting.text_from (chars text.now) }
 {
@@ -84,8 +84,8 @@ fn class_begun<'t>(
 }
 
 /// Returns the word of one of these classes at the beginning of a text, or `None`. `leading_class`
-/// calls it only if a class is in use. It is a function of its own, so that the stack slot of its
-/// result is initialized only then.
+/// calls this function only if a class is in use. The function is separate from `leading_class`, so
+/// that the stack slot of its result is initialized only then.
 #[inline(always)]
 #[tactic(auto, unfolding(crate::specs::Cutting::class_from))]
 fn class_among<'t>(classes: &[u16], text: &'t str) -> Option<LeadingWord<'t>>

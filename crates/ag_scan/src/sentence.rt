@@ -18,9 +18,9 @@ use std::alloc::Global;
 use std::marker::Model;
 
 /// A sentence that is known to consist of separators and tokens with texts of at most 65,535 bytes.
-/// It stores the text of the sentence, a table of the literals and the classes in use, but not the
-/// tokens. The reader that `tokens` returns computes them again, one at a time. In contracts a
-/// sentence is the list of its tokens.
+/// It stores the text of the sentence, the classes in use, and a table of the literals. It doesn't
+/// store the tokens: the reader that `tokens` returns computes them again, one at a time. In
+/// contracts a sentence is the list of its tokens.
 #[derive(Drop)]
 pub struct Sentence<'s> {
     vocabulary: Vocabulary<'s>,
@@ -42,7 +42,7 @@ impl<'s> Model for Sentence<'s> {
 
 /// Checks that a text of at most 1,048,576 bytes consists of tokens and separators, and that the
 /// text of each token has at most 65,535 bytes. At the first offset where this is not so, fails
-/// with S2 if no word begins there, and with S3 if the token's text is longer.
+/// with S2 if no word begins there, and with S3 if a token with a longer text begins there.
 #[inline(never)]
 fn check_tokens(vocabulary: &Vocabulary<'_>, text: &str) -> Result<(), ScanFault>
     requires short { length text.now ≤ max_sentence_bytes }
@@ -94,11 +94,15 @@ fn scan_over<'s>(
 /// Scans a sentence: checks that it consists of separators and tokens, by longest match over the
 /// literals and the classes of the grammar.
 ///
-/// Fails with the first of these faults: S4 if the sentence has more than 1,048,576 bytes; S1 if it
-/// is not UTF-8; then, from left to right, S2 at a character that is not a separator and begins no
-/// word, and S3 at a token whose text has more than 65,535 bytes. Allocates a table of the
-/// literals, but nothing for the tokens, which are computed again when they are read; fails with
-/// `NoMemory` if memory runs out.
+/// Fails with the first of these faults:
+///
+/// - S4: the sentence has more than 1,048,576 bytes;
+/// - S1: it is not UTF-8;
+/// - NoMemory: the table of the literals cannot be allocated;
+/// - S2 or S3, for the first such offset. S2: the character there is not a separator and begins no
+///   word. S3: a token begins there whose text has more than 65,535 bytes.
+///
+/// Takes no memory for the tokens, which are computed again when they are read.
 pub fn scan<'s>(
     alloc: Global,
     grammar: &'s Grammar,

@@ -19,8 +19,8 @@ pub struct Tokens<'t> {
     text: &'t str,
     taken: usize,
     next: Option<LeadingWord<'t>>,
-    /// The offset of the next token, or, at the end, of the last one, in bytes from the beginning
-    /// of the sentence; 0 for a sentence without tokens.
+    /// The offset of the next token, in bytes from the beginning of the sentence. At the end: the
+    /// offset of the last token, or 0 for a sentence without tokens.
     at: u32,
 }
 
@@ -37,9 +37,9 @@ impl<'t> Model for Tokens<'t> {
         (option_map (λ f. leading_word_of f) t.next) t.at };
 }
 
-/// Returns the first word of `following`, a suffix of `text`, after its leading separators, and the
-/// offset of this word in `text`, in bytes. At the end of the text returns no word and the offset
-/// `before`.
+/// Skips the separators at the beginning of `following`, a suffix of `text`. Returns the word after
+/// them, and the offset of this word in `text`, in bytes. At the end of the text returns no word
+/// and the offset `before`.
 #[inline(always)]
 fn next_word<'t>(
     vocabulary: &Vocabulary<'_>,
@@ -98,8 +98,8 @@ impl<'t> Tokens<'t> {
         self.taken
     }
 
-    /// Returns the offset of the next token, in bytes from the beginning of the sentence; at the
-    /// end, the offset of the last token, or 0 for a sentence without tokens.
+    /// Returns the offset of the next token, in bytes from the beginning of the sentence. At the
+    /// end returns the offset of the last token, or 0 for a sentence without tokens.
     pub fn at(&self) -> u32
         ensures { result ≡ offset_at self.now.list self.now.taken }
     {

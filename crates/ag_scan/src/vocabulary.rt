@@ -16,7 +16,7 @@ use std::alloc::Global;
 use std::marker::Model;
 
 /// The words of a grammar: the table of its literals, and the numbers of the token classes
-/// in use. Contracts see the texts of the literals and the classes.
+/// in use. Contracts see the numbers of the classes, and the texts of the literals.
 #[derive(Drop)]
 pub struct Vocabulary<'g> {
     literals: Literals<'g>,
@@ -32,8 +32,9 @@ impl<'g> Model for Vocabulary<'g> {
 }
 
 impl<'g> Vocabulary<'g> {
-    /// Makes the vocabulary of the texts of literals, indexed by their numbers, and of token
-    /// classes. Fails with `NoMemory` if the table of the literals cannot be allocated.
+    /// Makes a vocabulary. `literals` has the texts of the literals, indexed by their numbers, and
+    /// `classes` the token classes in use. Fails with `NoMemory` if the table of the literals
+    /// cannot be allocated.
     pub fn new(
         alloc: Global,
         literals: &'g [Text],

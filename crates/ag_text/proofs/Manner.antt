@@ -11,7 +11,7 @@ use Rattle.ag_text.specs.Syntax.{one}
 use Rattle.ag_text.specs.declared.stop.Stop.{Stop}
 use Rattle.ag_text.specs.declared.stop.Stop.TheVariants.{WrongAt}
 
--- whether a fault is about a token of the grammar; those of expressions belong to the expression language
+-- whether a fault is about a token of the grammar, and not about an expression
 abbrev is_reported : Stop → Bool
 is_reported (WrongAt at) = true
 is_reported _ = false

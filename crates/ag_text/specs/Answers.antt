@@ -41,8 +41,8 @@ abbrev pub answer_of : List ℕ → Outcome RawGrammar → Result RawGrammar Tex
 answer_of text (Ok p) = Ok p.0
 answer_of text (Err s) = Err (fault_of text s)
 
--- The result of parsing a text with these tokens: too long, else not UTF-8, else the result for its tokens. `utf8_valid_len` is
--- the length of the longest prefix that is UTF-8.
+-- The result of parsing a text with these tokens: G4 if the text is too long, else G1 if it is not UTF-8, else the result for the
+-- tokens. `utf8_valid_len` is the length of the longest prefix that is UTF-8.
 abbrev pub read_text : List ℕ → Input → Result RawGrammar TextFault
 read_text text i =
     cond (nat_lt max_text_bytes (length text)) (Err fault.TooLong)
@@ -59,7 +59,7 @@ IsReadText text answer = (i : Input) → Lexes 0 (chars text) i → answer ≢ E
     → answer_of text (grammar_of i) ≡ answer
 
 -- The offset of a G2 is that of the first token that cannot be accepted, or where the tokens end (`IsFirstWrong`), and its line
--- is the line at this offset. Of other faults nothing is claimed.
+-- is the line at this offset. Nothing is claimed of other faults.
 abbrev pub IsFirstOf : List ℕ → TextFault → Type 0
 IsFirstOf text (fault.Unexpected line at) = (i : Input) → Lexes 0 (chars text) i → IsFirstWrong i at × (line ≡ line_of text at)
 IsFirstOf text f = Unit {0}

@@ -9,8 +9,8 @@ use Rattle.ag_text.specs.Reading.{grammar_of}
 use Rattle.ag_text.specs.declared.stop.Stop.TheVariants.{WrongAt}
 use Rattle.ag_text.specs.Syntax.{IsGrammar}
 
--- The reading function of grammars (`grammar_of`) returns a grammar for all tokens of a text if and only if the
--- syntax relates these tokens to the grammar.
+-- The reading function of grammars (`grammar_of`) accepts the tokens of a text, and returns a grammar, if and only if
+-- the syntax relates the tokens to this grammar.
 abbrev pub ReadingAgrees : Type 0
 ReadingAgrees = (at : ℕ) (placed : List PlacedToken) (raw : RawGrammar)
     → (grammar_of (record { left = placed; ending = ending.EndsAt at }) ≡ Ok

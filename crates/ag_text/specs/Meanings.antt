@@ -61,7 +61,7 @@ class_of name =
     cond (bytes_eq name (codes "NAME")) (Some name_class)
     (cond (bytes_eq name (codes "NUMBER")) (Some number_class) (cond (bytes_eq name (codes "TEXT")) (Some text_class) None))
 
--- the item of a class, if there is one, else that of a name, if there is one
+-- the item of the class if there is a class, else the item of the name if there is a name
 abbrev pub class_or_name : Option ℕ → Option Named → Option RawItem
 class_or_name (Some class) name = Some (item.Class class)
 class_or_name None (Some name) = Some (item.Name name)

@@ -19,8 +19,8 @@ NoneGoesOn ps e [] = (at : ℕ) → e ≡ ending.EndsAt at → (raw : RawGrammar
 NoneGoesOn ps e (p ∷ rest) = Begins (ps ++ p ∷ []) → ⊥
 
 -- The offset is that of the first token of `rest`, or the offset where the tokens end if `rest` is empty. The tokens
--- before it are a prefix of the text of a grammar. If `rest` has a token, no grammar continues with it; if the text
--- ends there, the tokens before are not a grammar.
+-- `before` are a prefix of the text of a grammar. If `rest` has a token, no grammar continues with this token. If the
+-- text ends at the offset, the tokens `before` are not a grammar.
 pub record IsFirstWrong (i : Input) (at : ℕ) : Type 0 where
   pub before : List PlacedToken
   pub rest : List PlacedToken

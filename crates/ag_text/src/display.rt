@@ -4,7 +4,8 @@ use crate::fault::TextFault;
 use std::error::Error;
 use std::fmt;
 
-/// Writes the number of the fault and, if it has one, the offset: `G2 at 6`, `G3 X2 at 46`, `G4`.
+/// Writes the number of the fault, and its offset if it has one: `G2 at 6`, `G3 X2 at 46`, `G4`.
+/// `NoMemory` has no number, and is written as this name.
 impl fmt::Display for TextFault {
     ghost use Rattle.std.specs.Prelude.{Some};
     ghost use Rattle.ag_text.specs.Printed.{printed};

@@ -29,12 +29,13 @@ pub enum Expected {
 /// that can be outside of expressions.
 const SIGNS: [&str; 9] = ["=", "{", "}", ",", ";", "start", "symbol", "syn", "inh"];
 
-/// Returns what could be at the offset of this fault instead of the token there. Parses the text
-/// before the offset up to 14 times: once without anything after it, and otherwise with another
-/// candidate each time. For G3 only the last expression of this text is parsed. Returns an empty
-/// list for any fault but G2, and G3 with X2. If an expression at the offset would be of level 65,
-/// the result contains no expression or operand. It can still contain a `]`, since no expression is
-/// needed between `[` and `]`. Fails with `NoMemory` if memory runs out.
+/// Returns what could be at the offset of this fault instead of the token there. The fault is G2,
+/// or G3 with X2. For another fault returns an empty list. Parses the text before the offset once
+/// without anything after it, and once for each candidate with the candidate after it: up to 13
+/// times for G2, and up to 14 times for G3. For G3 the parsed text begins with the expression of
+/// the rule. If an expression at the offset would be of level 65, the result contains no expression
+/// or operand. It can still contain a `]`, since no expression is needed between `[` and `]`. Fails
+/// with `NoMemory` if memory runs out.
 pub fn expected_at(alloc: Global, text: &str, fault: TextFault) -> Result<Vec<Expected>, NoMemory> {
     match fault {
         TextFault::Unexpected(_, at) => expected_outside(alloc, text, at),
@@ -94,10 +95,10 @@ fn expected_inside(alloc: Global, text: &str, at: usize) -> Result<Vec<Expected>
     Ok(found)
 }
 
-/// Returns the byte offset at which the expression around the offset `at` begins. This is the
-/// offset of the token after the `=` of the rule, which is the last `=` before `at` that comes
-/// directly after an occurrence: in the part of an expression before its fault, `=` comes only
-/// after a name, in a `let`. Returns 0 if there is no such `=`.
+/// Returns the byte offset at which the expression around the offset `at` begins: the offset of the
+/// token after the `=` of the rule. This `=` is the last one before `at` that comes directly after
+/// an occurrence. (In the part of an expression before its fault, a `=` comes only after a name, in
+/// a `let`.) Returns 0 if there is no such `=`.
 fn expression_start(text: &str, at: usize) -> usize {
     let mut cursor = Cursor::new(text);
     let mut start = 0usize;
@@ -129,9 +130,9 @@ fn can_follow(alloc: Global, before: &str, token: &str) -> Result<bool, NoMemory
     }
 }
 
-/// Returns the byte offset at which the text is rejected, or `None` if it is a grammar. Returns 0
-/// for any fault but G2, G3 with X2, and NoMemory; no candidate is then taken for possible. Fails
-/// with `NoMemory`.
+/// Returns the byte offset at which the text is rejected with G2 or with G3 and X2. Returns `None`
+/// if the text is a grammar. Returns 0 for another fault, so that no candidate counts as possible.
+/// Fails with `NoMemory`.
 fn refused_at(alloc: Global, text: &str) -> Result<Option<usize>, NoMemory> {
     match read_grammar(alloc, text.as_bytes()) {
         Ok(_) => Ok(None),

@@ -68,10 +68,11 @@ fn read_characters(alloc: Global, text: &str) -> Result<RawGrammar, TextFault>
 /// Parses a text as a grammar.
 ///
 /// Fails with G4 if the text has more than 1,048,576 bytes, and otherwise with G1 if it is not
-/// UTF-8. Otherwise the fault is at the first token that cannot be accepted. It is G3 if this token
-/// is after the `=` of a rule and not after the next `;`. Without a next `;`, it is G3 everywhere
-/// after the `=`, also at the end of the text. Elsewhere it is G2, with the line. Fails with
-/// `NoMemory` if memory runs out. Every fault but `NoMemory` means that the text is not a grammar.
+/// UTF-8. Otherwise the fault is at the first token that cannot be accepted, at a character that
+/// begins no token, or at the end of the text. It is G3 after the `=` of a rule, up to the next `;`
+/// and also at this `;`. If there is no next `;`, it is G3 up to the end of the text, and also
+/// there. Elsewhere it is G2, with the line. Fails with `NoMemory` if memory runs out. Every fault
+/// but `NoMemory` means that the text is not a grammar.
 pub fn read_grammar(alloc: Global, text: &[u8]) -> Result<RawGrammar, TextFault>
     ensures exact { IsRead text.now result }
     ensures first { IfErr result (λ e. IsFirstOf text.now e) }

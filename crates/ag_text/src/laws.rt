@@ -8,8 +8,8 @@ ghost use Rattle.ag_text.specs.Syntax.{IsGrammar};
 ghost use Rattle.ag_text.specs.Worked.{constant, constant_tokens, start_alone};
 
 /// States that the reading function of grammars (`grammar_of` of the specification, which
-/// `read_grammar` agrees with) returns a grammar for all tokens of a text if and only if the syntax
-/// relates these tokens to the grammar.
+/// `read_grammar` agrees with) accepts the tokens of a text, and returns a grammar, if and only if
+/// the syntax relates the tokens to this grammar.
 #[tactic(auto, using(crate::proofs::Agree::reading_agrees))]
 pub fn reading_agrees_with_the_syntax()
     ensures { ReadingAgrees }
@@ -38,8 +38,8 @@ pub fn worked_refusal()
     ensures { ReadsAsNone (codes "start ;") }
 {}
 
-/// States that the tokens `constant_tokens` spell the grammar `constant`. The law is about tokens
-/// only. They are those of `start S; symbol S syn out; S = "x" S NAME { $0.out = 7; }`.
+/// States that the tokens `constant_tokens` spell the grammar `constant`. These are the tokens of
+/// `start S; symbol S syn out; S = "x" S NAME { $0.out = 7; }`. The law is not about this text.
 #[tactic(auto, using(crate::proofs::Examples::constant_is_spelled))]
 pub fn worked_tokens()
     ensures { IsGrammar constant_tokens constant }

@@ -10,9 +10,9 @@ use ag_value::OutOfMemory;
 /// Why the parser of grammars fails. Offsets are in bytes from the beginning of the text.
 #[derive(Clone, Copy, PartialEq, Eq)]
 pub enum Stop {
-    /// The token at this offset cannot be accepted; or the text ends there; or no token begins
-    /// there; or the number or place of the token there is above its limit. `TextFault::Unexpected`
-    /// is the same fault with its line.
+    /// At this offset is a token that cannot be accepted, a token whose number or place is above
+    /// its limit, a character that begins no token, or the end of the text.
+    /// `TextFault::Unexpected` is the same fault with its line.
     WrongAt(usize),
     /// The expression of a rule has this fault.
     InExpr(ExprFault),

@@ -76,7 +76,8 @@ pub fn sees_any(cursor: &Cursor<'_>) -> bool
     cursor.peek().is_some()
 }
 
-/// Reads this punctuation. Fails with `WrongAt` if the next token is another one or there is none.
+/// Reads this punctuation. Fails with `WrongAt` if the next token is not this punctuation, or if
+/// there is no next token.
 pub fn expect(cursor: &mut Cursor<'_>, mark: Punctuation) -> Result<(), Stop>
     ensures { Reads (reading.expect mark) cursor.old result cursor.new }
 {
@@ -89,8 +90,8 @@ pub fn expect(cursor: &mut Cursor<'_>, mark: Punctuation) -> Result<(), Stop>
     }
 }
 
-/// Reads this reserved name. Fails with `WrongAt` if the next token is another one or there is
-/// none.
+/// Reads this reserved name. Fails with `WrongAt` if the next token is not this name, or if there
+/// is no next token.
 pub fn expect_word(cursor: &mut Cursor<'_>, word: &str) -> Result<(), Stop>
     ensures { Reads (reading.expect_word word.now) cursor.old result cursor.new }
 {
@@ -111,7 +112,8 @@ fn copy_of(alloc: Global, text: &str) -> Result<Text, NoMemory>
 }
 
 /// Reads a name that is not reserved, and returns it with its offset in bytes. Fails with `WrongAt`
-/// if the next token is not such a name or there is none, and with `NoMemory` if memory runs out.
+/// if the next token is not such a name, or if there is no next token. Fails with `NoMemory` if
+/// memory runs out.
 pub fn name(alloc: Global, cursor: &mut Cursor<'_>) -> Result<Named, Stop>
     ensures { Reads (reading.one_from meanings.name_in) cursor.old result cursor.new }
 {
@@ -161,8 +163,9 @@ fn is_literal(text: &str) -> bool
     !text.is_empty() && !has_separator(text.as_bytes())
 }
 
-/// Returns the item for the body of a text literal in a right side, or `None` if its text is empty
-/// or contains a separator. Fails with `NoMemory` if memory runs out.
+/// Returns the item for a text literal in a right side, or `None` if the text is empty or contains
+/// a separator. `body` is the text between the quotes, with its escapes. Fails with `NoMemory` if
+/// memory runs out.
 fn literal(alloc: Global, body: &str) -> Result<Option<RawItem>, NoMemory>
     ensures { IfOk result (λ found. found
         ≡ meanings.literal_of (unescaped_bytes (chars body.now))) }
@@ -202,7 +205,7 @@ fn item_of(alloc: Global, token: GrammarToken<'_>, at: usize) -> Result<Option<R
 }
 
 /// Reads an item of a right side: a class, a name or a literal. Fails with `WrongAt` if the next
-/// token is not one or there is none, and with `NoMemory` if memory runs out.
+/// token is not an item, or if there is no next token. Fails with `NoMemory` if memory runs out.
 pub fn item(alloc: Global, cursor: &mut Cursor<'_>) -> Result<RawItem, Stop>
     ensures { Reads (reading.one_from meanings.item_in) cursor.old result cursor.new }
 {
@@ -217,8 +220,8 @@ pub fn item(alloc: Global, cursor: &mut Cursor<'_>) -> Result<RawItem, Stop>
 }
 
 /// Reads the target of a rule, which is an occurrence such as `$1.value`, and returns it with its
-/// offset in bytes. Fails with `WrongAt` if the next token is not an occurrence or there is none,
-/// and with `NoMemory` if memory runs out.
+/// offset in bytes. Fails with `WrongAt` if the next token is not an occurrence, or if there is no
+/// next token. Fails with `NoMemory` if memory runs out.
 pub fn target(alloc: Global, cursor: &mut Cursor<'_>) -> Result<Occ, Stop>
     ensures { Reads (reading.one_from meanings.target_in) cursor.old result cursor.new }
 {

@@ -14,7 +14,7 @@ use Rattle.ag_tokens.specs.Lexing.{token_from}
 use Rattle.ag_tokens.proofs.Prefixes.{drop_more}
 use Rattle.ag_tokens.proofs.TokenLaws.{token_sound, cut_longest, word_some}
 
--- The characters after a token that was read are fewer, and do not take more bytes.
+-- `rest`, the characters after the token at the beginning of `cs`, are fewer characters than `cs`, and take no more bytes.
 pub record IsAfter (cs rest : List ℕ) : Type 0 where
   pub shorter : length rest < length cs
   pub narrower : width rest ≤ width cs

@@ -13,18 +13,18 @@ pub prefix_passes : (p : ℕ → Bool) (cs : List ℕ) → list_all p (take (pre
 prefix_passes p [] = refl
 prefix_passes p (c ∷ cs) = let more = prefix_passes p cs in grind (arith, take_more)
 
--- the prefix is at least as long as any prefix whose characters pass,
+-- the prefix is at least as long as any prefix whose characters pass
 pub prefix_reaches : (p : ℕ → Bool) (word more : List ℕ) → list_all p word ≡ true → length word ≤ prefix_len p (word ++ more)
 prefix_reaches p [] more h = omega arith
 prefix_reaches p (c ∷ word) more h = let so_far = prefix_reaches p word more in grind (arith, so_far)
 
--- and has the length of `prefix` if the rest begins with no character that passes,
+-- the prefix has the length of `prefix`, whose characters pass, if `rest` begins with no character that passes
 pub prefix_is : (p : ℕ → Bool) (prefix rest : List ℕ) → list_all p prefix ≡ true → prefix_len p rest ≡ 0
     → prefix_len p (prefix ++ rest) ≡ length prefix
 prefix_is p [] rest all none = none
 prefix_is p (c ∷ prefix) rest all none = let more = prefix_is p prefix rest in grind (arith, more)
 
--- for example if the next character does not pass
+-- the prefix has the length of `word`, whose characters pass, if the next character c does not pass
 pub prefix_ends : (p : ℕ → Bool) (word more : List ℕ) (c : ℕ) → list_all p word ≡ true → p c ≡ false
     → prefix_len p (word ++ c ∷ more) ≡ length word
 prefix_ends p word more c h ends = prefix_is p word (c ∷ more) h (grind arith)

@@ -38,11 +38,11 @@ module _ (len : ℕ) (cs : List ℕ) where
   prefix_is (Err fault.Nothing) given = ap (input_by (cut (length cs) len) (len - width cs) cs) given
   prefix_is (Err fault.TooLarge) given = let read = token_from cs in grind arith
 
-  -- its offset is that of the rest of the text, in either case
+  -- the offset of the remaining input is that of the rest of the text, with and without a next token
   pub offset_is : (r : LeadingWord) → AgreesOnToken r (token_from cs) → offset (input len cs) ≡ len - width cs
   offset_is r given = let is = prefix_is r given in grind arith
 
-  -- and the text does not end there if characters are left
+  -- the text does not end at the remaining input if characters are left
   before_end : (r : LeadingWord) → AgreesOnToken r (token_from cs) → 0 < width cs
       → is_end (input len cs).ending (input len cs).left ≡ false
   before_end r given some = let is = prefix_is r given in grind arith

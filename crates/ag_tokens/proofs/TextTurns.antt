@@ -92,7 +92,7 @@ unescapes empty = refl
 unescapes (plain c body bytes quote slash is) = rw (ne_eqb c 92 slash) (ap (λ x. encode_utf8 c ++ x) (unescapes is))
 unescapes (escape c d body bytes same is) = rw same (ap (λ x. encode_utf8 d ++ x) (unescapes is))
 
--- the body that has been read is the text before the rest: this ends at a character boundary, and denotes `prefix`
+-- the body that has been read is the text before `rest`: it ends at a character boundary, and denotes `prefix`
 module _ (text rest : List ℕ) (total : Option (GrammarToken × List ℕ)) (so_far : Within text rest total) where
   pub boundary : IsUtf8 rest → IsCharBoundary text (length text - length rest)
   boundary = seam text rest so_far.taken so_far.split

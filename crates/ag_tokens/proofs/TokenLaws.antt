@@ -255,7 +255,7 @@ text_reach _ _ (escape c d body bytes a is) (suc n) prefix more lt =
     let rest = text_reach body bytes is n (prefix ++ encode_utf8 d) more (omega arith) in
     rw a (rest ∙ ap (λ y. Some (token.Text y, more)) (append_assoc prefix (encode_utf8 d) bytes))
 
--- the same for a result whose value is `f x` where that of another result is x
+-- `Reaches` for a result that has the value `f x` in place of the value x
 reach_as : {A B : Type 0} (f : A → B) (a : A) (more : List ℕ) (found : Option (A × List ℕ)) (made : Option (B × List ℕ))
     (x : Reaches a more found) → made ≡ Some (f x.cut.0, x.cut.1) → Reaches (f a) more made
 reach_as f a more found made x is = record { cut = (f x.cut.0, x.cut.1); is = is; far = x.far; same = λ ends. ap f (x.same ends) }

@@ -112,8 +112,8 @@ abbrev pub meaning_of : {A : Type 0} → (ℕ → GrammarToken → Option A) →
 meaning_of meaning at None = None
 meaning_of meaning at (Some t) = meaning at t
 
--- the parser of one token that has a meaning, which it returns. Without a next token, or if that has no meaning, the parser fails
--- with the fault that `wrong` returns for the input.
+-- the parser of one token that has a meaning: it returns this meaning. If there is no next token, or if the next token has no
+-- meaning, the parser fails with the fault that `wrong` returns for the input.
 abbrev pub one_from : {Fault A : Type 0} → (Input → Fault) → (ℕ → GrammarToken → Option A) → Parser Fault A
 one_from wrong meaning = λ i. accept_as wrong (meaning_of meaning (offset i) (next_token i)) i
 

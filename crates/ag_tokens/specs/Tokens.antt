@@ -167,8 +167,8 @@ pub record HasTooLarge (cs : List ℕ) : Type 0 where
   pub longest : IsLongest word following
   pub large : is_within token ≡ false
 
--- The characters `rest`, which come after the tokens of a text, are what the ending says: none, or some that begin with no token,
--- or with one above its limit. The offset in the ending is not compared.
+-- The characters `rest`, which come after the tokens of a text, are what the ending says: none, some that begin with no token, or
+-- some that begin with a token whose number or place is above its limit. The offset in the ending is not compared.
 abbrev pub Stops : Ending → List ℕ → Type 0
 Stops (ending.EndsAt at) rest = rest ≡ []
 Stops (ending.NoTokenAt at) rest = HasNoToken rest

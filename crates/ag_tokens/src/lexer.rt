@@ -112,7 +112,8 @@ fn leading_digits(text: &str) -> Option<(&str, &str)>
 }
 
 /// Returns the name at the beginning of the text and the text after it, or `None` if no name begins
-/// there. (Each character that can begin a name is also in the class `NamePart`.)
+/// there. (`split_after` takes the first character of a name too: each character that can begin a
+/// name is in the class `NamePart`.)
 #[inline(never)]
 fn leading_name(text: &str) -> Option<(&str, &str)>
     ensures { lexing.AgreesOnName result (lexing.name_from (chars text.now)) }
@@ -245,9 +246,9 @@ fn after_dot(text: &str) -> Option<&str>
 }
 
 /// Returns the character that the beginning of the body of a text literal denotes, and the text
-/// after it. An escape denotes one character, and any other character denotes itself. A quote does
-/// too: the body of a token has quotes only in escapes, but `unescaped` accepts any text.
-/// Returns `None` at the end and at a backslash that does not begin an escape.
+/// after it. An escape denotes one character, and any other character denotes itself, also a quote.
+/// (The body of a token has quotes only in escapes, but `unescaped` accepts any text.) Returns
+/// `None` at the end and at a backslash that does not begin an escape.
 fn character(text: &str) -> Option<(char, &str)>
     ensures { option_map (λ x. (x.0, chars x.1.now)) result
         ≡ lexing.piece_from (chars text.now) }
@@ -278,7 +279,7 @@ pub fn unescaped(alloc: Global, body: &str) -> Result<Text, NoMemory>
 }
 
 /// Returns the body of the text literal whose opening quote has been read, and the text after its
-/// closing quote, or `None` if it has a wrong escape or no closing quote.
+/// closing quote, or `None` if the literal has a wrong escape or no closing quote.
 #[inline(never)]
 fn leading_quoted(text: &str) -> Option<(&str, &str)>
     ensures { option_map (λ x. (token.Text (lexing.unescaped (chars x.0.now)), chars x.1.now)) result
@@ -297,8 +298,8 @@ fn leading_quoted(text: &str) -> Option<(&str, &str)>
     }
 }
 
-/// Reads the text literal whose opening quote has been read. Fails with `Nothing` if it has a wrong
-/// escape or no closing quote.
+/// Reads the text literal whose opening quote has been read. Fails with `Nothing` if the literal
+/// has a wrong escape or no closing quote.
 #[inline(always)]
 fn text_literal(text: &str) -> Result<(GrammarToken<'_>, &str), TokenFault>
     ensures { AgreesOnToken result (lexing.text_from (length (chars text.now)) [] (chars text.now)) }

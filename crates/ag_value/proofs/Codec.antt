@@ -45,8 +45,8 @@ code_takes (suc (suc (suc (suc (suc (suc (suc zero))))))) c e = ap number_of (sy
 code_takes (suc (suc (suc (suc (suc (suc (suc (suc zero)))))))) c e = ap number_of (sym (same_Some code.Deep c e))
 code_takes (suc (suc (suc (suc (suc (suc (suc (suc (suc b))))))))) c e = absurd cc
 
--- A reading function returned x, a value (`x.0`) and the bytes after it (`x.1`). The bytes begin with the spelling of the value
--- (`spell`), `test` holds of the value, and its `depth` is at most `levels`.
+-- A reading function returned x, the pair of a value (`x.0`) and the bytes after it (`x.1`). The bytes begin with the spelling of
+-- the value (`spell`), `test` holds of the value, and its `depth` is at most `levels`.
 pub record IsRead {A : Type 0} (spell : A → List ℕ) (test : A → Bool) (depth : A → ℕ) (levels : ℕ) (bytes : List ℕ)
     (x : A × List ℕ) : Type 0 where
   pub takes : Takes bytes (spell x.0) x.1

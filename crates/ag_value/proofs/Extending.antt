@@ -16,5 +16,5 @@ by_two a b c p q =
 
 pub ruleset extending = (by_nothing, by_one, by_two)
 
--- these lemmas, with those that give the spelling and the weight of a value by those of its parts
+-- these lemmas, and those that compute the spelling and the weight of a value from those of its parts
 pub ruleset appending = (extending, spellings, weights)

@@ -1,4 +1,4 @@
--- The equations of the definitions by recursion on a value, a variant at a time.
+-- Equations of the definitions by recursion on a value, such as `weight_of`: one for each variant of a value.
 use mathlib.Core.List.{map-map}
 use Rattle.std.proofs.Common.{◌≡◌, ℕ, ◌+◌, ℤ, Bool, true, false, ◌&&◌, List, [], ◌∷◌, ◌++◌, length, map, sum, sym, ap, ◌∙◌}
 use Rattle.std.proofs.lemmas.List.{length-map}

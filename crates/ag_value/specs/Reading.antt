@@ -1,7 +1,7 @@
--- Reading a value from a prefix of some bytes, as plain functions on lists. A name that ends with `_at` reads what is at the
--- beginning of the bytes (in `operations` such names have another meaning). `value_at` with 64 levels reads the spelling of each
--- well value. It also reads spellings of more than 1,048,576 bytes; a value with such a spelling is too heavy, but satisfies all
--- other conditions of well values. Lemmas in `proofs` show both.
+-- Reading a value from a prefix of some bytes, as plain functions on lists. Functions with names that end with `_at`, except
+-- `code_at`, read from the beginning of the bytes (in `operations` such names mean something else). `value_at` with 64 levels
+-- reads the spelling of each well value. It also reads spellings of more than 1,048,576 bytes, whose values are too heavy, but
+-- satisfy all other conditions of well values. Lemmas in `proofs` show both.
 use Rattle.std.specs.Prelude.{◌≡◌, ℕ, zero, suc, List, [], ◌∷◌, ◌++◌, length, take, drop, map, Option, Some, None, Result, Ok}
 use Rattle.std.specs.Prelude.{Err, nat_lt, if◌then◌else◌}
 use Rattle.std.specs.Option.{option_and_then}
@@ -24,14 +24,14 @@ infixl 10 ◌>>=◌
 abbrev pub ◌>>=◌ : {A B : Type 0} → Option A → (A → Option B) → Option B
 o >>= f = option_and_then f o
 
--- The claim of a fault of a function of the code, where `read` is the result of the definition for the same bytes. After
--- Malformed (V1), `read` is `None`; after NoMemory, nothing is claimed.
+-- What is claimed if a function of the code fails. `read` is the result of the function here for the same bytes. After Malformed
+-- (V1), `read` is `None`; after NoMemory, nothing is claimed.
 abbrev pub Fails : {Y : Type 0} → ValueFault → Option Y → Type 0
 Fails fault.Malformed read = read ≡ None
 Fails fault.NoMemory read = Unit {0}
 
--- A function of the code agrees with the result `read` of the definition for the same bytes: after Ok of x, `read` is `view x`;
--- after a fault, the fault's claim holds (`Fails`).
+-- A function of the code agrees with `read`, the result of the function here for the same bytes: after Ok of x, `read` is
+-- `view x`; after a fault, its claim `Fails` holds.
 abbrev pub Agrees : {X Y : Type 0} → (X → Y) → Result X ValueFault → Option Y → Type 0
 Agrees view (Ok x) read = read ≡ Some (view x)
 Agrees view (Err e) read = Fails e read
@@ -64,7 +64,7 @@ unfoldable pub fault_at : List ℕ → Read Value
 fault_at [] = None
 fault_at (b ∷ rest) = code_at b >>= λ c. Some (v.Fault c, rest)
 
--- the list of those that were read before, `prefix`, and of n more, which `item` reads one after the other from the bytes
+-- the list `prefix` of the items that were read before, followed by n more, which `item` reads one after the other from the bytes
 unfoldable pub all_at : {A : Type 0} → (List ℕ → Read A) → ℕ → List A → List ℕ → Read (List A)
 all_at item zero prefix bytes = Some (prefix, bytes)
 all_at item (suc n) prefix bytes = item bytes >>= λ first. all_at item n (prefix ++ first.0 ∷ []) first.1

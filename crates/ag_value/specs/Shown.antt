@@ -1,4 +1,4 @@
--- The text of a value for a reader. This project's.
+-- The text of a value, as `aggen value` prints it. This project's.
 use Rattle.std.specs.Prelude.{ℕ, List, [], ◌∷◌, ◌++◌, map, codes, encode_utf8, ◌==◌, if◌then◌else◌}
 use Rattle.std.specs.Fmt.{signed_decimal}
 use Rattle.std.specs.List.{flat_map}

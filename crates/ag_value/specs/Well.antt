@@ -41,7 +41,7 @@ item_step (Value-F.Table pairs) = are_keys (map (λ p. p.0) pairs) && all_true (
 item_step (Value-F.Fault code) = false
 
 -- Whether a list or table may contain a value. The conditions are for the value itself and for the values at every level in it:
--- numbers are of i64, texts and keys are UTF-8, the keys of a table rise strictly by their bytes, and none is an error.
+-- no value is an error, numbers are of i64, texts and keys are UTF-8, and the keys of a table rise strictly by their bytes.
 abbrev pub is_item : Value → Bool
 is_item = fold-Value Bool item_step
 

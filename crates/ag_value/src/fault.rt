@@ -6,8 +6,8 @@ ghost use Rattle.ag_value.specs.declared.fault.ValueFault.TheVariants as value_f
 
 use std::alloc::{AllocError, AllocFailed};
 
-/// The fault of a call that can only run out of memory: the allocator refused memory, or a number
-/// of bytes or of owners of a shared value would exceed 2^64 - 1.
+/// The fault of a call that can only run out of memory: the allocator refused memory, or a count
+/// would exceed 2^64 - 1, namely a number of bytes or the number of owners of a shared value.
 #[derive(Clone, Copy, Debug, PartialEq, Eq)]
 pub enum NoMemory {
     NoMemory,

@@ -1,5 +1,5 @@
 //! Values of attributes: their weight and depth, their spelling (the bytes that encode a value),
-//! and their text for a reader.
+//! and the text that `aggen value` prints for a value.
 #![tactic(auto)]
 
 mod boxed;

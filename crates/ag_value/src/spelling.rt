@@ -1,4 +1,5 @@
-//! Writing and reading the spelling of a value (its encoding in bytes), and its text for a reader.
+//! Writing and reading the spelling of a value (its encoding in bytes), and writing a value as
+//! text.
 
 pub mod decoding;
 pub mod encoding;

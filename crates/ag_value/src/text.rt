@@ -6,8 +6,8 @@ use arrayvec::ArrayString;
 use std::alloc::Global;
 use std::marker::Model;
 
-/// The storage of a text: up to 16 bytes in the value itself, or a string of any length. Most names
-/// and tokens have at most 16 bytes, and so take no memory.
+/// The storage of a text: up to 16 bytes in the `Storage` itself, or a `String` of any length. Most
+/// names and tokens have at most 16 bytes, and so take no memory.
 #[derive(Debug, Drop)]
 enum Storage {
     Short(ArrayString<16>),
@@ -65,7 +65,7 @@ impl Text {
         }
     }
 
-    /// Returns the text as a string. Takes memory if the text is stored in the value itself. Fails
+    /// Returns the text as a string. Takes memory if the text is stored without a `String`. Fails
     /// with NoMemory.
     pub fn into_string(self, alloc: Global) -> Result<String, NoMemory>
         ensures { IfOk result (λ string. string_bytes string ≡ self) }

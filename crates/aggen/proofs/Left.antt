@@ -38,7 +38,7 @@ use Rattle.ag_fault.specs.declared.fault.Fault.{Fault}
 use Rattle.ag_fault.specs.declared.fault.Fault.TheVariants as fault
 use Rattle.aggen.specs.declared.translations.report.Report.{Report}
 
--- the file of pass 0 of a tree is a prefix of a file of pass 0: all of it
+-- a content that is the file of pass 0 of a tree is also a prefix of a file of pass 0, of itself
 pub first_begins : (g : Grammar) (t : Tree) (content : List ℕ) → IsAccepted g → IsTreeOf g t → IsFirstFile version_two g t content
     → BeginsFile 0 content
 first_begins g t content accepted tree is =

@@ -39,15 +39,15 @@ pub record IsTextFaultOf (text : List ℕ) (f : TextFault) : Type 0 where
   pub of_text : f ≢ text_fault.NoMemory
   pub of_expression : f ≢ text_fault.Expr expr.NoMemory
 
--- N1 to N10: the text reads as a raw grammar, whose first fault this is, and whose numbered grammar is not
--- accepted.
+-- N1 to N10: the text reads as a raw grammar, and this is its first fault. With numbers for the names, the
+-- grammar is not accepted.
 pub record IsNormalFaultOf (text : List ℕ) (f : NormalFault) : Type 0 where
   pub raw : RawGrammar
   pub reads : ReadsAsGrammar text raw
   pub first : IsFirstFault raw f
   pub refused : IsAccepted (numbered raw) → ⊥
 
--- the meaning of a fault of `print_counts` but O2: G and N are true of the text; NoMemory has none, and no other is possible
+-- the meaning of a fault of `print_counts` but O2: G and N are true of the text, NoMemory has no meaning, no other is possible
 abbrev pub IsCheckFault : List ℕ → Fault → Type 0
 IsCheckFault text (fault.Text f) = IsTextFaultOf text f
 IsCheckFault text (fault.Normal f) = IsNormalFaultOf text f

@@ -1,6 +1,6 @@
--- The translation of a job, and the meaning of its faults: for the bytes of the reader, the text of its
--- grammar, and its sentence. `honest_a` (ha) and `honest_b` (hb) say whether the two devices are honest. The other arguments are
--- those of `Translating.antt`. All of this is this project's.
+-- The translation of a job. The meaning of its faults, for the bytes of the reader, for the text of the grammar, and for the
+-- sentence. `honest_a` (ha) and `honest_b` (hb) say whether the two devices are honest. The other arguments are those of
+-- `Translating.antt`. All of this is this project's.
 use Rattle.std.specs.Prelude.{◌≡◌, ◌⊎◌, List, ℕ, Bool, Option}
 use Rattle.std.specs.Option.{IfSome}
 use Rattle.ag_grammar.specs.grammars.AttributeGrammar.{Grammar}
@@ -52,7 +52,7 @@ pub record IsRefusedJob (known : Option (List ℕ)) (honest_a honest_b : Bool) (
   pub exact : IsNoTranslator text e
       ⊎ ((grammar : Grammar) × IsGrammarOf text grammar × IsTranslationFault grammar sentence honest_a honest_b old new e)
 
--- A job's sentence has one tree by its grammar, and if the devices are honest all passes of a least plan ran over it, and the
+-- A job's sentence has one tree by its grammar. If the devices are honest, all passes of a least plan ran over this tree, and the
 -- devices have its last two files.
 pub record LeavesLastFilesOfJob (known : Option (List ℕ)) (honest_a honest_b : Bool) (a b : List ℕ) : Type 0 where
   pub text : List ℕ

@@ -34,8 +34,8 @@ PrintsCode text old new = HoldsOfPlan text (λ g rows code. Appends old new (cod
 abbrev pub BeginsCode : List ℕ → Option (List ℕ) → Option (List ℕ) → Type 0
 BeginsCode text old new = HoldsOfPlan text (λ g rows code. AppendsBeginning old new (code_text g code))
 
--- the meaning of a fault of `print_plan` and `print_code` but O2: G, N, L and A are true of the text; NoMemory has none, and no
--- other is possible
+-- the meaning of a fault of `print_plan` and `print_code` but O2: G, N, L and A are true of the text; NoMemory has no meaning; no
+-- other fault is possible
 abbrev pub IsTranslatorFault : List ℕ → Fault → Type 0
 IsTranslatorFault text (fault.Text f) = IsTextFaultOf text f
 IsTranslatorFault text (fault.Normal f) = IsNormalFaultOf text f

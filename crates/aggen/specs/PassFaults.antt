@@ -2,8 +2,8 @@
 use Rattle.pass_rows.specs.declared.run_fault.RunFault.{RunFault}
 use Rattle.pass_rows.specs.declared.run_fault.RunFault.TheVariants as run
 
--- R1, P2 and P3. D1 and NoMemory of a pass are D1 and NoMemory of the program (`run_fault_of` of `ag_fault`), and never inside
--- the variant `Run` of `Fault`.
+-- R1, P2 and P3. A D1 or NoMemory of a pass is never inside the variant `Run` of `Fault`: `run_fault_of` of `ag_fault` replaces
+-- them by the variants `Device` and `NoMemory` of `Fault`.
 abbrev pub IsAboutFile : RunFault → Type 0
 IsAboutFile (run.Damaged at) = Unit {0}
 IsAboutFile run.TooDeep = Unit {0}

@@ -52,8 +52,8 @@ IsParseFaultOf g sentence parse.TooManyNodes = LeavesOnlyTrees g sentence (Leave
 IsParseFaultOf g sentence parse.Device = ⊥
 IsParseFaultOf g sentence parse.NoMemory = ⊥
 
--- the meaning of a fault of `parse_tree`: S and P are true of the sentence; a device failure and NoMemory have none, and no other
--- fault is possible
+-- the meaning of a fault of `parse_tree`: S and P are true of the sentence; a device failure and NoMemory have no meaning; no
+-- other fault is possible
 abbrev pub IsSentenceFault : Grammar → List ℕ → Fault → Type 0
 IsSentenceFault g sentence (fault.Scan f) = IsScanFaultOf g sentence f
 IsSentenceFault g sentence (fault.Parse f) = IsParseFaultOf g sentence f

@@ -39,7 +39,7 @@ pub record AreLeft (g : Grammar) (m : Passes) (t : Tree) (a b : List ℕ) (repor
   pub leaves : LeavesSolution g m report.passes t values (last_content report.last a b) (other_content report.last a b)
   pub report_is : IsReport g report.passes t report
 
--- The sentence has one tree, and if the devices are honest all passes of an assignment ran over it.
+-- The sentence has one tree. If the devices are honest, all passes of an assignment ran over this tree.
 pub record LeavesFiles (g : Grammar) (sentence : List ℕ) (rows : List (List ℕ)) (honest_a honest_b : Bool) (a b : List ℕ)
     (report : Report) : Type 0 where
   pub tree : Tree
@@ -47,7 +47,7 @@ pub record LeavesFiles (g : Grammar) (sentence : List ℕ) (rows : List (List �
   pub greatest : IsGreatest report.passes rows
   pub left : WhenHonest honest_a (WhenHonest honest_b (AreLeft g (passes_of rows) tree a b report))
 
--- The sentence has one tree, and if the devices are honest all passes of a least plan ran over it, and the devices
+-- The sentence has one tree. If the devices are honest, all passes of a least plan ran over this tree, and the devices
 -- have its last two files.
 pub record LeavesLastFiles (g : Grammar) (sentence : List ℕ) (honest_a honest_b : Bool) (a b : List ℕ) : Type 0 where
   pub rows : List (List ℕ)
@@ -67,9 +67,9 @@ IsFaultBeforeText g sentence ha hb fault.Device = Unit {0}
 IsFaultBeforeText g sentence ha hb fault.NoMemory = Unit {0}
 IsFaultBeforeText g sentence ha hb _ = ⊥
 
--- The meaning of a fault of a translation: S and P are true of the sentence. On honest devices O1 is true of it, after
--- O2 a prefix of the translation was written, and R1, B1, B2, and P2 and P3 of a tree file are impossible. A device
--- failure and NoMemory have no meaning, and no other fault is possible.
+-- The meaning of a fault of a translation: S and P are true of the sentence. On honest devices O1 is true of the
+-- sentence; after O2 a prefix of the translation was written; R1, B1, B2, and P2 and P3 of a tree file are impossible.
+-- A device failure and NoMemory have no meaning. No other fault is possible.
 abbrev pub IsTranslationFault : Grammar → (sentence : List ℕ) → (honest_a honest_b : Bool) → (old new : Option (List ℕ)) → Fault
     → Type 0
 IsTranslationFault g sentence ha hb old new (fault.Scan f) = IsScanFaultOf g sentence f

@@ -81,13 +81,13 @@ pub record BeginsTranslation (IsTree : Tree → Type 0) (g : Grammar) (old new :
   pub root : IsTranslation g values (Text (prefix ++ rest))
   pub output : Appends old new prefix
 
--- Ok, whatever the devices return: some text was written, which is UTF-8 and not too long for a value.
+-- Ok, whatever the devices return: some text was written. The text is UTF-8 and not too long for a value.
 pub record WritesText (old new : Option (List ℕ)) : Type 0 where
   pub text : List ℕ
   pub well : IsWellText text
   pub output : Appends old new text
 
--- O2, on any devices: a prefix of some text was written, which is UTF-8 and not too long for a value.
+-- O2, on any devices: a prefix of some text was written. The whole text is UTF-8 and not too long for a value.
 pub record BeginsText (old new : Option (List ℕ)) : Type 0 where
   pub text : List ℕ
   pub well : IsWellText text

@@ -16,8 +16,8 @@ use std::rt::Files;
 /// may have. So a text that is too long is still too long after reading.
 const MAX_SOURCE_BYTES: u64 = MAX_TEXT_BYTES as u64 + 1;
 
-/// Returns the bytes of a file, at most the first 1,048,577. Fails with F1 File if it can't be
-/// opened or read, and with NoMemory if memory is refused.
+/// Returns the bytes of a file, at most the first 1,048,577. Fails with F1 File if the file can't
+/// be opened or read, and with NoMemory if memory is refused.
 pub fn source_of<R: Files>(rt: &R, alloc: Global, path: &str) -> Result<Vec<u8>, Fault>
     ensures { IfErr result IsSourceFault }
 {
@@ -27,8 +27,8 @@ pub fn source_of<R: Files>(rt: &R, alloc: Global, path: &str) -> Result<Vec<u8>,
     }
 }
 
-/// Returns the bytes of a reader, at most the first 1,048,577. Fails with F1 File if it can't be
-/// read, and with NoMemory if memory is refused.
+/// Returns the bytes of a reader, at most the first 1,048,577. Fails with F1 File if the reader
+/// fails, and with NoMemory if memory is refused.
 pub fn bytes_of<R: Read + Drop>(alloc: Global, reader: R) -> Result<Vec<u8>, Fault>
     ensures read { IfOk result (λ bytes. IfSome (R.remaining reader)
         (λ left. bytes.items ≡ take (max_text_bytes + 1) left)) }

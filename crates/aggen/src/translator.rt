@@ -77,9 +77,12 @@ impl Model for Translator {
 impl Translator {
     /// Builds the translator of a grammar's text.
     ///
-    /// Fails with G1 to G4 if the text does not read as a grammar; then with the first fault of N1
-    /// to N10 of the grammar; then with L1, the least conflict of an accepted grammar; then with
-    /// A1, if no assignment of passes is legal. Fails with NoMemory if memory is refused.
+    /// Fails with the first of these faults that applies, and with NoMemory if memory is refused:
+    ///
+    /// - G1 to G4: the text does not read as a grammar.
+    /// - N1 to N10: the grammar is not accepted. The fault is the grammar's first one.
+    /// - L1: the grammar has a conflict. The fault contains the least one.
+    /// - A1: no assignment of passes is legal.
     pub fn build(alloc: Global, text: &[u8]) -> Result<Translator, BuildFault>
         ensures grammar { IfOk result (λ t. IsGrammarOf text.now t) }
         ensures free { IfOk result (λ t. HasNoConflict t) }
@@ -363,8 +366,8 @@ impl Translator {
     }
 }
 
-/// Returns the plan of a grammar's least assignment, with the code that `generate` returns for it.
-/// Only `check_plan` makes a `Plan`, of an assignment and code that pass its check. These do.
+/// Returns the plan of a grammar: its least assignment, and the code that `generate` returns for
+/// this. `check_plan` checks the two and makes the plan of them. Fails with NoMemory.
 #[tactic(auto, using(planchecker::proofs::Taken::made_is_accepted, crate::proofs::Building::least_plan))]
 fn plan_of(alloc: Global, grammar: &Grammar, assignment: Assignment) -> Result<Plan, NoMemory>
     requires least { IsLeast grammar.now (passes_of assignment) }

@@ -33,7 +33,7 @@ has_reason : (IsTrue : Fault → Type 0) (status was : ℕ) (fields were : Refus
     → HasReason IsTrue was were → HasReason IsTrue status fields
 has_reason IsTrue status was fields were same it = record { reason = it.reason; is_true = it.is_true; same = same ∙ it.same }
 
--- `bytes_of`, `status_of` and `fields_of` are what the result of a call has, in its own types
+-- `bytes_of`, `status_of` and `fields_of` get the bytes, the status and the fields from the result of a call
 module _ (V E : Type 0) (bytes_of : V → List ℕ) (status_of : E → ℕ) (fields_of : E → RefusalFields) where
   pub answered : (Is : Grammar → List ℕ → Type 0) (IsTrue : Grammar → Fault → Type 0) (value : Option Grammar) (old new : List ℕ)
       (count status : ℕ) (fields : RefusalFields) (r : Result V E)

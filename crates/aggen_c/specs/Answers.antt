@@ -9,7 +9,7 @@ use Rattle.ag_fault.specs.declared.fault.Fault.{Fault}
 use Rattle.aggen_c.specs.Refusals.{HasReason, no_fields, numbers}
 use Rattle.aggen_c.specs.declared.refusal.RefusalFields.{RefusalFields}
 
--- a buffer, which had the content `old`, begins with as many of the first of `bytes` as it has room for; the rest is as before
+-- a buffer with the content `old` now begins with the first of `bytes`, as many as it has room for; the rest is as before
 abbrev pub IsCopied : (bytes old new : List ℕ) → Type 0
 IsCopied bytes old new = new ≡ take (min (length bytes) (length old)) bytes ++ drop (min (length bytes) (length old)) old
 

@@ -54,7 +54,7 @@ pub record IsPlanTextOf (g : Grammar) (text : List ℕ) : Type 0 where
   pub least : IsLeastPlan g rows code
   pub listing : IsPlanListing g rows text
 
--- Why a sentence has no translation: S, P and O1 are true of it. For NoMemory nothing is claimed. No other fault is possible.
+-- Why a sentence was not translated: S, P and O1 are true of the sentence; for NoMemory nothing is claimed; no other is possible.
 abbrev pub IsTranslationRefusal : Grammar → (sentence : List ℕ) → Fault → Type 0
 IsTranslationRefusal g sentence (fault.Scan f) = IsScanFaultOf g sentence f
 IsTranslationRefusal g sentence (fault.Parse f) = IsParseFaultOf g sentence f
@@ -62,7 +62,7 @@ IsTranslationRefusal g sentence (fault.NoText x) = HasNoText (IsTreeOfSentence g
 IsTranslationRefusal g sentence fault.NoMemory = Unit {0}
 IsTranslationRefusal g sentence _ = ⊥
 
--- Why a tree file has no translation: R1, P2, P3 and O1 are true of the file. For NoMemory nothing is claimed. No other fault is
+-- Why a tree file was not translated: R1, P2, P3 and O1 are true of the file. For NoMemory nothing is claimed. No other fault is
 -- possible: devices in memory never cause D1.
 abbrev pub IsEvaluationRefusal : Grammar → (file : List ℕ) → Fault → Type 0
 IsEvaluationRefusal g file (fault.Run f) = IsAboutFile f × IsTreeFileFault g file f
@@ -70,7 +70,7 @@ IsEvaluationRefusal g file (fault.NoText x) = HasNoText (IsTreeInFile g file) g 
 IsEvaluationRefusal g file fault.NoMemory = Unit {0}
 IsEvaluationRefusal g file _ = ⊥
 
--- Why a sentence has no tree file: S and P are true of it. For NoMemory nothing is claimed. No other fault is
+-- Why no tree file of a sentence was made: S and P are true of the sentence. For NoMemory nothing is claimed. No other fault is
 -- possible.
 abbrev pub IsTreeRefusal : Grammar → (sentence : List ℕ) → Fault → Type 0
 IsTreeRefusal g sentence (fault.Scan f) = IsScanFaultOf g sentence f

@@ -59,10 +59,13 @@ fn answer_of(
     }
 }
 
-/// Writes an answer to the caller's memory, and returns its status: 0 for a result, which is copied
-/// to `out`, or that of a refusal. Sets `length` to the number of all bytes of the result, or to 0
-/// for a refusal. Sets `fields` to those of the refusal, or for a result to those of a call that
-/// was not refused. Copies the message of a refusal to `message`, which otherwise stays as it is.
+/// Writes an answer to the caller's memory, and returns its status.
+///
+/// For a result: copies the result to `out`, as far as there is room, sets `length` to the number
+/// of all its bytes, sets `fields` to those of a call that was not refused, and returns 0.
+///
+/// For a refusal: sets `length` to 0, copies the message to `message`, as far as there is room,
+/// sets `fields` to those of the refusal, and returns the status of the refusal.
 pub fn write_answer(
     answer: Result<Vec<u8>, Refusal>,
     out: &mut [u8],

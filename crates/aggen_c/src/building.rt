@@ -59,8 +59,8 @@ fn refusal_of(alloc: Global, fault: Fault, grammar: &[u8]) -> Refusal
 }
 
 /// Writes the fields of a call to the caller's memory, and returns the status. If the call was
-/// refused, the fields are those of the refusal, and the message is written too. Otherwise they are
-/// those of a call that was not refused, and the status is 0.
+/// refused, writes the fields and the message of the refusal, and returns its status. Otherwise
+/// writes the fields of a call that was not refused, and returns 0.
 pub fn write_built(built: Result<(), Refusal>, message: &mut [u8], fields: &mut RefusalFields) -> u8
     ensures ok { OnOk built ((result ≡ 0) × (fields.new ≡ no_fields)) }
     ensures err { IfErr built (λ r. numbers result fields.new ≡ numbers r.status r.fields) }

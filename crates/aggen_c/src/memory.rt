@@ -102,8 +102,8 @@ fn copy_of(alloc: Global, bytes: &[u8]) -> Result<Vec<u8>, Fault>
 
 /// Returns the fault of a call that worked in memory alone: NoMemory in place of `Fault::Device`
 /// and `Fault::Write` (O2), and any other fault as it is. A write to a vector fails only if memory
-/// is refused. A device in memory never returns D1; with its case in the code, the clause `device`
-/// needs no proof about devices.
+/// is refused. A device in memory never returns D1. The code handles D1 all the same, so the clause
+/// `device` needs no proof about devices.
 fn memory_fault(fault: Fault) -> Fault
     ensures same { (result ≡ fault) ⊎ (result ≡ Fault.NoMemory) }
     ensures device { result ≢ Fault.Device }

@@ -101,7 +101,7 @@ module _ (g : Grammar) (sentence : List ℕ) (ha hb ha' hb' : Bool) (first : ha'
     };
   }
 
-  -- the meaning of a fault other than O2 holds for any printed bytes, and under stronger hypotheses about the files
+  -- if the meaning of a fault other than O2 holds for ha and hb, it holds for ha' and hb', whatever bytes were printed
   pub refused : (old new old' new' : Option (List ℕ)) (e : Fault) → e ≢ fault.Write
       → IsTranslationFault g sentence ha hb old new e → IsTranslationFault g sentence ha' hb' old' new' e
   refused old new old' new' (fault.Scan f) other exact = exact

@@ -58,7 +58,7 @@ module _ (g : Grammar) (content : List ℕ) (ht ha hb ha' hb' : Bool) (first : h
     output = printed.put;
   }
 
-  -- the meaning of a fault other than O2 holds for any printed bytes, and under stronger hypotheses about the files
+  -- if the meaning of a fault other than O2 holds for ha and hb, it holds for ha' and hb', whatever bytes were printed
   pub refused : (old new old' new' : Option (List ℕ)) (e : Fault) → e ≢ fault.Write
       → IsEvaluationFault g ht ha hb content old new e → IsEvaluationFault g ht ha' hb' content old' new' e
   refused old new old' new' (fault.Scan f) other exact = exact

@@ -1,17 +1,19 @@
-//! The functions that `aggen run --work`, `parse`, `eval` and `upgrade` call (`run` and `eval` only
-//! if they can't show their progress, and `eval` of standard input only with `--work`). Here they
-//! are called commands. A command calls the translator with one or two devices over files;
-//! `WorkFiles::evaluate` has a third device, of any kind, for the tree. If a command writes to a
-//! device over a file, it also writes out the file. So the file has the whole content of the
-//! device, unless D1 comes. A command prints to any writer, and its contract says what was printed
-//! if a contract can name the bytes of this writer.
+//! The functions that `aggen run --work`, `parse`, `eval` and `upgrade` call. (`run` and `eval`
+//! call them only if the progress can't be shown, and `eval` of standard input only with `--work`.)
 //!
-//! `WorkFiles::open` opens two files. `print_count` prints the line with the number of nodes for
-//! `parse_to_file` and `upgrade_file`.
+//! In this crate these functions are called commands. A command calls the translator with one or
+//! two devices over files. `WorkFiles::evaluate` has a third device, of any kind, for the tree. A
+//! command prints to any writer. Its contract says what was printed if a contract can name the
+//! bytes of this writer.
 //!
 //! A `FileDevice` buffers bytes in memory before it writes them to its file. So contracts
 //! distinguish the content of the device (`content_of`) from that of the file itself (`stored_of`).
-//! They are equal once `finish` has written the buffered bytes: then the file is written out.
+//! A file is *written out* when `finish` has written the buffered bytes to it. Then both contents
+//! are equal. If a command writes to a device over a file, it also writes out the file, unless D1
+//! comes.
+//!
+//! `WorkFiles::open` opens two files. `print_count` prints the line with the number of nodes for
+//! `parse_to_file` and `upgrade_file`.
 #![tactic(auto)]
 
 mod count;

@@ -32,7 +32,7 @@ use treefile::{FileDevice, MemDevice, SharedDevice};
 ///
 /// Fails with D1 if the file can't be written out, even if the sentence is refused. Otherwise fails
 /// as `Translator::parse_tree` and `print_count` do. After S1 to S4 the file has the content that
-/// its device had, and after P1 to P3 a prefix of a file of pass 0. After O2 the file has the tree,
+/// its device had. After P1 to P3 it has a prefix of a file of pass 0. After O2 it has the tree,
 /// and a prefix of the line was printed.
 pub fn parse_to_file<F: Read + Write + Seek + OpenFile, W: Write>(
     alloc: Global,
@@ -41,7 +41,7 @@ pub fn parse_to_file<F: Read + Write + Seek + OpenFile, W: Write>(
     tree: &mut FileDevice<F>,
     out: &mut W,
 ) -> Result<u32, Fault>
-    // the sentence has one tree, it is within the limits, and the file has it
+    // Ok: the sentence has exactly one tree, which is within the limits, and the file has this tree
     ensures tree { IfOk result (λ _. (t : Tree) × IsTreeOfSentence translator.now sentence.now t) }
     ensures one { (t u : Tree) → IsTreeOfSentence translator.now sentence.now t
         → IsTreeOfSentence translator.now sentence.now u → t ≡ u }
@@ -114,10 +114,10 @@ pub fn evaluate_file<F: Read + Write + Seek + OpenFile, W: Write>(
 /// with the converted file. Then prints a line with the number of the tree's nodes, and returns
 /// this number.
 ///
-/// All of `old` is read before `tree` is written; the converted records are kept in memory in the
-/// meantime. So both may be devices over one file. That file then has the new tree file, not the
-/// old one. The contracts don't see this: the device `old` is only read, so its content stays the
-/// same by the record of its own calls.
+/// All of `old` is read before `tree` is written, and until then the converted records are in
+/// memory. So both may be devices over one file. Afterwards that file has the new tree file. The
+/// contracts don't see this: the device `old` is only read, so its content stays the same by the
+/// record of its own calls.
 ///
 /// Fails with D1 if the new file can't be written out, even if the conversion failed with another
 /// fault. Otherwise fails as `Translator::upgrade` and `print_count` do. After O2 the new file is

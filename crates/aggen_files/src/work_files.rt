@@ -48,8 +48,8 @@ fn path_in(alloc: Global, folder: &str, name: &str) -> Result<String, AllocError
 impl<F: Read + Write + Seek + OpenFile> WorkFiles<F> {
     /// Opens a.agt and b.agt in a folder, and creates those that are missing. Their contents stay
     /// until a translation clears them. The calls on a.agt are added to the record `first`, and
-    /// those on b.agt to `second`. Only contracts see these records, which occupy no memory: a
-    /// caller passes a new one, `CallRecord::new()`, for each.
+    /// those on b.agt to `second`. Only contracts see these records, which occupy no memory. A
+    /// caller passes a new record for each file: `CallRecord::new()`.
     ///
     /// Fails with F1 if a file can't be opened or created, and with NoMemory if memory cannot be
     /// allocated. If only b.agt can't be opened, a.agt may have been created.
@@ -74,9 +74,9 @@ impl<F: Read + Write + Seek + OpenFile> WorkFiles<F> {
         })
     }
 
-    /// Writes to both files the bytes that their devices have buffered, to the second one also if
-    /// the first one fails. Fails with `Failed` (D1) if one of these writes or an earlier one
-    /// failed.
+    /// Writes the bytes that the two devices have buffered to their files. Writes those of b.agt
+    /// also if a write to a.agt fails. Fails with `Failed` (D1) if one of these writes failed, or
+    /// an earlier write.
     pub(crate) fn finish(&mut self) -> Result<(), DeviceFault>
         ensures a { OnOk result (StoresContent self.old.a self.new.a) }
         ensures b { OnOk result (StoresContent self.old.b self.new.b) }
@@ -127,7 +127,7 @@ impl<F: Read + Write + Seek + OpenFile> WorkFiles<F> {
         ensures kept { IfErr result (λ e. e ≢ Fault.Write → out.new ≡ out.old) }
         ensures begins { IsErrOf result Fault.Write →
             BeginsText (W.contents out.old) (W.contents out.new) }
-        // S: both files have the contents that their devices had; P: b.agt has that of its device
+        // S: both files have what their devices had; P: b.agt has what its device had
         ensures untouched { IfErr result (λ e. IsScanFault e →
             StoresContent self.old.a self.new.a) }
         ensures b_untouched { IfErr result (λ e. IsRefusedSentence e →

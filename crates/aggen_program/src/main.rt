@@ -1,15 +1,19 @@
 //! `aggen`: translators from attribute grammars.
 //!
-//! `run G S` translates the sentence in a file by the grammar in a file, and prints the
-//! translation; `eval G TREE` translates the tree in a tree file. Without arguments the program
-//! translates the job on standard input. `check G` checks a grammar, and prints its numbers of
-//! symbols and productions; `plan G` prints its passes, and `code G` their instructions; `why G`
-//! prints why the passes are needed, and `why G SYMBOL.attribute` why no earlier pass can compute
-//! the attribute; `parse G S TREE` parses a sentence, and writes its tree's file;
-//! `upgrade G OLD TREE` converts a tree file of version 1 to version 2; `show G TREE` prints the
-//! tree in a tree file, and `explain G TREE` how values of a node were computed; `value EXPR`
-//! evaluates an expression, writes its value to a tree file in memory, and prints the value that it
-//! reads back.
+//! - `run G S` translates the sentence in the file S by the grammar in the file G, and prints the
+//!   translation.
+//! - `eval G TREE` translates the tree in a tree file.
+//! - Without arguments the program translates the job on standard input.
+//! - `check G` checks a grammar, and prints its numbers of symbols and productions.
+//! - `plan G` prints the passes of a grammar, and `code G` prints their instructions.
+//! - `why G` prints why the passes are needed, and `why G SYMBOL.attribute` prints why no earlier
+//!   pass can compute the attribute.
+//! - `parse G S TREE` parses a sentence, and writes its tree to a tree file.
+//! - `upgrade G OLD TREE` converts a tree file of version 1 to version 2.
+//! - `show G TREE` prints the tree in a tree file.
+//! - `explain G TREE` prints how values of a node were computed.
+//! - `value EXPR` evaluates an expression, writes its value to a tree file in memory, and prints
+//!   the value that it reads back.
 #![tactic(auto)]
 
 ghost use Rattle.aggen.specs.Status.{IsCommandFault};

@@ -1,7 +1,7 @@
--- The listings of a plan and of its code, as bytes. In these definitions `rows` is an assignment: it has for each symbol the
--- passes of its attributes, numbered from 1. g is a grammar, k the number of a pass, q a production, p its number, and j a place
--- in it (0 is the left side). a is the number of an attribute at its symbol, and r the number of a rule in its production, both
--- from 0. All of this is this project's.
+-- The listings of a plan and of its code, as bytes. In these definitions `rows` is an assignment: for each symbol it has a list
+-- with the number, from 1, of each attribute's pass. g is a grammar, k the number of a pass, q a production, p its number, and j
+-- a place in it (0 is the left side). a is the number of an attribute at its symbol, and r the number of a rule in its
+-- production, both from 0. All of this is this project's.
 use Rattle.std.specs.Prelude.{ℕ, zero, suc, ◌≡◌, ◌==◌, if◌then◌else◌, List, [], ◌++◌, Option, map, codes, decimal, slice_index_or}
 use Rattle.std.specs.Io.KnownBytes.{Appends}
 use Rattle.std.specs.List.{enumerate_from, flat_map, zip}
@@ -57,14 +57,14 @@ instruction_text g q (instr.Put j) = codes "put " ++ decimal j
 instruction_text g q (instr.Def a r) = codes "def " ++ attribute_name g q 0 a ++ codes " rule " ++ decimal r
 instruction_text g q instr.End = codes "end"
 
--- the line of production q, whose number is p, and a pass: the numbers of the production and of the pass, and the instructions,
--- separated by a comma and a space. x is the pair of the number of the pass and the instructions
+-- The line of production q and a pass: the number p of the production, the number of the pass, and the instructions, separated
+-- by a comma and a space. x is the pair of the number of the pass and the instructions.
 abbrev pub code_line : Grammar → ℕ → Production → ℕ × List Instr → List ℕ
 code_line g p q x =
     decimal p ++ codes " pass " ++ decimal x.0 ++ codes ": " ++ separated (map (instruction_text g q) x.1) ++ codes "\n"
 
--- the lines of a production, one for each pass from 1. x is the pair of the production, with its number before it, and its lists
--- of instructions
+-- The lines of a production, one for each pass from 1. x is a pair: first the pair of the production's number and the production,
+-- and then the production's lists of instructions.
 abbrev pub production_text : Grammar → (ℕ × Production) × List (List Instr) → List ℕ
 production_text g x = flat_map (code_line g x.0.0 x.0.1) (enumerate_from 1 x.1)
 

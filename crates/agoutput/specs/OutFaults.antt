@@ -1,4 +1,4 @@
--- The fault that `root_text` returns for a fault of the tree file (this project's).
+-- The fault that `root_text` of `roottext` returns for a fault of the tree file (this project's).
 use Rattle.treefile.specs.declared.reading.FrameFault.{FrameFault}
 use Rattle.treefile.specs.declared.reading.FrameFault.TheVariants as frame_fault
 use Rattle.agoutput.specs.declared.out_fault.OutFault.{OutFault}

@@ -106,8 +106,8 @@ fn show_list(
     Ok(())
 }
 
-/// Appends the line of a production and a pass: the number of the production, from 0, the number of
-/// the pass, from 1, and the instructions of the list.
+/// Appends the line of a production and a pass: their numbers and the instructions of `list`.
+/// Productions are numbered from 0, and passes from 1.
 fn show_line(
     alloc: Global,
     out: &mut String,
@@ -162,8 +162,8 @@ fn code_lines(alloc: Global, grammar: &Grammar, code: &Code) -> Result<String, A
 
 /// Writes the listing of a plan's code: one line for each production and pass, with the
 /// instructions of its list. Productions are in the order of the grammar's text, and the lines of a
-/// production in the order of the passes, from 1. `plan` has to be a plan for `grammar`.
-/// The listing of another one could lack lines or names. Contracts see a plan as the pair of its
+/// production in the order of the passes, from 1. `plan` has to be a plan for `grammar`: the
+/// listing of another plan could lack lines or names. Contracts see a plan as the pair of its
 /// assignment (`plan.now.0`) and its code (`plan.now.1`).
 ///
 /// Fails with O2 if a write takes no byte, or fails for any reason, for example because the writer

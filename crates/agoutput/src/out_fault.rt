@@ -14,8 +14,8 @@ pub enum OutFault {
     /// B1: there are fewer than 6 bytes, or the first four are not `AGT2`.
     NotATreeFile,
     /// B2: no frame with a root's record ends at this offset in bytes, which is the end of the
-    /// file. Such a record has a value for each attribute of the start symbol, and the copies of
-    /// the children's values.
+    /// file. Such a record has a value for each attribute of the start symbol, and copies of the
+    /// children's synthesized values.
     Damaged(u64),
     /// D1: a call of the device failed.
     Device,

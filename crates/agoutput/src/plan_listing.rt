@@ -16,9 +16,9 @@ use planchecker::Plan;
 use std::alloc::{AllocError, Global};
 use std::io::Write;
 
-/// Appends a space and `SYMBOL.ATTRIBUTE`, as in ` L.p`, if `own`, the attribute's pass, is `pass`,
-/// the pass of the line. Appends nothing otherwise. Fails if memory is refused, as all `show_`
-/// functions do.
+/// Appends a space and `SYMBOL.ATTRIBUTE`, as in ` L.p`, if `own` equals `pass`. Appends nothing
+/// otherwise. `own` is the pass of the attribute, and `pass` the pass of the line. Fails if memory
+/// is refused, as all `show_` functions do.
 fn show_attribute(
     out: &mut String,
     pass: u16,
@@ -115,9 +115,9 @@ fn plan_lines(
 
 /// Writes the listing of a plan's passes: a line for each pass from 1, with its direction and the
 /// attributes that it computes. Symbols are in declared order, and for each symbol the synthesized
-/// attributes come before the inherited ones. `plan` has to be a plan for `grammar`.
-/// The listing of another one could lack lines or names. Contracts see a plan as the pair of its
-/// assignment (`plan.now.0`) and its code (`plan.now.1`).
+/// attributes come before the inherited ones. `plan` has to be a plan for `grammar`: the listing of
+/// another plan could lack lines or names. Contracts see a plan as the pair of its assignment
+/// (`plan.now.0`) and its code (`plan.now.1`).
 ///
 /// Fails with O2 if a write takes no byte, or fails for any reason, for example because the writer
 /// is refused memory. A prefix of the listing, perhaps empty, is written then. Fails with NoMemory

@@ -13,8 +13,8 @@ pub fn sample_passes_listed()
     ensures { IsPlanListing sample sample_rows sample_plan }
 {}
 
-/// States that `sample_line` is the line of production 0 and pass 1 of that grammar, if the list of
-/// instructions is `sample_list`.
+/// States that `sample_line` is the line of production 0 and pass 1 in the code of the grammar
+/// `sample`, if the list of instructions is `sample_list`.
 pub fn sample_code_listed()
     ensures { code_line sample 0 sample_production (1, sample_list) ≡ sample_line }
 {}

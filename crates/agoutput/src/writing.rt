@@ -7,8 +7,8 @@ ghost use Rattle.agoutput.specs.Writing.{AppendsBeginning};
 use crate::fault::TextOutFault;
 use std::io::Write;
 
-/// Writes bytes with as many writes as the writer needs to take all of them. Does not allocate, but
-/// the writer may.
+/// Writes bytes, and repeats this with the rest until the writer has taken all of them. Does not
+/// allocate, but the writer may.
 ///
 /// Fails with O2 if a write takes no byte, or fails for any reason, for example because the writer
 /// is refused memory. A prefix of the bytes, perhaps empty, is written then.

@@ -83,7 +83,7 @@ part_occurs content xs at from to n m p q r s small less =
     range_part content (at - count) at i j (omega arith) (omega arith) ∙ (λ t. slice_range content (starts t) (stops t)) in
     sym mine ∙ ap (λ (l : List ℕ). slice_range l i j) same ∙ theirs
 
--- after the last `n` of them are taken, the others end at the offset minus `n`
+-- if bytes end at an offset, and the last `n` of them are taken, the others end at the offset minus `n`
 pub taken_occurs : (content xs : List ℕ) (at from to n : ℕ) → from ≤ to → to ≤ length xs → to - from ≤ at
     → EndsAt content at (slice_range xs from to) → n ≤ to - from → EndsAt content (at - n) (slice_range xs from (to - n))
 taken_occurs content xs at from to n p q r s small =
@@ -103,7 +103,7 @@ taken_occurs content xs at from to n p q r s small =
       known = subst (λ (k : ℕ). IsBytes (drop k content)) same s.known;
     }
 
--- the number in the last four of them is the number before the offset
+-- if bytes end at an offset, the number in the last four of them is the number before the offset
 pub number_occurs : (content xs : List ℕ) (at from to : ℕ) → from ≤ to → to ≤ length xs → to - from ≤ at
     → EndsAt content at (slice_range xs from to) → length_bytes ≤ to - from
     → from_be_bytes w32 (slice_range xs (to - length_bytes) to) ≡ number_before content at
@@ -115,7 +115,7 @@ number_occurs content xs at from to p q r s enough =
     ap (from_be_bytes w32) (ap (λ (k : ℕ). slice_range xs (to - 4) k) here ∙ four
     ∙ ap (λ (k : ℕ). slice_range content (at - 4) k) there)
 
--- the n bytes before the last four of them are those of the content before the length that ends at the offset
+-- if bytes end at an offset, the n bytes before the last four of them are those of the content before the length at the offset
 pub body_occurs : (content xs : List ℕ) (at from to n : ℕ) → from ≤ to → to ≤ length xs → to - from ≤ at
     → EndsAt content at (slice_range xs from to) → n + length_bytes ≤ to - from
     → slice_range xs (to - (n + length_bytes)) (to - (n + length_bytes) + n) ≡ slice_range content (at - length_bytes - n)
@@ -136,7 +136,7 @@ body_at_hand version content at n is least greatest room =
     read_at version content (slice_range content (at - 4 - n) (at - 4)) at n (sym is) (ap (slice_range content (at - 4 - n)) ends)
     (omega arith) (fits version at n least greatest room)
 
--- if `n` more bytes are read before them, all these bytes end at the offset
+-- if bytes end at an offset, and `n` more bytes are read before them, all these bytes end at the offset
 pub read_occurs : (content xs ys : List ℕ) (at from to n : ℕ) → from ≤ to → to ≤ length xs → length ys ≡ length xs → IsBytes ys
     → EndsAt content at (slice_range xs from to) → n ≤ from → to - from + n ≤ at → drop from ys ≡ drop from xs
     → slice_range ys (from - n) from ≡ slice_range content (at - (to - from + n)) (at - (to - from + n) + (from - (from - n)))

@@ -79,7 +79,7 @@ impl Back {
     }
 
     /// Starts a reader at the end of a tree file of version 1, whose bodies have at most 16,777,219
-    /// bytes. Fails as `start` does, but with B1 if the first four bytes are not `AGT1`.
+    /// bytes. Fails as `start` does, but with `AGT1` in place of `AGT2`.
     pub fn start_old<D: Device>(alloc: Global, device: &mut D) -> Result<Back, FrameFault>
         // The number of the pass and B1 agree with the content.
         ensures exact { WhenHonest (D.is_honest device.new) (ReadsAs (λ back. back.progress.pass) result
@@ -95,8 +95,8 @@ impl Back {
         Back::start_version(alloc, FileVersion::One, device)
     }
 
-    /// Starts a reader at the end of a tree file of this version. Fails as `start` does, but with
-    /// B1 if the first four bytes are not those of the version (`AGT1` or `AGT2`).
+    /// Starts a reader at the end of a tree file of this version. Fails as `start` does for version
+    /// 2, and as `start_old` does for version 1.
     fn start_version<D: Device>(
         alloc: Global,
         version: FileVersion,
@@ -129,11 +129,11 @@ impl Back {
     /// first call. Returns `None` if the header ends at the reader's offset. Requires the device
     /// that the reader was started on, with the same content if it is honest.
     ///
-    /// Fails with B2 Damaged, and the offset where a frame is expected to end (`end`), if none ends
-    /// there. Fails with D1 Device if a call of the device failed. After B2 and D1 every later call
-    /// of `back` fails with the same fault and does not use the device. Takes memory only for a
-    /// frame of more than 4,096 bytes, and fails with NoMemory if it is refused. Then nothing has
-    /// changed, and the call can be repeated.
+    /// Fails with B2 Damaged, and the reader's offset (`end`), if no frame ends there. Fails with
+    /// D1 Device if a call of the device failed. After B2 and D1 every later call of `back` fails
+    /// with the same fault and does not use the device. Takes memory only for a frame of more than
+    /// 4,096 bytes, and fails with NoMemory if this memory is refused. Then nothing has changed,
+    /// and the call can be repeated.
     #[inline(always)]
     pub fn back<D: Device>(&mut self, device: &mut D) -> Result<Option<&[u8]>, FrameFault>
         requires { WhenHonest (D.is_honest device.old) (IsOver (D.content device.old) self.old) }
@@ -191,10 +191,14 @@ impl Back {
     }
 
     /// Lends the same body as the next call of `back` would, but from the memory of the device.
-    /// Returns `None`, and changes nothing, if `back` has to be called instead: if the device
-    /// doesn't lend the body (`Device::lend_before`), at the header, in a file of version 1, after
-    /// B2 or D1, and if no frame ends at the offset. Requires the device that the reader was
-    /// started on, with the same content if it is honest. Takes no memory.
+    /// Requires the device that the reader was started on, with the same content if it is honest.
+    /// Takes no memory.
+    ///
+    /// Returns `None`, and changes nothing, if `back` has to be called instead:
+    /// - if the device doesn't lend the body (`Device::lend_before`);
+    /// - if the header, or no frame, ends at the offset;
+    /// - in a file of version 1;
+    /// - after B2 or D1.
     #[inline(always)]
     pub fn lend_back<'d, D: Device>(&mut self, device: &'d D) -> Option<Body<'d>>
         requires { WhenHonest (D.is_honest device.now) (IsOver (D.content device.now) self.old) }

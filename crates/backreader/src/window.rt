@@ -267,8 +267,8 @@ impl Window {
     }
 
     /// Grows the buffer to at least `count` bytes, which must not be more than the greatest frame
-    /// has. Takes memory if it has fewer. Fails if memory is refused, and so only if `count` is
-    /// above 4,096; the window is unchanged then.
+    /// has. Takes memory only if the buffer has fewer bytes, and fails if memory is refused. So a
+    /// failure is possible only for a `count` above 4,096. The window is unchanged then.
     fn grow(&mut self, count: usize) -> Result<(), AllocError>
         requires { count ≤ greatest_body (version_of self.old.version) + length_bytes }
         ensures room { OnOk result (count ≤ vec_len self.new.buffer) }

@@ -1,5 +1,5 @@
-//! Answers questions about `Carried`, a value that is passed from node to node: owners share a
-//! large one.
+//! Answers questions about `Carried`, a value that is passed from node to node. A large value is
+//! shared by its owners.
 
 ghost use Rattle.std.specs.Prelude.{IfOk};
 ghost use Rattle.ag_value.specs.Well.{IsWell};
@@ -10,8 +10,8 @@ use ag_value::{Value, copy, is_well, show, weight};
 use rows::words::{Mistake, first_word, printed, shown_bytes};
 use std::alloc::Global;
 
-/// Makes the call that the first word of `rest` names on the current value as a `Carried`, and
-/// returns its result as text.
+/// Copies the current value into a `Carried`, makes the call that the first word of `rest` names,
+/// and returns the result of the call as text.
 pub fn carried_answer(alloc: Global, rest: &str, value: &Value) -> Result<String, Mistake> {
     let (call, other) = first_word(rest);
     let carried = carried_of(alloc, value)?;
@@ -38,8 +38,8 @@ fn carried_of(alloc: Global, value: &Value) -> Result<Carried, Mistake>
     Ok(Carried::new(alloc, copied)?)
 }
 
-/// Shows the value after `Carried::with_weight` with its own weight. Fails with `Unfit` if it is
-/// not well.
+/// Makes a `Carried` of a value and its weight (`Carried::with_weight`), and shows its value. Fails
+/// with `Unfit` if the value is not well.
 fn weighed_answer(alloc: Global, value: &Value) -> Result<String, Mistake> {
     let copied = copy(alloc, value)?;
     if !is_well(&copied) {
@@ -87,9 +87,10 @@ fn same_answer(alloc: Global, carried: &Carried, other: &Value) -> Result<String
     Ok(format!(in alloc; "{} {}", carried.same(&other), carried.same(&shared))?)
 }
 
-/// Returns the encoding of the value (`encode`), or the value that is read from the encoding and a
-/// zero byte after it, which reading has to leave. It is read with `Carried::read` (`read`), with
-/// `read_beside` of the value (`beside`) or with `read_beside` of 7 (`apart`).
+/// Returns the encoding of the value (`encode`), or the value that is read from its encoding. The
+/// call reads with `Carried::read` (`read`), with `read_beside` of the value (`beside`) or with
+/// `read_beside` of 7 (`apart`). A zero byte follows the encoding, and must not be read. Fails with
+/// `Misspelt` if `call` is another word.
 fn encoding_answer(alloc: Global, call: &str, carried: &Carried) -> Result<String, Mistake>
     requires { IsWell carried.now }
 {

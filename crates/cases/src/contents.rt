@@ -107,9 +107,10 @@ fn file_answer(alloc: Global, count: u64, file: &[u8]) -> Result<String, Mistake
     Ok(format!(in alloc; "{count} records, {file}")?)
 }
 
-/// Writes the file of a pass with the records of a text, separated by `;`, and returns it. A record
-/// is spelled by its kind, its number and its values (none, one or three numbers: no row needs
-/// another number of them), as `node 4 1` or `token 0 14`, or by its bytes, as `body 090807`.
+/// Writes the file of a pass with the records of a text, and returns the file. The records are
+/// separated by `;`. A record is spelled by its kind, its number and its values, as `node 4 1` or
+/// `token 0 14`, or by its bytes, as `body 090807`. The values are none, one or three numbers; no
+/// row needs another number of values.
 pub fn write_answer(alloc: Global, text: &str) -> Result<String, Mistake> {
     let (pass, records) = halves(text, " : ")?;
     let mut device = used_device(alloc)?;

@@ -100,9 +100,9 @@ fn grown(alloc: Global, count: u32, expr: &Expr, first: Carried) -> Result<Carri
     Ok(value)
 }
 
-/// Reads `COUNT STEP & END`, evaluates STEP COUNT times from the value `first` on, as `grown` does,
-/// then END once, and shows its value. Fails with `Unfit` if `first` is not well or one of the two
-/// isn't an expression.
+/// Reads `COUNT STEP & END`. Evaluates STEP COUNT times from the value `first` on, as `grown` does.
+/// Then evaluates END once, with that result as the value of its occurrences, and shows its value.
+/// Fails with `Unfit` if `first` is not well, or if STEP or END isn't an expression.
 pub fn grow_answer(alloc: Global, rest: &str, first: &Value) -> Result<String, Mistake> {
     let (count, texts) = first_word(rest);
     let (step, end) = halves(texts, " & ")?;
@@ -139,7 +139,8 @@ fn meter_text(alloc: Global, expr: &Expr, lent: &Value) -> Result<String, Mistak
     Ok(format!(in alloc; "{}, full {}", meter.count(), meter.is_full())?)
 }
 
-/// Evaluates a text and returns the meter's count, and whether the meter is full.
+/// Evaluates a text. Returns the meter's count and whether the meter is full, as `meter_text` does.
+/// Fails with `Unfit` if the text isn't an expression.
 pub fn meter_answer(alloc: Global, text: &str, lent: &Value) -> Result<String, Mistake> {
     match read_expr(alloc, text) {
         Ok(expr) => meter_text(alloc, &expr, lent),
@@ -188,8 +189,8 @@ fn show_occurrences(answer: &mut String, expr: &Expr) -> Result<(), AllocError> 
     Ok(())
 }
 
-/// Returns the number of different occurrences in a text, and each of them, or the fault of the
-/// text.
+/// Returns the number of different occurrences in a text, and each of them once, or the fault of
+/// the text.
 pub fn occurrences_answer(alloc: Global, text: &str) -> Result<String, Mistake> {
     match read_expr(alloc, text) {
         Ok(expr) => occurrences_text(alloc, &expr),

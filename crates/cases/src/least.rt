@@ -29,7 +29,7 @@ fn lists_text(alloc: Global, lists: &[Items<Strike>]) -> Result<String, Mistake>
     Ok(out)
 }
 
-/// Writes a list of strikes, `-` if it is empty.
+/// Writes a list of strikes, or `-` if the list is empty.
 fn show_list(out: &mut String, strikes: &[Strike]) -> Result<(), AllocError> {
     if strikes.is_empty() {
         return out.push_str("-");

@@ -113,7 +113,7 @@ fn next_file(
     Ok(to)
 }
 
-/// Returns the counts of several passes, and their last file.
+/// Returns the counts of several passes, the device that has the last file, and this file.
 fn sum_answer(
     alloc: Global,
     last: Last,
@@ -129,8 +129,9 @@ fn sum_answer(
 }
 
 /// Runs the passes of a plan from `first` on over a file, alternating between its device and an
-/// empty one. Returns their counts and their last file, or their fault. Fails with `Unfit` unless
-/// `first` is at least 1 and at most one more than the number of passes.
+/// empty one. Returns the counts of the passes and the last file, or their fault. If `first` is one
+/// more than the number of passes, no pass runs. Fails with `Unfit` if `first` is 0 or greater than
+/// that.
 fn run_from(
     alloc: Global,
     grammar: &Grammar,

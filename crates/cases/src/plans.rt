@@ -30,7 +30,8 @@ fn instruction(word: &str) -> Result<Instr, Mistake> {
     rule_instruction(word)
 }
 
-/// Returns the `Def` or `Set` that a word spells.
+/// Returns the `Def` or `Set` that a word spells. Fails with `Misspelt` if the word doesn't begin
+/// with `d` or `s`.
 fn rule_instruction(word: &str) -> Result<Instr, Mistake> {
     if let Some(numbers) = word.strip_prefix('d') {
         let (attr, rule) = halves(numbers, ".")?;
@@ -60,7 +61,7 @@ fn list(alloc: Global, text: &str) -> Result<Vec<Instr>, Mistake> {
     Ok(list)
 }
 
-/// Returns the lists of a production, one for each pass, separated by `;`.
+/// Returns the lists of a production that a text spells: one for each pass, separated by `;`.
 fn lists(alloc: Global, text: &str) -> Result<Vec<Vec<Instr>>, Mistake> {
     let mut lists = Vec::new(alloc);
     for part in parts(alloc, text, " ; ")?.as_slice() {
@@ -69,7 +70,7 @@ fn lists(alloc: Global, text: &str) -> Result<Vec<Vec<Instr>>, Mistake> {
     Ok(lists)
 }
 
-/// Returns the lists of the productions, separated by `|`.
+/// Returns the lists of all productions that a text spells. Productions are separated by `|`.
 fn rows_of_lists(alloc: Global, text: &str) -> Result<Vec<Vec<Vec<Instr>>>, Mistake> {
     let mut rows = Vec::new(alloc);
     for part in parts(alloc, text, " | ")?.as_slice() {
@@ -88,7 +89,7 @@ pub fn assignment(alloc: Global, text: &str) -> Result<Assignment, Mistake> {
     Ok(Assignment::of_rows(rows))
 }
 
-/// Returns the assignment and the code of a text, separated by `:`.
+/// Returns the assignment and the code that a text spells, separated by `:`.
 pub fn pair(alloc: Global, text: &str) -> Result<(Assignment, Code), Mistake> {
     let (rows, lists) = halves(text, " : ")?;
     let assignment = assignment(alloc, rows)?;
@@ -117,7 +118,7 @@ pub fn plan_answer(alloc: Global, grammar: &Grammar, spelled: &str) -> Result<St
 }
 
 /// Returns the plan of a grammar: its least assignment and the code for it. Fails with `Unfit` if
-/// it has none.
+/// the grammar has no plan.
 pub fn plan_of(alloc: Global, grammar: &Grammar) -> Result<Plan, Mistake>
     ensures { IfOk result (λ plan. IsPlan grammar.now plan.0 plan.1) }
 {
@@ -139,7 +140,8 @@ pub fn listing_answer(alloc: Global, grammar: &Grammar) -> Result<String, Mistak
     whole_lines(alloc, listing.as_slice())
 }
 
-/// Writes the listings of the passes and of the code of a plan.
+/// Writes the listings of the passes and of the code of a plan. Fails with `Unfit` if memory is
+/// refused.
 fn write_listings(
     alloc: Global,
     listing: &mut Vec<u8>,

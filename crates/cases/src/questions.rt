@@ -77,8 +77,8 @@ impl Question<'_> {
         self.of_plans(&grammar)
     }
 
-    /// Returns whether the question needs a current grammar that is accepted. The question `check`
-    /// is about a current grammar that may be rejected.
+    /// Returns whether the question needs a current grammar that is accepted. (`check` doesn't: it
+    /// is also a question about rejected grammars.)
     fn is_of_grammar(&self) -> bool {
         match self.verb {
             "parts" | "listing" | "assign" | "plan" | "stuck" => true,

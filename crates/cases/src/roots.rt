@@ -39,8 +39,8 @@ pub fn root_bytes_answer(
     text_answer(alloc, grammar, &plan, &mut file)
 }
 
-/// Runs a pass of a plan and returns its output file. Fails with `Unfit` if the pass fails. `pass`
-/// is always a pass of the plan. The test of this is there only since `run_pass` requires it.
+/// Runs a pass of a plan and returns its output file. Fails with `Unfit` if the pass fails. Callers
+/// give a pass of the plan. This is tested here for the prover alone, as `run_pass` requires it.
 fn next_file(
     alloc: Global,
     grammar: &Grammar,

@@ -30,7 +30,8 @@ fn tables_of(alloc: Global, grammar: &Grammar) -> Result<Tables, Mistake>
     }
 }
 
-/// Returns the terminal of a word (`literal` or `class`) and a number.
+/// Returns the terminal of a word and a number. Fails with `Misspelt` if the word is neither
+/// `literal` nor `class`.
 fn terminal(word: &str, number: &str) -> Result<Terminal, Mistake> {
     match word {
         "literal" => Ok(Terminal::Literal(short_number(number)?)),
@@ -112,8 +113,8 @@ fn tokens_of<'s>(
     }
 }
 
-/// Parses tokens and writes the tree's file onto a device. Returns the number of stored nodes, or
-/// the fault.
+/// Parses tokens and writes the tree's file onto a device. Returns the number of nodes in the file,
+/// or the fault.
 fn parse_tokens<D: Device>(
     alloc: Global,
     grammar: &Grammar,
@@ -129,7 +130,7 @@ fn parse_tokens<D: Device>(
 }
 
 /// Scans and parses a sentence and writes the tree's file onto a device. Returns the number of
-/// stored nodes, or the parser's fault.
+/// nodes in the file, or the parser's fault.
 fn parse_sentence(
     alloc: Global,
     grammar: &Grammar,
@@ -141,7 +142,8 @@ fn parse_sentence(
     Ok(parse_tokens(alloc, grammar, &tables, &tokens, device))
 }
 
-/// Returns the number of stored nodes and the tree's file of a sentence, or the parser's fault.
+/// Returns the number of nodes in the tree's file of a sentence, and this file, or the parser's
+/// fault.
 pub fn parse_answer(alloc: Global, grammar: &Grammar, sentence: &str) -> Result<String, Mistake> {
     let mut device = MemDevice::new(alloc);
     match parse_sentence(alloc, grammar, sentence, &mut device)? {
@@ -166,7 +168,7 @@ pub fn parse_failing_answer(
 }
 
 /// Returns a device with the tree's file of a sentence. Fails with `Unfit` if the parser rejects
-/// it.
+/// the sentence.
 pub fn tree_of(alloc: Global, grammar: &Grammar, sentence: &str) -> Result<MemDevice, Mistake> {
     let mut device = MemDevice::new(alloc);
     match parse_sentence(alloc, grammar, sentence, &mut device)? {
@@ -176,7 +178,7 @@ pub fn tree_of(alloc: Global, grammar: &Grammar, sentence: &str) -> Result<MemDe
 }
 
 /// Returns the number of tokens before the place at which the parser stops, and what is expected
-/// there. If `parse` doesn't fail with P1, nothing is expected.
+/// there. If `parse` doesn't fail with P1 (an unexpected token), nothing is expected.
 pub fn stand_answer(alloc: Global, grammar: &Grammar, sentence: &str) -> Result<String, Mistake> {
     let tokens = tokens_of(alloc, grammar, sentence)?;
     let tables = tables_of(alloc, grammar)?;

@@ -19,7 +19,7 @@ pub fn assign_answer(alloc: Global, grammar: &Grammar) -> Result<String, Mistake
     }
 }
 
-/// Returns a certificate as a row with the verb `stuck` spells it, with this verb.
+/// Returns the row with the verb `stuck` that spells a certificate.
 fn certificate_text(alloc: Global, stuck: &Stuck) -> Result<String, Mistake> {
     let mut answer = String::from_str(alloc, "stuck")?;
     show_parts(&mut answer, stuck)?;
@@ -35,7 +35,7 @@ fn show_parts(answer: &mut String, stuck: &Stuck) -> Result<(), AllocError> {
     show_strikes(answer, stuck.even.as_slice())
 }
 
-/// Writes a `|`, and after it the strikes for odd passes, or those for even passes.
+/// Writes a `|`, and after it strikes: those for odd passes, or those for even ones.
 fn show_strikes(answer: &mut String, strikes: &[Strike]) -> Result<(), AllocError> {
     answer.push_str(" |")?;
     for strike in strikes {

@@ -55,7 +55,7 @@ fn answer_of_values(
     }
 }
 
-/// Answers questions about contents of devices.
+/// Answers questions about contents of devices. Fails with `Misspelt` if no question has this verb.
 fn answer_of_contents(
     alloc: Global,
     texts: &CurrentTexts,

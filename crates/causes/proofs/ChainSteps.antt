@@ -45,7 +45,7 @@ rule_there rules list at number target rule same same_number within is found =
     let one : found.rule ≡ rule = cc in
     (ap (λ (xs : List Rule). slice_get xs number) (sym same) ∙ there, ap (λ (r : Rule). r.target) (sym one) ∙ found.gives)
 
--- A chain that is read in a file goes on by one rule; the grammar, the index and the content have two names.
+-- A chain that is read in a file goes on by one rule. (The grammar has two names, g and h; so have the index and the content.)
 pub reads_on : (g h : Grammar) (i j : TreeIndex) (old new : List ℕ) → g ≡ h → i ≡ j → old ≡ new
     → (places : List ℕ) (target : Target) (there : List ℕ) (from : Target) (n : ℕ) (beyond : List ℕ) (origin : Target)
     → IsChain (in_file h j new) places target there from n → IsPassedFrom (in_file g i old) there from beyond origin
@@ -60,7 +60,7 @@ reads_on g h i j old new same_grammar same_index same_content places target ther
     let one_more : suc n ≡ n + 1 = omega arith in
     subst (IsChain (in_file h j new) places target beyond origin) one_more (longer there from n beyond origin chain with_both)
 
--- A chain that is read in a file ends in the rule in which the error arises.
+-- A chain that is read in a file ends in the rule in which the error arises. (The same things have two names.)
 pub arises_in : (g h : Grammar) (i j : TreeIndex) (old new : List ℕ) → g ≡ h → i ≡ j → old ≡ new
     → (places : List ℕ) (target : Target) (there : List ℕ) (from : Target) (n : ℕ) (beyond at : List ℕ) (number : ℕ) → at ≡ beyond
     → IsChain (in_file h j new) places target there from n → Follows (in_file g i old) there from beyond (step.Arises number)

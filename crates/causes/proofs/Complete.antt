@@ -62,7 +62,7 @@ plain_symbol [] (n ∷ inh) a plain e = let bad : ⊥ = cc in bad
 plain_symbol (n ∷ syn) inh zero plain e = let bad : ⊥ = cc in bad
 plain_symbol (n ∷ syn) inh (suc a) plain e = plain_symbol syn inh a plain e
 
--- places that count from 1, up to one of them
+-- a list of places, which count from 1, is split at one of them; the path, from 0, is split at the same index
 record IsOnWay (path prefix : List ℕ) (place : ℕ) : Type 0 where
   before : List ℕ
   number : ℕ

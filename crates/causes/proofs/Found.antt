@@ -24,7 +24,7 @@ prepend R places target there from link itself = longer places target 0 there fr
 prepend R places target there from link (longer between via n beyond origin chain last) =
     longer between via (suc n) beyond origin (prepend R places target there from link chain) last
 
--- An attribute at a place of the node of a path is of a kind.
+-- An attribute at a place of the node at the end of a path is of a kind.
 record IsOfKind (g : Grammar) (t : Tree) (path : List ℕ) (o : Target) (kind : Kind) : Type 0 where
   production : ℕ
   trees : Forest

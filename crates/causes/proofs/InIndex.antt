@@ -248,7 +248,7 @@ found_body content end body another next before = by_header (nat_eq end header_b
         sym one ∙ other
     by_header false (Err fault) e h = absurd (let bad : ⊥ = cc in bad)
 
--- The values of a record are those of a node of a tree: by both, the rules' arguments have the same values.
+-- The values of a record are those of a node of a tree: the arguments of each rule have the same values in both.
 pub record IsRowAt (g : Grammar) (p : ℕ) (vs : List Value) (r : ℕ) (w : Valuation) : Type 0 where
   pub of : Production
   pub of_record : IsProduction g p of
@@ -289,7 +289,7 @@ row_at g m k body p vs r ts w (item.Symbol s) accepted legal last recorded is no
           ∙ argument_value g m k legal last q ts w o fits recorded.texts.1 (normal i rule is_rule j o arg));
     }
 
--- what a rule does by the record of a node, it does by the values of the tree
+-- what a rule does with the values of a node's record, it does with the values of the tree
 in_tree_at : (g : Grammar) (m : Passes) (k : ℕ) (t : Tree) (v : Valuation) (places : List ℕ) (target : Target) (does : Next)
     (body : List ℕ) (p : ℕ) (vs : List Value) (path : List ℕ) (tree : Tree) (w : Valuation) (x : Item) → IsAccepted g
     → IsLegal g m → IsLastPass k m → w ≡ values_at v path → places ≡ map suc path → tree_at (Some t) path ≡ Some tree
@@ -341,7 +341,7 @@ read_in_tree g index content places target does end body p vs accepted ends befo
       recorded.1 is node_is next,
 )
 
--- a chain that is read in one way is one in another that has the same rules
+-- a chain by one reading is a chain by another one, if each rule that does something by the first does it by the second
 pub chain_in : (R S : Reading) → ((places : List ℕ) (target : Target) (does : Next) → R places target does → S places target does)
     → (places : List ℕ) (target : Target) {there : List ℕ} {from : Target} {n : ℕ} → IsChain R places target there from n
     → IsChain S places target there from n

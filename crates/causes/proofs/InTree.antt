@@ -43,7 +43,7 @@ last_place (x ∷ xs) (y ∷ ys) place e =
       path = ap (λ (zs : List ℕ). x ∷ zs) last.path ∙ ap (λ (z : ℕ). z ∷ ys ++ last.number ∷ []) first;
     }
 
--- the instance that an argument stands for is the one that the rule for it computes
+-- the instance that an argument stands for is the one that the rule for this argument computes
 same_instance : (path beyond : List ℕ) (argument from : Target) → GoesTo (map suc path) argument (map suc beyond) from
     → place_path path argument.place ≡ place_path beyond from.place
 same_instance path beyond argument from (attr, inl (own, up)) =
@@ -54,7 +54,7 @@ same_instance path beyond argument from (attr, inr (child, down, own)) =
     ap (place_path path) last.counted ∙ sym last.path ∙ sym (ap (place_path beyond) own)
 
 module _ (g : Grammar) (t : Tree) (v : Valuation) where
-  -- the error of what the rule for a target at the node of a path computes has a cause
+  -- the error that the rule for a target, at the node at the end of a path, computes has a cause
   abbrev IsCaused : List ℕ → Target → Type 0
   IsCaused path target = HasCause g t v (place_path path target.place) target.attr
 
@@ -77,7 +77,7 @@ module _ (g : Grammar) (t : Tree) (v : Valuation) where
       }) found.next.arises in
       subst (λ (p : List ℕ). IsCaused p target) same (subst (IsCaused found.path) found.next.gives caused)
 
-  -- and if it is passed on from an error that has one;
+  -- and if it is passed on from an error that has a cause;
   passes : (path : List ℕ) (target : Target) (beyond : List ℕ) (from : Target)
       → IsPassedFrom (in_tree g t v) (map suc path) target (map suc beyond) from → IsCaused beyond from → IsCaused path target
   passes path target beyond from link cause =
@@ -104,7 +104,7 @@ module _ (g : Grammar) (t : Tree) (v : Valuation) where
       }) found.next.source found.next.takes of_argument in
       subst (λ (p : List ℕ). IsCaused p target) (sym same) (subst (IsCaused found.path) found.next.gives caused)
 
-  -- so the error at the beginning of a chain has a cause if the one at its end has
+  -- so the error at the beginning of a chain has a cause if the error at the end of the chain has a cause
   along : (places : List ℕ) (target : Target) {there : List ℕ} {from : Target} {n : ℕ}
       → IsChain (in_tree g t v) places target there from n → (path : List ℕ) → places ≡ map suc path → (beyond : List ℕ)
       → there ≡ map suc beyond → IsCaused beyond from → IsCaused path target

@@ -43,7 +43,7 @@ none_further rules target number rule there differs before n r less is gives = e
       both_ways (nat_eq rule.target.place target.place && nat_eq rule.target.attr target.attr) differs on
 ]
 
--- If the number of a rule does not fit two bytes, and no rule before it is for the target, none with a number that fits is.
+-- If no rule before a number is for the target, and the number does not fit two bytes, none of the first 65,536 rules is for it.
 pub none_that_fits : {E : Type 0} (rules : List Rule) (target : Target) (number : ℕ) (converted : Result ℕ E)
     → NoneBefore rules target number → OkIff converted (number < 65536) number
     → IfNone (result_ok converted) (NoneBefore rules target 65536)
@@ -57,7 +57,7 @@ none_that_fits rules target number (Err e) before is = λ n r small there gives.
 pub no_rule : (rules : List Rule) (e : Table) (target : Target) → NoneBefore rules target 65536 → HasNoError rules e target
 no_rule rules e target none n r small there gives = absurd (none n r small there gives)
 
--- The rules' targets differ. If a rule is for a target, and its value is not an error, no rule for the target has an error.
+-- If no two rules have the same target, and the value of a rule for a target is not an error, no rule for it has an error.
 pub no_other : (rules : List Rule) (e : Table) (target : Target) (number : ℕ) (rule : Rule)
     → DifferIn (λ (r : Rule). r.target) rules
     → slice_get rules number ≡ Some rule → rule.target ≡ target
@@ -116,7 +116,7 @@ pub none_then : {X P Q : Type 0} (o : Option X) → (P → Q) → IfNone o P →
 none_then None further holds = further holds
 none_then (Some x) further holds = tt
 
--- A chain that is read in a file stops; the grammar, the index and the content have two names.
+-- A chain that is read in a file stops. (The grammar has two names, g and h; so have the index and the content.)
 pub stops_after : (g h : Grammar) (i j : TreeIndex) (old new : List ℕ) → g ≡ h → i ≡ j → old ≡ new
     → (places : List ℕ) (target : Target) (there : List ℕ) (from : Target) (n limit : ℕ)
     → IsChain (in_file h j new) places target there from n → Stops g i old there from → StopsAfter h j new places target limit

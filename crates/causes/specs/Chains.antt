@@ -114,7 +114,7 @@ Follows R places target there step.Nothing = Unit {0}
 
 -- A chain in which n rules pass an error on, each the error of the next rule. It begins with the rule for `target` at the end of
 -- `places`. The next two arguments are the places and the target of the rule to which it leads, the one after these n rules. Of
--- what this last rule does, nothing is claimed. If n is 0, it is the first rule itself.
+-- what this last rule does, nothing is claimed. If n is 0, the last rule is the first one.
 pub data IsChain (R : Reading) (places : List ℕ) (target : Target) : List ℕ → Target → ℕ → Type 0 where
   itself : IsChain R places target places target 0
   longer : (there : List ℕ) (from : Target) (n : ℕ) (beyond : List ℕ) (next : Target) → IsChain R places target there from n

@@ -82,7 +82,7 @@ abbrev pub IsCauseIn : Grammar → TreeIndex → List ℕ → List ℕ → Targe
 IsCauseIn g index content places target there number n = IsIndexIn g content index
     → OfEachLast (IsCauseOf g places target there number n) g content
 
--- If the node of this number in the index is one of a production of the grammar, the index has no end of the node's record.
+-- The index has no node of this number that is one of a production of the grammar, or has no end of the node's record.
 abbrev pub HasNoRecord : Grammar → TreeIndex → ℕ → Type 0
 HasNoRecord g index number = (p : ℕ) (q : Production) → kind_in index number ≡ Some (kind.Node p) → IsProduction g p q
     → end_of index number ≡ None
@@ -125,12 +125,12 @@ pub record IsPassedFromNowhere (g : Grammar) (index : TreeIndex) (content places
   pub passes : in_file g index content places target (rule_does.Passes argument)
   pub nowhere : GoesNowhere g index places argument
 
--- No rule follows the one for a target at the node at the end of some places, and the error does not arise in it.
+-- A chain stops at a node: the index lacks its record, no rule for the target has an error, or the argument has no rule.
 abbrev pub Stops : Grammar → TreeIndex → List ℕ → List ℕ → Target → Type 0
 Stops g index content places target = IsWithoutRecord g index places ⊎ IsWithoutError g index content places target
     ⊎ IsPassedFromNowhere g index content places target
 
--- A chain stops without a cause, or at least as many rules of it passed the error on as the limit says.
+-- A chain stops without a cause, or at least `limit` rules of the chain passed the error on.
 pub record StopsAfter (g : Grammar) (index : TreeIndex) (content places : List ℕ) (target : Target) (limit : ℕ) : Type 0 where
   pub there : List ℕ
   pub from : Target

@@ -26,7 +26,7 @@ const MAX_STEPS: u32 = 16 * MAX_NODES;
 /// The cause of an error.
 #[derive(Drop)]
 pub struct Cause {
-    /// The number of the node, in the index, in whose rule the error arises.
+    /// The number, in the index, of the node in whose rule the error arises.
     pub node: u32,
     /// The places of children, from 1, that lead from the root to that node.
     pub places: Vec<u16>,
@@ -307,7 +307,7 @@ impl<'a> Chain<'a> {
 /// is that of the file, the grammar is accepted, and the file is that of a tree of at most
 /// `MAX_NODES` nodes whose values are a solution.
 ///
-/// Fails with R1 if the record of a rule of the chain is damaged, with D1 if a call of the device
+/// Fails with R1 if the record of a node of the chain is damaged, with D1 if a call of the device
 /// fails, and with NoMemory if memory is refused. Reads a record for each rule in the chain.
 pub fn find_cause<D: Device>(
     alloc: Global,

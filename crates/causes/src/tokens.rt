@@ -57,7 +57,8 @@ fn tokens_between(index: &TreeIndex, counts: &TokenCounts, node: u32, child: u32
     }
 }
 
-/// Returns the first number of the index after those of the nodes of a node's subtree.
+/// Returns the number that the index gives to the first node after a node's subtree: one more than
+/// the last number in the subtree.
 fn end_of(index: &TreeIndex, node: u32) -> Option<u32> {
     node.checked_add(index.size(node)?)
 }

@@ -15,7 +15,7 @@ added_more xs y t h = (h.0, h.1, get_push_front xs y h.1 h.0 h.2, h.3)
 pub added_here : (xs : List Addition) (y : Addition) → IsAdded (xs ++ y ∷ []) y.number
 added_here xs y = (length xs, y, get_push_end xs y, refl)
 
--- a reason stays one if more numbers have the property that it requires of the numbers of a body
+-- a reason for which a body has the property P is also one for a property Q that P implies
 pub reason_more : (clauses : List Clause) (seeds : List ℕ) (P Q : ℕ → Type 0) → ((t : ℕ) → P t → Q t) → (n : ℕ) (r : Reason)
     → IsReason clauses seeds P n r → IsReason clauses seeds Q n r
 reason_more clauses seeds P Q more n (reason.Seed i) h = h
@@ -27,7 +27,7 @@ before_more xs y n t h = (h.0, h.1, h.2, get_push_front xs y h.1 h.0 h.3, h.4)
 before_end : (xs : List Addition) (y : Addition) (t : ℕ) → IsAdded xs t → IsAddedBefore (xs ++ y ∷ []) (length xs) t
 before_end xs y t h = (h.0, h.1, slice_get_within xs h.0 h.1 h.2, get_push_front xs y h.1 h.0 h.2, h.3)
 
--- one more number is added, which was not there
+-- a list in order stays in order if a number that it doesn't have is added, with a reason
 pub order_more : (clauses : List Clause) (seeds : List ℕ) (xs : List Addition) (y : Addition) → (IsAdded xs y.number → ⊥)
     → IsReason clauses seeds (IsAdded xs) y.number y.reason → AreInOrder clauses seeds xs
     → AreInOrder clauses seeds (xs ++ y ∷ [])

@@ -4,8 +4,8 @@ use Rattle.std.proofs.lemmas.List.Elements.{All-nil, All-cons, All-head, All-tai
 use Rattle.closure.specs.declared.clause.Clause.{Clause}
 use Rattle.closure.specs.Following.{Follows, FollowAll, seed, by_clause, nothing, one_more}
 
--- Induction: a property that the seeds have and that is closed under the clauses holds of all numbers that
--- follow.
+-- Induction: let the seeds have a property, and the head of each clause whose body has it. Then all numbers that
+-- follow have it.
 mutual
   pub follows_in : (cs : List Clause) (seeds : List ℕ) (P : ℕ → Type 0) → ((t : ℕ) → Contains seeds t → P t)
       → ((p : ℕ) (c : Clause) → slice_get cs p ≡ Some c → All P c.body → P c.head) → (s : ℕ) → Follows cs seeds s → P s
@@ -20,7 +20,7 @@ mutual
   all_in cs seeds P start closed (n ∷ ns) (one_more h k) =
       All-cons P n ns (follows_in cs seeds P start closed n h) (all_in cs seeds P start closed ns k)
 
--- numbers follow if each of them does
+-- the numbers of a list follow (`FollowAll`) if each of them follows
 pub follow_all : (cs : List Clause) (seeds ns : List ℕ) → All (Follows cs seeds) ns → FollowAll cs seeds ns
 follow_all cs seeds [] all = nothing
 follow_all cs seeds (n ∷ ns) all =

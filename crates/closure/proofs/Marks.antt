@@ -1,4 +1,4 @@
--- One more mark, and its effects.
+-- Lemmas on a search: what stays true when a number is marked, a clause visited, or a number taken from the queue.
 use Rattle.std.proofs.Common.{ℕ, zero, suc, ◌⊎◌, Contains, ◌+◌, ◌≡◌, ◌<◌, ◌≤◌, ◌↔◌, Bool, true, false, ◌&&◌, List, [], ◌∷◌, ◌++◌}
 use Rattle.std.proofs.Common.{length, get_or, take, replicate, count_by, Some, slice_get, slice_index, nat_eq, refl, sym, subst}
 use Rattle.std.proofs.Common.{◌∙◌, inl, inr, set, arith, length-set}
@@ -38,7 +38,7 @@ pub waits : (marks : List Bool) (added : List Addition) (v : ℕ) (q : Clause) (
     → is_marked marks (get_or q.body n d) ≡ false → IsSettled marks added v q
 waits marks added v q n d lt h = inr (get_or q.body n d, Contains-get_or q.body n d lt, inl h)
 
--- the same with the terms of `advance`: n is the length of the marked prefix, and it is not that of the whole body
+-- the same for `advance`: n is the length of the body's marked prefix, and the body is longer
 pub waits_at : (marks : List Bool) (added : List Addition) (v : ℕ) (clauses : List Clause) (clause : ℕ) (q : Clause)
     (body : List ℕ) (n : ℕ) (d : Clause) → clause < length clauses → body ≡ (get_or clauses clause q).body → n ≤ length body
     → ((e : ℕ) → n < length body → is_marked marks (get_or body n e) ≡ false) → nat_eq n (length body) ≡ false
@@ -142,7 +142,7 @@ grows_on v a x b y c z m n =
       open_stays = λ t h. n.open_stays t (m.open_stays t h);
     }
 
--- one more seed is marked
+-- if the first i seeds are marked, and seed i too, then the first i + 1 seeds are
 pub seeded_more : (marks marks' : List Bool) (seeds : List ℕ) (i : ℕ) → i < length seeds
     → ((t : ℕ) → is_marked marks t ≡ true → is_marked marks' t ≡ true)
     → ((t : ℕ) → Contains (take i seeds) t → is_marked marks t ≡ true) → is_marked marks' (get_or seeds i 0) ≡ true
@@ -153,7 +153,7 @@ seeded_more marks marks' seeds i lt kept before here t h =
       | inr e ↦ rw (← e) here
     ]
 
--- one more clause is visited
+-- if a clause is settled when it is among the first i of `visited`, and clause i is now, then likewise for the first i + 1
 pub settled_more : (B : Type 0) (v : ℕ) (marks : List Bool) (added : List Addition) (marks' : List Bool) (added' : List Addition)
     (q : Clause) (visited : List ℕ) (i p : ℕ) → i < length visited → Grows v marks added marks' added'
     → (B ⊎ Contains (take i visited) p → IsSettled marks added v q) → (get_or visited i 0 ≡ p → IsSettled marks' added' v q)
@@ -213,7 +213,7 @@ next_within clauses seeds marks added v passed x count len lt is search =
     (marked_within marks x.number
     ((search.is_added x.number).1 (v, x, slice_get_read added (length added) v x refl lt is, refl)))
 
--- the next number is visited
+-- the invariant still holds when the visit of the next number begins
 pub search_taken : (clauses : List Clause) (seeds : List ℕ) (marks : List Bool) (added : List Addition) (v : ℕ) (passed : List ℕ)
     → v < length added → IsSearch clauses seeds marks added v passed → IsSearch clauses seeds marks added (v + 1) passed
 search_taken clauses seeds marks added v passed lt search = record {
@@ -228,7 +228,7 @@ search_taken clauses seeds marks added v passed lt search = record {
   marked = search.marked;
 }
 
--- the number at index v is visited: a clause that was settled still is, or the number's row lists the clause's index
+-- when the visit of the number at index v begins, a settled clause stays settled, or its index is in the number's row
 pub settled_taken : (marks : List Bool) (added : List Addition) (v p : ℕ) (x : Addition) (q : Clause) (uses : List (List ℕ))
     → slice_get added v ≡ Some x → ((t : ℕ) → Contains q.body t → Contains (row uses t) p)
     → IsSettled marks added v q → IsSettled marks added (v + 1) q ⊎ Contains (row uses x.number) p

@@ -1,4 +1,4 @@
--- The clauses that wait for each number.
+-- Lemmas on the rows of the clauses that wait for each number.
 use Rattle.std.proofs.Common.{ℕ, zero, suc, Contains, ◌+◌, ◌≡◌, ◌<◌, List, [], ◌∷◌, ◌++◌, length, get_or, take, All, refl, ap}
 use Rattle.std.proofs.Common.{sym, ◌∙◌, inl, inr, set, arith, length-set}
 use Rattle.std.proofs.lemmas.Bool.{cases_eq}
@@ -9,7 +9,7 @@ use Rattle.std.specs.Global.{Vec}
 use Rattle.closure.specs.declared.clause.Clause.{Clause}
 use Rattle.closure.specs.Waiting.{AddsClause, row, rows}
 
--- a clause is added to the row of one number, which is `symbol`
+-- `AddsClause` holds if a clause is added to the row of the number `symbol`
 pub notes_at : (clause symbol : ℕ) (uses : List (List ℕ)) → symbol < length uses
     → AddsClause clause uses (set uses symbol (row uses symbol ++ clause ∷ []))
 notes_at clause symbol uses lt = record {
@@ -49,7 +49,7 @@ notes_on clause a b c m n =
       fits = λ k below all. n.fits k below (m.fits k below all);
     }
 
--- one more number of the body is done
+-- if the rows of the first i numbers of a body list the clause, and then number i's does too, the rows of the first i + 1 do
 pub noted_more : (clause : ℕ) (a b : List (List ℕ)) (body : List ℕ) (i : ℕ) (d : ℕ) → i < length body → AddsClause clause a b
     → ((t : ℕ) → Contains (take i body) t → Contains (row a t) clause)
     → ((t : ℕ) → get_or body i d ≡ t → Contains (row b t) clause) → (t : ℕ) → Contains (take (i + 1) body) t
@@ -60,13 +60,13 @@ noted_more clause a b body i d lt adds before here t h =
       | inr e ↦ here t e
     ]
 
--- the rows of empty lists are empty
+-- each row of a table of empty lists is empty
 pub rows_empty : (table : List (Vec ℕ)) → All (λ (v : Vec ℕ). v.items ≡ []) table → (t : ℕ) → row (rows table) t ≡ []
 rows_empty [] empty t = refl
 rows_empty (v ∷ table) empty zero = All-head (λ (w : Vec ℕ). w.items ≡ []) v table empty
 rows_empty (v ∷ table) empty (suc t) = rows_empty table (All-tail (λ (w : Vec ℕ). w.items ≡ []) v table empty) t
 
--- one more clause is added
+-- if the clauses before index `at` are listed in the rows, and clause `at` is added, those before `at + 1` are listed
 pub noted_lines : (a b : List (List ℕ)) (clauses : List Clause) (at : ℕ) (q : Clause) (body : List ℕ) → at < length clauses
     → body ≡ (get_or clauses at q).body → AddsClause at a b
     → ((p t : ℕ) (d : Clause) → p < at → Contains (get_or clauses p d).body t → Contains (row a t) p)

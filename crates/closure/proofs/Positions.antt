@@ -3,7 +3,7 @@ use Rattle.std.proofs.Common.{ℕ, zero, suc, ◌≡◌, ◌⊎◌, List, [], �
 use Rattle.std.proofs.Common.{inl, inr, arith}
 use Rattle.std.proofs.lemmas.Option.{slice_get-get_or, slice_get_within, get_or_from_slice_get}
 
--- an element of a mapped list is the image of the element at the same position, and the converse
+-- the element at a position of a mapped list is the image of the element at this position, and conversely
 pub mapped_at : {X Y : Type 0} (f : X → Y) (xs : List X) (i : ℕ) (y : Y) → slice_get (map f xs) i ≡ Some y
     → (x : X) × (slice_get xs i ≡ Some x) × (f x ≡ y)
 mapped_at f [] i y e = absurd (cc)
@@ -23,7 +23,7 @@ position_of_element xs x h = (h.0, slice_get-get_or xs h.0 x h.1 ∙ ap Some h.2
 pub element_at : {X : Type 0} (xs : List X) (p : ℕ) (x : X) → slice_get xs p ≡ Some x → Contains xs x
 element_at xs p x h = (p, slice_get_within xs p x h, get_or_from_slice_get xs p x x h)
 
--- the elements of a list with one more at the end
+-- the elements of a list after an element is added at its end
 pub get_push_front : {A : Type 0} (xs : List A) (y x : A) (i : ℕ) → slice_get xs i ≡ Some x → slice_get (xs ++ y ∷ []) i ≡ Some x
 get_push_front [] y x i e = absurd (let bad : ⊥ = cc in bad)
 get_push_front (z ∷ xs) y x zero e = e

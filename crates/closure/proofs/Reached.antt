@@ -16,8 +16,8 @@ step edges seeds e h from = let w = position_of_element edges e h in
     head_follows (map clause_of_edge edges) seeds w.0 (clause_of_edge e) (at_mapped clause_of_edge edges w.0 e w.1)
     (All-cons (Follows (map clause_of_edge edges) seeds) e.from [] from (All-nil (Follows (map clause_of_edge edges) seeds)))
 
--- Induction: a property that the seeds have and that is kept along edges holds of all numbers that are
--- reached.
+-- Induction: let the seeds have a property, and the end of each edge whose start has it. Then all numbers that are
+-- reached have it.
 pub reached_in : (edges : List Edge) (seeds : List ℕ) (P : ℕ → Type 0) → ((t : ℕ) → Contains seeds t → P t)
     → ((e : Edge) → Contains edges e → P e.from → P e.to) → (s : ℕ) → Follows (map clause_of_edge edges) seeds s → P s
 reached_in edges seeds P start goes = follows_in (map clause_of_edge edges) seeds P start (λ p c h all.

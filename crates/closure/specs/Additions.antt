@@ -13,8 +13,8 @@ IsAdded xs t = (i : ℕ) × (x : Addition) × (slice_get xs i ≡ Some x) × (x.
 abbrev pub IsAddedBefore : List Addition → ℕ → ℕ → Type 0
 IsAddedBefore xs n t = (i : ℕ) × (x : Addition) × (i < n) × (slice_get xs i ≡ Some x) × (x.number ≡ t)
 
--- The number n follows for this reason: n is the seed with the reason's index, or it is the head of the clause with that
--- index, and each number of the clause's body satisfies `there`.
+-- The number n follows for this reason. `Seed i`: n is the seed with index i. `Clause p`: n is the head of the clause with index
+-- p, and each number of this clause's body satisfies `there`.
 abbrev pub IsReason : List Clause → List ℕ → (there : ℕ → Type 0) → ℕ → Reason → Type 0
 IsReason clauses seeds there n (reason.Seed i) = slice_get seeds i ≡ Some n
 IsReason clauses seeds there n (reason.Clause p) = (q : Clause) × (slice_get clauses p ≡ Some q) × (q.head ≡ n) × All there q.body

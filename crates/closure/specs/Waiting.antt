@@ -12,8 +12,8 @@ rows table = map (λ v. v.items) table
 abbrev pub row : List (List ℕ) → ℕ → List ℕ
 row table t = slice_index_or table t []
 
--- The table `new` has as many rows as `old`, and each contains the entries that it had. If the clause's index and all entries of
--- `old` are below a number, so are all entries of `new`. This doesn't say which entries were added.
+-- The tables `old` and `new` have the same number of rows, and each row of `new` has all entries of this row in `old`. If the
+-- clause's index and all entries of `old` are below a number n, so are all entries of `new`. This doesn't say which are new.
 pub record AddsClause (clause : ℕ) (old new : List (List ℕ)) : Type 0 where
   pub same : length new ≡ length old
   pub kept : (t p : ℕ) → Contains (row old t) p → Contains (row new t) p

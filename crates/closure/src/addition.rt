@@ -3,10 +3,10 @@
 /// The reason why a number follows.
 #[derive(Clone, Copy, PartialEq, Eq)]
 pub enum Reason {
-    /// It is the seed with this index.
+    /// The number is the seed with this index.
     Seed(usize),
-    /// It is the head of the clause with this index, and each number of the clause's body was found
-    /// before.
+    /// The number is the head of the clause with this index, and each number of the clause's body
+    /// was found before.
     Clause(usize),
 }
 

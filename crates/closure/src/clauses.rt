@@ -61,9 +61,9 @@ impl Clauses {
     }
 
     /// Makes a clause of each edge. Its head is the edge's end, and its body the edge's start
-    /// alone, so that a number follows if it is reached from a seed. The starts and ends have to be
-    /// below `count`. Takes memory and time linear in the number of edges and in `count`. Fails
-    /// with NoMemory if a request for memory is refused.
+    /// alone. So exactly those numbers follow that are reached from a seed. The starts and ends
+    /// have to be below `count`. Takes memory and time linear in the number of edges and in
+    /// `count`. Fails with NoMemory if a request for memory is refused.
     pub fn of_edges(alloc: Global, edges: &[Edge], count: usize) -> Result<Clauses, NoMemory>
         requires { All (IsEdgeBelow count) edges.now }
         ensures { IfOk result (λ c. c ≡ clauses_of_edges edges.now count) }
@@ -83,9 +83,10 @@ impl Clauses {
         Ok(self.find(alloc, seeds)?.marks)
     }
 
-    /// Returns the numbers that follow from the clauses and the seeds, and, for each number below
-    /// the count, whether it follows. Each number that follows is listed once, with the seed or the
-    /// clause by which it follows, and after all numbers of that clause's body.
+    /// Returns a list of the numbers that follow from the clauses and the seeds, and, for each
+    /// number below the count, whether it follows. The list has each number once, with the seed or
+    /// the clause by which the number follows. If it follows by a clause, the numbers of the
+    /// clause's body are earlier in the list.
     ///
     /// The seeds have to be below the count. The list is filled as a queue. First come the heads of
     /// the clauses with an empty body, and then the seeds, both in the order of their indices. For

@@ -7,7 +7,7 @@ use crate::clause::Clause;
 use ag_value::{Items, NoMemory};
 use std::alloc::Global;
 
-/// An edge: if its start is reached, its end is.
+/// An edge: if its start is reached, its end is reached too.
 #[derive(Clone, Copy, PartialEq, Eq)]
 pub struct Edge {
     /// The start.

@@ -48,7 +48,7 @@ fn known_prefix_len(marks: &[bool], body: &[usize], from: usize) -> usize
 struct Search<'g> {
     clauses: &'g [Clause],
     seeds: &'g [usize],
-    /// For each number below the count, whether it is found to follow.
+    /// For each number below the count, whether it was found to follow.
     marks: Vec<bool>,
     /// The marked numbers, in the order in which they were found.
     added: Vec<Addition>,
@@ -60,8 +60,8 @@ struct Search<'g> {
 }
 
 impl<'g> Search<'g> {
-    /// Advances in the body of the clause with this index to its first number that is not marked.
-    /// Returns true if all are marked.
+    /// Advances in the body of the clause with this index to the first number that is not marked.
+    /// Returns whether all numbers of the body are marked.
     fn advance(&mut self, clause: usize) -> bool
         requires clause { clause < length self.old.clauses.now }
         requires search { IsSearch self.old.clauses.now self.old.seeds.now self.old.marks.items
@@ -84,8 +84,8 @@ impl<'g> Search<'g> {
         passed == body.len()
     }
 
-    /// Adds a number for a reason, and marks it, unless it is marked already. Fails with NoMemory
-    /// if a request for memory is refused.
+    /// Adds a number, with a reason, and marks the number. Does nothing if it is marked already.
+    /// Fails with NoMemory if a request for memory is refused.
     fn mark(&mut self, number: usize, reason: Reason) -> Result<(), NoMemory>
         requires number { number < length self.old.marks.items }
         requires reason { IsReason self.old.clauses.now self.old.seeds.now
@@ -131,8 +131,9 @@ impl<'g> Search<'g> {
         Ok(())
     }
 
-    /// Adds and marks the head of the clause with this index, if its whole body is marked and the
-    /// head is not. Fails with NoMemory if a request for memory is refused.
+    /// Adds and marks the head of the clause with this index if all numbers of its body are marked.
+    /// A head that is marked already isn't added again. Fails with NoMemory if a request for memory
+    /// is refused.
     fn visit(&mut self, clause: usize) -> Result<(), NoMemory>
         requires clause { clause < length self.old.clauses.now }
         requires search { IsSearch self.old.clauses.now self.old.seeds.now self.old.marks.items
@@ -154,10 +155,10 @@ impl<'g> Search<'g> {
         Ok(())
     }
 
-    /// Visits clauses, given by their indices. A clause is settled (`IsSettled`) if its head is
-    /// marked, or a number of its body is not marked or not yet visited. Afterwards these clauses
-    /// are settled, and clauses that were settled before still are. Fails with NoMemory if a
-    /// request for memory is refused.
+    /// Visits the clauses with these indices. After the call, each of them is settled
+    /// (`IsSettled`), and so is each clause that was settled before the call. A clause is settled
+    /// if its head is marked, or if its body has a number that is not marked or whose visit has not
+    /// begun. Fails with NoMemory if a request for memory is refused.
     fn visit_all(&mut self, waiting: &[usize]) -> Result<(), NoMemory>
         requires clauses { All (λ p. p < length self.old.clauses.now) waiting.now }
         requires search { IsSearch self.old.clauses.now self.old.seeds.now self.old.marks.items
@@ -182,12 +183,12 @@ impl<'g> Search<'g> {
     }
 }
 
-/// Returns the numbers that follow from clauses and seeds, each with its reason and after the
-/// numbers of the body by which it follows, and a mark for each number. `uses` has a row for each
-/// number below the count: the indices of the clauses whose bodies contain it. `facts` has the
-/// indices of the clauses with an empty body. Takes time linear in the number of clauses, the
-/// lengths of their bodies, the lengths of `uses`, of its rows, of `facts` and of `seeds`. Fails
-/// with NoMemory if a request for memory is refused.
+/// Returns a list of the numbers that follow from clauses and seeds, and a mark for each number.
+/// The list is as `Clauses::find` describes it. `uses` has a row for each number below the count:
+/// the indices of the clauses whose bodies contain the number. `facts` has the indices of the
+/// clauses with an empty body. Takes time linear in the number of clauses, the lengths of their
+/// bodies, and the lengths of `uses`, of its rows, of `facts` and of `seeds`. Fails with NoMemory
+/// if a request for memory is refused.
 pub(crate) fn find<'g>(
     alloc: Global,
     clauses: &'g [Clause],

@@ -1,5 +1,6 @@
-//! Finds the clauses that wait for each number: those whose bodies contain it. The row of a number
-//! is the list of their indices. Also finds the clauses with an empty body.
+//! Finds the clauses that wait for each number: a clause waits for the numbers of its body. The row
+//! of a number is the list of the indices of the clauses that wait for the number. Also finds the
+//! clauses with an empty body.
 ghost use Rattle.std.specs.Prelude.{◌≡◌, ◌<◌, ℕ, [], length, All, Contains, IfOk, OnOk};
 ghost use Rattle.std.specs.Prelude.{slice_index_or};
 ghost use Rattle.closure.specs.Clauses.{IsClauseBelow};

@@ -10,9 +10,9 @@ use rows::words::{Mistake, first_word, number};
 use std::alloc::Global;
 use treefile::MemDevice;
 
-/// Calls the function that the verb `what` names, which writes a text, a grammar's counts, a plan,
-/// its code, the value 14 or, for any other verb, a translation to the writer. Returns how the call
-/// ends.
+/// Calls the function that the verb `what` names, with the writer `out`. The function writes a
+/// text, a grammar's counts, a plan, a plan's code, or the value 14. For any other verb it writes a
+/// translation. Returns how the call ends.
 fn ending_of_writes(alloc: Global, what: &str, out: &mut NarrowWriter) -> Result<Ending, Mistake> {
     let fractions = FRACTIONS.as_bytes();
     match what {

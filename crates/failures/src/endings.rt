@@ -40,7 +40,8 @@ impl Ending {
         }
     }
 
-    /// Returns how a call ended, and what it wrote, quoted; a fixed text if that is not UTF-8.
+    /// Returns how a call ended, and in quotes what it wrote. If the bytes that it wrote are not
+    /// UTF-8, a fixed text takes their place.
     pub fn answer(self, alloc: Global, written: &[u8]) -> Result<String, AllocError> {
         let written = str::from_utf8(written).unwrap_or("bytes that are not UTF-8");
         format!(in alloc; "{self:?} {written:?}")

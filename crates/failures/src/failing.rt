@@ -116,8 +116,7 @@ fn evaluates_without(
 
 /// Upgrades the old tree twice and returns whether the first run succeeds. One of the two runs must
 /// fail with D1. The other must succeed, and write `FRACTION_TREE`. `kept` is the file of the old
-/// tree. Fails with `Unfit` in all other cases, and if the content of the device `old`
-/// has changed.
+/// tree. Fails with `Unfit` in all other cases, and if the content of the device `old` has changed.
 fn upgrades_twice(
     translator: &Translator,
     kept: &[u8],
@@ -190,7 +189,7 @@ fn first_unmade_call(
     Err(Mistake::Unfit)
 }
 
-/// Returns the device that a word names.
+/// Returns the device that a word names. Fails with `Misspelt` if the word names none.
 fn run_device(word: &str) -> Result<RunDevice, Mistake> {
     match word {
         "first" => Ok(RunDevice::First),

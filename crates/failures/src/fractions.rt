@@ -1,6 +1,5 @@
-//! Binary fractions: their grammar, and a sentence with its tree. Other functions build a
-//! translator, translate and evaluate over given devices, and parse on a device of which a given
-//! call fails.
+//! Binary fractions: their grammar, and a sentence with its tree. The functions build a translator,
+//! translate and evaluate over given devices, and parse over a device of which a given call fails.
 
 use crate::endings::Ending;
 use aggen::Translator;

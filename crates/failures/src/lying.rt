@@ -18,9 +18,9 @@ use treefile::{Device, DeviceFault, Kind, MemDevice};
 /// What a device lies about.
 #[derive(Clone, Copy)]
 enum Lie {
-    /// Its length is 2^63.
+    /// `len` returns 2^63.
     Long,
-    /// `len` returns the length less `calls` (of the device), or 0 if that is negative.
+    /// `len` returns the length less `calls` of `LyingDevice`, or 0 if that is negative.
     Shrinking,
     /// `len` returns the length plus `calls`.
     Growing,
@@ -79,7 +79,7 @@ impl Device for LyingDevice {
     }
 }
 
-/// Returns the lie that a word names.
+/// Returns the lie that a word names. Fails with `Misspelt` if the word names none.
 fn lie_named(word: &str) -> Result<Lie, Mistake> {
     match word {
         "long" => Ok(Lie::Long),
@@ -121,7 +121,7 @@ fn empty_lying_device(alloc: Global, lie: Lie) -> LyingDevice {
     }
 }
 
-/// Returns whether a run succeeded, its writer failed, or it wrote nothing.
+/// Returns whether an answer is clean: the run succeeded, its writer failed, or it wrote nothing.
 fn is_clean(answer: &str) -> bool {
     answer.starts_with("Done ") || answer.starts_with("Write ") || answer.ends_with(" \"\"")
 }
@@ -175,7 +175,7 @@ fn upgrade_lying(alloc: Global, translator: &Translator, lie: Lie) -> Result<(),
 }
 
 /// Runs passes, `upgrade`, `translate` and `evaluate_tree` over devices that lie. Returns whether
-/// the translation and the evaluation wrote nothing, unless they succeeded or their writer failed.
+/// the answers of the translation and of the evaluation are clean (`is_clean`).
 fn leave_no_output(alloc: Global, translator: &Translator, lie: Lie) -> Result<bool, Mistake> {
     run_lying_passes(alloc, translator, lie)?;
     upgrade_lying(alloc, translator, lie)?;
@@ -184,9 +184,9 @@ fn leave_no_output(alloc: Global, translator: &Translator, lie: Lie) -> Result<b
     Ok(is_clean(translation.as_str()) && is_clean(evaluation.as_str()))
 }
 
-/// Runs passes, `translate`, `evaluate_tree` and `upgrade` over devices with the lie that a word
-/// names. Returns whether `translate` and `evaluate_tree` wrote nothing, unless they succeeded or
-/// their writer failed. Fails with `Misspelt` if the word names no lie.
+/// Runs passes, `upgrade`, `translate` and `evaluate_tree` over devices with the lie that a word
+/// names. Returns whether the answers of `translate` and `evaluate_tree` are clean (`is_clean`).
+/// Fails with `Misspelt` if the word names no lie.
 pub fn lie_answer(alloc: Global, word: &str) -> Result<String, Mistake> {
     let lie = lie_named(word)?;
     let translator = translator(alloc, FRACTIONS)?;

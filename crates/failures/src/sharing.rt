@@ -1,4 +1,4 @@
-//! Translations over two devices in memory that own large values instead of copying their bytes.
+//! Translations over two devices in memory that share large values instead of copying their bytes.
 //! One call of one device fails: first call 1, then call 2, and so on.
 
 use crate::fractions::{translated, translator};

@@ -20,14 +20,14 @@ fn three_answer(
     Ok(format!(in alloc; "{first}, {refused}, {last}")?)
 }
 
-/// Translates three sentences over two devices in memory. Returns how each call ends.
+/// Translates three sentences over two devices in memory. Returns what `three_answer` does.
 fn three_translated(alloc: Global, translator: &Translator) -> Result<String, Mistake> {
     let mut a = MemDevice::new(alloc);
     let mut b = MemDevice::new(alloc);
     three_answer(alloc, translator, &mut a, &mut b)
 }
 
-/// Builds a translator, translates three sentences, and returns how each call ends.
+/// Builds a translator, translates three sentences, and returns what `three_answer` does.
 pub fn translate_three_answer(alloc: Global) -> Result<String, Mistake> {
     let translator = translator(alloc, FRACTIONS)?;
     three_translated(alloc, &translator)

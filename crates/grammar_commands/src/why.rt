@@ -1,7 +1,8 @@
 //! The command that explains why a grammar needs its passes: `why`.
 
-ghost use Rattle.std.specs.Prelude.{◌≡◌, ◌≢◌, IfErr, IfOk, IsErr, IsErrOf, OnOk, string_bytes};
+ghost use Rattle.std.specs.Prelude.{◌≡◌, ◌≢◌, IfErr, IfOk, IsErr, IsErrOf, OnErr, OnOk, string_bytes};
 ghost use Rattle.std.specs.Io.KnownBytes.{Appends};
+ghost use Rattle.agoutput.specs.Writing.{AppendsBeginning};
 
 use ag_grammar::Grammar;
 use ag_value::NoMemory;
@@ -124,10 +125,12 @@ fn print_text<R: Print>(
 }
 
 /// Writes a text. If making the text failed, fails with NoMemory, and writes nothing. Fails with O2
-/// if a write fails, or accepts none of the bytes.
+/// if a write fails, or accepts none of the bytes. A prefix of the text was then written.
 fn write_explanation<W: Write>(out: &mut W, text: Result<String, NoMemory>) -> Result<(), Fault>
     ensures written { IfOk text (λ t. OnOk result
         (Appends (W.contents out.old) (W.contents out.new) (string_bytes t))) }
+    ensures begins { IfOk text (λ t. OnErr result
+        (AppendsBeginning (W.contents out.old) (W.contents out.new) (string_bytes t))) }
     ensures refused { IfErr result (λ e. e ≢ Fault.Write → (e ≡ Fault.NoMemory) × (out.new ≡ out.old)) }
     ensures memory { IsErr text → IsErrOf result Fault.NoMemory }
 {

@@ -20,7 +20,7 @@ joined-append : (xs ys : List (List ℕ)) → joined (xs ++ ys) ≡ joined xs ++
 joined-append [] ys = refl
 joined-append (x ∷ xs) ys = ap (λ (t : List ℕ). x ++ t) (joined-append xs ys) ∙ sym (append_assoc x (joined xs) (joined ys))
 
--- the encoding of a list has five bytes more than those of its items
+-- the encoding of a list has five bytes more than the encodings of all its items together
 pub size : (items : List Value) (encodings : List ℕ) → IsList items encodings
     → 5 + length encodings ≡ weight_of (v.List items)
 size items encodings is =
@@ -40,7 +40,7 @@ light items encodings is =
 pub few : (items : List Value) (encodings : List ℕ) → IsList items encodings → length items ≤ max_weight
 few items encodings is = short_list (v.List items) items refl is.well
 
--- two lists with encodings, one after the other, are a list with encodings, if it is not too heavy
+-- two lists with encodings, one after the other, are a list with encodings, if the whole list is not too heavy
 pub together : (xs ys : List Value) (a b : List ℕ) → IsList xs a → IsList ys b
     → weight_of (v.List (xs ++ ys)) ≤ max_weight → IsList (xs ++ ys) (a ++ b)
 together xs ys a b is js light = record {

@@ -11,14 +11,14 @@ items_of Empty = []
 items_of (Item item) = item.value ∷ []
 items_of (Fork branch) = branch.value.left ++ branch.value.right
 
--- a list is two others, one after the other, of which neither is empty
+-- `items` is `left` and then `right`, and neither of these two lists is empty
 pub record IsCut (items left right : List Value) : Type 0 where
   pub parts : items ≡ left ++ right
   pub some_left : 0 < length left
   pub some_right : 0 < length right
 
--- Neither side of a fork is empty, and the number stored beside them is that of the items of both. Nothing is required of an
--- empty tree, of a single item, or of the height.
+-- Neither side of a fork is empty, and the number that the fork stores (`len`) is that of the items of both sides. Nothing is
+-- required of an empty tree, of a single item, or of the height.
 abbrev pub IsNode : ItemNode → Type 0
 IsNode Empty = Unit {0}
 IsNode (Item item) = Unit {0}

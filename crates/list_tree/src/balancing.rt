@@ -9,8 +9,8 @@ use ag_value::NoMemory;
 use std::alloc::Global;
 
 impl ItemTree {
-    /// Returns the items of a tree and then those of another one. Takes memory for nodes whose
-    /// number grows with the difference of the heights.
+    /// Returns the tree of the items of `left` and then those of `right`. Takes memory for new
+    /// nodes; their number grows with the difference of the heights.
     pub fn join(alloc: Global, left: &ItemTree, right: &ItemTree) -> Result<ItemTree, NoMemory>
         requires { length left.now + length right.now < 2 ^ 64 }
         ensures { IfOk result (λ tree. tree ≡ left.now ++ right.now) }
@@ -22,8 +22,8 @@ impl ItemTree {
         }
     }
 
-    /// Returns these items and then those of `after`. Callers pass a tree `after` that is not
-    /// higher than this one; otherwise the result could be unbalanced.
+    /// Returns the tree of these items and then those of `after`. Callers pass a tree `after` that
+    /// is not higher than this tree; otherwise the result could be unbalanced.
     fn with_after(&self, alloc: Global, after: &ItemTree) -> Result<ItemTree, NoMemory>
         requires { length self.now + length after.now < 2 ^ 64 }
         ensures { IfOk result (λ tree. tree ≡ self.now ++ after.now) }
@@ -37,8 +37,8 @@ impl ItemTree {
         ItemTree::pair(alloc, self.share()?, after.share()?)
     }
 
-    /// Returns the items of `before` and then these. Callers pass a tree `before` that is not
-    /// higher than this one; otherwise the result could be unbalanced.
+    /// Returns the tree of the items of `before` and then these. Callers pass a tree `before` that
+    /// is not higher than this tree; otherwise the result could be unbalanced.
     fn with_before(&self, alloc: Global, before: &ItemTree) -> Result<ItemTree, NoMemory>
         requires { length before.now + length self.now < 2 ^ 64 }
         ensures { IfOk result (λ tree. tree ≡ before.now ++ self.now) }
@@ -53,8 +53,8 @@ impl ItemTree {
     }
 }
 
-/// Returns the items of two trees, one after the other. If one of them is higher than the other by
-/// at least two levels, the tree is rotated.
+/// Returns the tree of the items of `left` and then those of `right`. Rotates if one of the two is
+/// higher than the other by at least two levels.
 fn balanced(alloc: Global, left: ItemTree, right: ItemTree) -> Result<ItemTree, NoMemory>
     requires { length left + length right < 2 ^ 64 }
     ensures { IfOk result (λ tree. tree ≡ left ++ right) }
@@ -68,9 +68,9 @@ fn balanced(alloc: Global, left: ItemTree, right: ItemTree) -> Result<ItemTree, 
     ItemTree::pair(alloc, left, right)
 }
 
-/// Returns a tree with the same items: if the right side of `tree` is higher than the left one,
-/// `tree` rotated to the left, and otherwise `tree` itself. This is the first half of a double
-/// rotation, before `turned_right`.
+/// Returns a tree with the same items. Rotates `tree` to the left if its right side is higher than
+/// its left side; otherwise returns `tree` itself. This is the first half of a double rotation,
+/// before `turned_right`.
 fn with_high_left(alloc: Global, tree: ItemTree) -> Result<ItemTree, NoMemory>
     requires { length tree < 2 ^ 64 }
     ensures { IfOk result (λ same. same ≡ tree) }
@@ -83,9 +83,9 @@ fn with_high_left(alloc: Global, tree: ItemTree) -> Result<ItemTree, NoMemory>
     }
 }
 
-/// Returns a tree with the same items: if the left side of `tree` is higher than the right one,
-/// `tree` rotated to the right, and otherwise `tree` itself. This is the first half of a double
-/// rotation, before `turned_left`.
+/// Returns a tree with the same items. Rotates `tree` to the right if its left side is higher than
+/// its right side; otherwise returns `tree` itself. This is the first half of a double rotation,
+/// before `turned_left`.
 fn with_high_right(alloc: Global, tree: ItemTree) -> Result<ItemTree, NoMemory>
     requires { length tree < 2 ^ 64 }
     ensures { IfOk result (λ same. same ≡ tree) }
@@ -98,8 +98,9 @@ fn with_high_right(alloc: Global, tree: ItemTree) -> Result<ItemTree, NoMemory>
     }
 }
 
-/// Returns the items of two trees, one after the other, as a tree that is split where `left` is
-/// split, or between the two trees if `left` has fewer than two items.
+/// Returns the tree of the items of `left` and then those of `right`, rotated to the right: its
+/// left side is the left side of `left`, and its right side has all other items. If `left` has
+/// fewer than two items, it has no sides, and the result is the `pair` of the two trees.
 fn turned_right(alloc: Global, left: ItemTree, right: ItemTree) -> Result<ItemTree, NoMemory>
     requires { length left + length right < 2 ^ 64 }
     ensures { IfOk result (λ tree. tree ≡ left ++ right) }
@@ -111,8 +112,9 @@ fn turned_right(alloc: Global, left: ItemTree, right: ItemTree) -> Result<ItemTr
     ItemTree::pair(alloc, sides.left.share()?, lower)
 }
 
-/// Returns the items of two trees, one after the other, as a tree that is split where `right` is
-/// split, or between the two trees if `right` has fewer than two items.
+/// Returns the tree of the items of `left` and then those of `right`, rotated to the left: its
+/// right side is the right side of `right`, and its left side has all other items. If `right` has
+/// fewer than two items, it has no sides, and the result is the `pair` of the two trees.
 fn turned_left(alloc: Global, left: ItemTree, right: ItemTree) -> Result<ItemTree, NoMemory>
     requires { length left + length right < 2 ^ 64 }
     ensures { IfOk result (λ tree. tree ≡ left ++ right) }

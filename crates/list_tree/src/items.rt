@@ -35,8 +35,7 @@ struct ItemBranch {
     right: ItemTree,
     /// The number of items of both sides.
     len: usize,
-    /// The number of nodes on the longest way down from this one, itself included, or 255 if this
-    /// number is greater.
+    /// The number of levels from this node down, including its own; 255 if there are more.
     height: u8,
 }
 
@@ -92,8 +91,8 @@ impl ItemTree {
     }
 
     /// Removes the last `count` items from a vector and returns the tree of them. Each node has
-    /// half of its items on each side (one more on the left if the number is odd), so the tree is
-    /// balanced. Fails with NoMemory, and may then have removed some of the items.
+    /// half of its items on each side, and one more on the left if their number is odd. So the tree
+    /// is balanced. Fails with NoMemory, and may then have removed some of the items.
     pub fn take_last(
         alloc: Global,
         items: &mut Vec<Value>,
@@ -141,7 +140,8 @@ impl ItemTree {
         }
     }
 
-    /// Returns the number of levels: 0 for no items, and 1 for one item. No contract depends on it.
+    /// Returns the number of levels: 0 for no items, 1 for one item, and at most 255. No contract
+    /// depends on this number.
     pub fn height(&self) -> u8 {
         match &self.node {
             ItemNode::Empty => 0,
@@ -166,9 +166,9 @@ impl ItemTree {
         }
     }
 
-    /// Returns the items of two trees, one after the other, as a node that has these trees as its
-    /// sides. If one of the trees is empty, returns the other one, and takes no memory. Fails with
-    /// NoMemory.
+    /// Returns the tree of the items of `left` and then those of `right`: a node that has these
+    /// trees as its sides. If one of the trees is empty, returns the other one, and takes no
+    /// memory. Fails with NoMemory.
     pub fn pair(alloc: Global, left: ItemTree, right: ItemTree) -> Result<ItemTree, NoMemory>
         requires { length left + length right < 2 ^ 64 }
         ensures { IfOk result (λ tree. tree ≡ left ++ right) }
@@ -215,7 +215,8 @@ impl ItemTree {
         }
     }
 
-    /// Appends a copy of the items. Fails with NoMemory, and may then have appended some of them.
+    /// Appends a copy of each item to `out`. Fails with NoMemory, and may then have appended some
+    /// of the copies.
     pub fn push_items(&self, alloc: Global, out: &mut Vec<Value>) -> Result<(), NoMemory>
         ensures { OnOk result (out.new.items ≡ out.old.items ++ self.now) }
     {
@@ -233,7 +234,7 @@ impl ItemTree {
         }
     }
 
-    /// Returns whether these are the items. Takes no memory.
+    /// Returns whether `items` are the items of this tree. Takes no memory.
     pub fn has_items(&self, items: &[Value]) -> bool
         ensures { IsTrue result ↔ (self.now ≡ items.now) }
     {

@@ -24,8 +24,8 @@ const HEADER_LENGTH: usize = 5;
 
 /// A well list that may have several owners: its items in a balanced tree, and the encodings of the
 /// items in a rope. Contracts see the list of the items. A list that `join` makes of two others
-/// shares its nodes with them, but for two kinds of nodes that are made anew: those on the way to
-/// the place where the two lists meet, and those that a rotation changes.
+/// shares nodes with them. It makes anew only the nodes on the way to the place where the two lists
+/// meet, and those that a rotation changes.
 #[derive(Drop)]
 pub struct ListTree {
     parts: Rc<ListParts>,
@@ -106,8 +106,8 @@ impl ListTree {
         self.parts().items.len()
     }
 
-    /// Returns the number of levels, 0 for the empty list. That it is at most 1 + 1.45 · log2(n)
-    /// for n > 0 items is tested, and not proved.
+    /// Returns the number of levels, 0 for the empty list. For n > 0 items this number is at most
+    /// 1 + 1.45 · log2(n), which is tested and not proved.
     pub fn height(&self) -> u8 {
         self.parts().items.height()
     }
@@ -276,7 +276,7 @@ fn encoded(alloc: Global, value: &Value) -> Result<Vec<u8>, NoMemory>
     Ok(bytes)
 }
 
-/// Fills `out` with the bytes from index `from` on of a header and of a rope after it.
+/// Fills `out` with bytes of a header followed by a rope, from index `from` on.
 fn copy_after(header: &[u8; HEADER_LENGTH], rope: &Rope, from: usize, out: &mut [u8])
     requires { from + length out.old ≤ 5 + length rope.now }
     ensures { out.new ≡ take (length out.old) (drop from (header.now ++ rope.now)) }
@@ -291,9 +291,9 @@ fn copy_after(header: &[u8; HEADER_LENGTH], rope: &Rope, from: usize, out: &mut 
     rope.copy_part(0, rest);
 }
 
-/// Returns the number of bytes. `encoding_len` calls this function, and not `len`, because of the
-/// clause `bytes`: each byte is below 256. With the same clause of `Rope::len` it gives the clause
-/// `bytes` of `encoding_len`.
+/// Returns the number of bytes. The clause `bytes` says that each byte is below 256. `encoding_len`
+/// needs this clause for its own clause `bytes`, so it calls this function and not `len`. For the
+/// rope, `Rope::len` has such a clause.
 fn byte_count(bytes: &[u8]) -> usize
     ensures len { result ≡ length bytes.now }
     ensures bytes { (i : ℕ) → slice_index bytes.now i < 256 }

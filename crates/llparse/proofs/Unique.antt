@@ -32,8 +32,8 @@ module _ (g : Grammar) where
   pub items_are : (p : ℕ) (q : Production) → IsProduction g p q → right_side (slice_get g.productions p) ≡ q.items
   items_are p q e = ap right_side e
 
-  -- the words ws begin with a terminal in FIRST of the symbol s, or there are none and s is nullable; the words of each tree of s
-  -- do (`begins`)
+  -- The words ws begin with a terminal in FIRST of the symbol s, or there are no words and s is nullable. By `begins` this holds
+  -- of the words of each tree of s.
   abbrev Begins : ℕ → List Lexeme → Type 0
   Begins s ws = (IsNullable g s × (ws ≡ [])) ⊎ ((w : Lexeme) × (rest : List Lexeme) × (ws ≡ w ∷ rest) × InFirst g s w.0)
 
@@ -79,8 +79,8 @@ module _ (g : Grammar) where
     begin_as (more t ts) (item.Terminal (Literal l) ∷ xs) fit =
         inr ((Literal l, literal_text g l), all_words (more t ts) xs, refl, here)
 
-  -- p is the number of the production q. For such a production, the words of the rest of the right side, and those after it,
-  -- begin with a look-ahead in FOLLOW of the symbol before that rest (`follows`).
+  -- p is the number of the production q. `follows`: if words r begin with a look-ahead in FOLLOW of the left side, the words of
+  -- the rest of the right side, followed by r, begin with a look-ahead in FOLLOW of the symbol before this rest.
   abbrev At : ℕ → Production → Type 0
   At p q = IsProduction g p q
 

@@ -1,4 +1,4 @@
--- Attributes by their names.
+-- A text that is the name of a symbol, a dot, and the name of one of its attributes names this attribute.
 use Rattle.std.proofs.Common.{ℕ, ◌≡◌, ◌++◌, List, ◌∷◌, Some, slice_get, ap, sym, ◌∙◌, subst}
 use Rattle.ag_grammar.specs.declared.grammar.Symbol.{Symbol}
 use Rattle.ag_grammar.specs.grammars.AttributeGrammar.{Grammar, attribute_names}

@@ -85,8 +85,8 @@ fn attribute_number(symbol: &Symbol, name: &str) -> Option<u16>
 
 impl NameFault<'_> {
     /// Appends the fault of the text `name` to the part `found`. For `NoSymbol` it also appends the
-    /// names of the grammar's symbols (at most `MAX_NAMED`), and for `NoAttribute` those of the
-    /// symbol's attributes. Fails if memory is refused.
+    /// names of the grammar's symbols (at most `MAX_NAMED`). For `NoAttribute` it also appends the
+    /// names of the symbol's attributes. Fails if memory is refused.
     pub fn describe(
         &self,
         parts: &mut Parts,
@@ -126,8 +126,9 @@ fn write_symbols(out: &mut String, symbols: &[Symbol]) -> Result<(), AllocError>
     }
 }
 
-/// Writes that a symbol has no attribute of this name, and the names of those that it has. Writes
-/// nothing if the grammar has no symbol of this number.
+/// Writes that a symbol has no attribute of this name, and then the names of the symbol's
+/// attributes, or `none` if it has no attribute. Writes nothing if the grammar has no symbol of
+/// this number.
 fn write_attributes(
     out: &mut String,
     grammar: &Grammar,

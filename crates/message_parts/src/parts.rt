@@ -7,14 +7,14 @@ use std::alloc::{AllocError, Global};
 /// Where a fault is.
 #[derive(Clone, Copy)]
 pub enum Location {
-    /// In the whole of a text or a file. The message prints no position, and a space before the
-    /// first part.
+    /// In the whole of a text or a file. The message prints no position. Only a space comes before
+    /// the first part.
     Whole,
     /// The fault itself prints an offset or names after its number, or the location is not known.
-    /// The message prints no position, and a colon and a space before the first part.
+    /// The message prints no position. A colon and a space come before the first part.
     InFault,
-    /// At a line and a column. The message prints them, with the name of the file if the message
-    /// has this name, and a colon and a space before the first part.
+    /// At a line and a column. The message prints these, and the name of the file if the message
+    /// has it. A colon and a space come before the first part.
     At(Position),
 }
 
@@ -46,15 +46,15 @@ impl Parts {
         self.help.clear();
     }
 
-    /// Appends the text `found` to the part of this name, and `help` likewise. Fails if memory is
-    /// refused.
+    /// Appends the text `found` to the part `found`, and the text `help` to the part `help`. Fails
+    /// if memory is refused.
     pub fn add(&mut self, found: &str, help: &str) -> Result<(), AllocError> {
         self.found.push_str(found)?;
         self.help.push_str(help)
     }
 
     /// Appends to the part `found` that `subject` has more than `bytes` bytes, and the text `help`
-    /// to the part of this name. Fails if memory is refused.
+    /// to the part `help`. Fails if memory is refused.
     pub fn add_size_limit(
         &mut self,
         subject: &str,
@@ -67,8 +67,8 @@ impl Parts {
     }
 
     /// Appends to the part `found` that `subject` (a sentence or a file) has no tree of at most
-    /// `limit` levels or nodes, and the text `help` to the part of this name. `unit` is the word
-    /// `levels` or `nodes`. Fails if memory is refused.
+    /// `limit` levels or nodes; `unit` is the word `levels` or `nodes`. Appends the text `help` to
+    /// the part `help`. Fails if memory is refused.
     pub fn add_tree_limit(
         &mut self,
         limit: usize,

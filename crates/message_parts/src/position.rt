@@ -83,8 +83,8 @@ impl<'a> Source<'a> {
         (grammar, sentence)
     }
 
-    /// Returns the longest prefix of the text that is UTF-8. Texts that are refused since they are
-    /// not UTF-8 have positions too.
+    /// Returns the longest prefix of the text that is UTF-8. So a text that is not UTF-8 has
+    /// positions too, for the message that refuses it.
     pub fn text(&self) -> &'a str {
         utf8_prefix(self.bytes)
     }

@@ -65,7 +65,8 @@ pub struct Context<'a> {
 }
 
 impl<'a> Context<'a> {
-    /// Returns the two parts of a text at an offset in bytes. They are empty if there is no offset.
+    /// Returns the two parts of a text at an offset in bytes. Both are empty if there is no offset,
+    /// or if it is inside a character or after the text.
     pub fn of(text: &'a str, at: Option<usize>) -> Context<'a> {
         match at {
             Some(at) => Context {
@@ -156,8 +157,8 @@ impl<'a> Context<'a> {
         is_second || ["//", "#", "--", "/*"].iter().any(is_first)
     }
 
-    /// Returns `hint` if a name was found, and else an empty text. The callers expect a name or an
-    /// operand: a name that is refused there is a reserved word.
+    /// Returns `hint` if a name was found, and otherwise an empty text. The callers expect a name
+    /// or an operand: a name that is refused there is a reserved word.
     fn reserved_hint(&self, hint: &'static str) -> &'static str {
         let Some(found) = self.found else {
             return "";

@@ -57,7 +57,7 @@ file_text location.InFault None = []
 file_text location.Whole (Some path) = codes ": " ++ string_bytes path
 file_text location.InFault (Some path) = codes ": " ++ string_bytes path
 
--- the line: the fault with its number first, its position, its parts, and without a position its file, if it has one
+-- the line: the fault, its position, its parts, and its file; the file is left out if there is none, or a position has it
 abbrev pub line_of : FaultReport → List ℕ
 line_of report = printed report.fault ++ location_text report.location report.file
     ++ parts_text (first_separator report.location) report.parts ++ file_text report.location report.file

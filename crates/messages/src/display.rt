@@ -63,8 +63,8 @@ impl FaultReport {
     }
 }
 
-/// Writes a position: as editors read it, ` (grammar.ag:4:47)`, if there is a file, and else as
-/// ` (line 4, column 47)`.
+/// Writes a position. With a file it is as editors read it: ` (grammar.ag:4:47)`. Without a file it
+/// is ` (line 4, column 47)`.
 fn write_place<W: fmt::Write>(
     f: &mut fmt::Formatter<W>,
     file: &Option<String>,

@@ -32,9 +32,9 @@ pub struct ConvertedPaths<'a> {
 
 impl FaultReport {
     /// Returns the report of a fault of the file at `path`, or of its content. The report names the
-    /// file if the fault is F1 or D1, or R1, P2 or P3 of the tree in the file (`Fault::Run`). D1
-    /// and NoMemory of a pass are `Fault::Device` and `Fault::NoMemory`, never `Fault::Run`, so a
-    /// message about NoMemory names no file.
+    /// file after F1 and D1, and after R1, P2 and P3 of the tree in the file (`Fault::Run`). After
+    /// any other fault it names no file. (If a pass fails with D1 or NoMemory, the fault is
+    /// `Fault::Device` or `Fault::NoMemory`, and not `Fault::Run`.)
     pub fn of_file(alloc: Global, fault: Fault, path: &str) -> FaultReport {
         let is_named = matches!(fault, Fault::File | Fault::Device | Fault::Run(_));
         let report = FaultReport::new(alloc, fault);
@@ -108,9 +108,9 @@ impl FaultReport {
     ) -> FaultReport
         ensures content { LeavesContent (D.is_honest tree.new)
             (D.content tree.old) (D.content tree.new) }
-        // the last argument of `Persists` is a premise: if it holds, the number of failures rose.
-        // This premise is ⊥ (false), so the clause never says that the number rose: the report does
-        // not show whether a call of the device failed
+        // The last argument of `Persists` is a premise: if it holds, the number of failures rose.
+        // Here the premise is ⊥ (false), since the report doesn't show whether a call of the device
+        // failed. So the clause doesn't say when the number rises.
         ensures persists { Persists (D.is_honest tree.old) (D.is_honest tree.new)
             (D.failures tree.old) (D.failures tree.new) ⊥ }
     {
@@ -122,10 +122,11 @@ impl FaultReport {
     }
 
     /// Returns the report of a fault of converting the tree in an old file. Reads the old file
-    /// again, from the device `old`, if a record is damaged (R1). The report names the old file if
-    /// that one is damaged or its tree exceeds a limit, or if the fault is D1 and the old file
-    /// can't be read (`can_read`). It names the new file after F1, and after any other D1. (The
-    /// caller reports F1 of the old file by `of_file`.)
+    /// again, from the device `old`, if a record is damaged (R1). After D1 reads its length and its
+    /// first byte (`can_read`). The report names the old file after R1, P2 and P3, and after D1 if
+    /// the old file can't be read. It names the new file after F1, and after D1 if the old file can
+    /// be read. After other faults it names no file. (The caller reports F1 of the old file by
+    /// `of_file`.)
     pub fn of_old_tree<D: Device>(
         alloc: Global,
         fault: Fault,
@@ -135,7 +136,7 @@ impl FaultReport {
     ) -> FaultReport
         ensures content { LeavesContent (D.is_honest old.new)
             (D.content old.old) (D.content old.new) }
-        // as in `of_tree`: the clause never says that the number of failures rose
+        // as in `of_tree`: the clause doesn't say when the number of failures rises
         ensures persists { Persists (D.is_honest old.old) (D.is_honest old.new)
             (D.failures old.old) (D.failures old.new) ⊥ }
     {
@@ -184,8 +185,8 @@ impl FaultReport {
     }
 }
 
-/// Returns the location of a fault of the text of a grammar; `InFault` for A1 and for any other
-/// fault.
+/// Returns the location of a fault of the text of a grammar. Returns `InFault` for A1, and for a
+/// fault that is not one of a grammar.
 fn locate_fault_of_grammar(fault: &Fault, text: &GrammarText<'_>) -> Location {
     match fault {
         Fault::Text(fault) => locate_in_text(*fault, text),
@@ -196,7 +197,7 @@ fn locate_fault_of_grammar(fault: &Fault, text: &GrammarText<'_>) -> Location {
 }
 
 /// Returns whether a device can be read: its length, and its first byte if it has one. The length
-/// alone is not enough: it can be read if a folder was opened in place of a file.
+/// alone is not enough, since a folder that was opened as a file has a length too.
 fn can_read<D: Device>(device: &mut D) -> bool
     ensures content { LeavesContent (D.is_honest device.new)
         (D.content device.old) (D.content device.new) }
@@ -210,7 +211,8 @@ fn can_read<D: Device>(device: &mut D) -> bool
     }
 }
 
-/// Returns the location of a fault of a sentence; `InFault` for any other fault.
+/// Returns the location of a fault of a sentence. Returns `InFault` for a fault that is not one of
+/// a sentence.
 fn locate_fault_of_sentence(fault: &Fault, sentence: &Source<'_>) -> Location {
     match fault {
         Fault::Scan(fault) => locate_token(*fault, sentence),

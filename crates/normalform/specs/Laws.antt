@@ -26,7 +26,7 @@ NoFaultWhereAccepted = (raw : RawGrammar) → IsAccepted (numbered raw) → HasN
 abbrev pub OneFirstFault : Type 0
 OneFirstFault = (raw : RawGrammar) (f h : NormalFault) → IsFirstFault raw f → IsFirstFault raw h → f ≡ h
 
--- No raw grammar without a fault has a first fault.
+-- A raw grammar that has no fault has no first fault.
 abbrev pub NoFirstFaultWithoutFault : Type 0
 NoFirstFaultWithoutFault = (raw : RawGrammar) (f : NormalFault) → IsFirstFault raw f → HasNoFault raw → ⊥
 

@@ -109,9 +109,9 @@ fn further_fault(
 }
 
 /// Returns the number of the first symbol that is not productive (N4), if there is one. `clauses`
-/// has the clause of each production: its left side is productive if each symbol of its right side
-/// is. The grammar must have none of N1 to N3. So each symbol of a production is declared, and its
-/// number is below the count of declared symbols, as `Clauses::new` requires.
+/// has a clause for each production: the left side is productive if each symbol of the right side
+/// is. The grammar must have none of N1 to N3. So each symbol of a production is declared, and the
+/// symbol's number is below the count of declared symbols, as `Clauses::new` requires.
 fn unproductive(
     alloc: Global,
     raw: &RawGrammar,
@@ -130,8 +130,7 @@ fn unproductive(
 
 /// Returns the number of the first symbol that is not reached (N5), if there is one. `start` is the
 /// number of the start symbol. `edges` has an edge from the left side of each production to each
-/// symbol of its right side. The grammar must have none of N1 to N4: N5 is its first fault only
-/// then.
+/// symbol of its right side. The grammar must have none of N1 to N4, so that N5 is the first fault.
 fn unreachable(
     alloc: Global,
     raw: &RawGrammar,

@@ -2,9 +2,9 @@
 //! if
 //!
 //! - each symbol and attribute that it uses exists;
-//! - no symbol is declared twice, and no attribute of one symbol is;
+//! - no symbol is declared twice, and no symbol declares an attribute twice;
 //! - its start symbol has a synthesized `out` and no inherited attribute;
-//! - each symbol derives something and is reachable;
+//! - each symbol derives a list of terminals and is reachable;
 //! - it is complete and normal, and within the limits.
 //!
 //! docs/THEOREM.md explains these words.

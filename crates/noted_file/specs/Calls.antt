@@ -3,8 +3,8 @@
 use Rattle.std.specs.Prelude.{◌≡◌, ℕ, zero, suc, ◌==◌, Bool, true, false, not, ◌&&◌, ◌||◌, if◌then◌else◌, List, [], ◌∷◌, ◌++◌}
 use Rattle.std.specs.Prelude.{length, take, drop, slice_index, bytes_eq, refl}
 
--- An entry of a record: its kind, an offset or a length in bytes, whether the call succeeded, and bytes. Kind 0 is an initial
--- content, and the kinds 1 to 5 are calls.
+-- An entry of a record: its kind, an offset or a length in bytes (0 if it has neither), whether the call succeeded, and bytes.
+-- Kind 0 is an initial content, and the kinds 1 to 5 are calls.
 abbrev pub Event : Type 0
 Event = ℕ × ℕ × Bool × List ℕ
 
@@ -46,7 +46,7 @@ abbrev pub has_bytes_at : List ℕ → ℕ → List ℕ → Bool
 has_bytes_at stored at bytes = bytes_eq (take (length bytes) (drop at stored)) bytes
 
 -- The effect of a call, given by the four parts of its entry, on a replay. A failed call has no effect. A successful append or
--- truncation changes the content. A returned length, or returned bytes, agree with the content, or the file is not honest from
+-- truncation changes the content. If a returned length or returned bytes disagree with the content, the file is not honest from
 -- then on. The entry of kind 0 sets the content. The last case is that of kind 5; no greater kind is recorded.
 abbrev pub after_call : ℕ → ℕ → Bool → List ℕ → Replay → Replay
 after_call zero number ok bytes file = record file { stored = bytes }
@@ -58,7 +58,7 @@ after_call (suc (suc (suc (suc zero)))) at ok bytes file =
     record file { is_honest = file.is_honest && (not ok || has_bytes_at file.stored at bytes) }
 after_call (suc (suc (suc (suc (suc more))))) number ok bytes file = record file { stored = if ok then [] else file.stored }
 
--- the replay of these calls, of which the list has the newest first; without any call the file is empty and honest
+-- the replay of a list of calls, the newest first; without any call the file is empty and honest
 abbrev pub replay : List Event → Replay
 replay [] = record { stored = []; is_honest = true }
 replay (e ∷ earlier) = after_call e.0 e.1 e.2 e.3 (replay earlier)

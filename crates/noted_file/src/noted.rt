@@ -43,8 +43,9 @@ impl<F> Model for NotedFile<F> {
     ghost view = { λ n. record { file = n.file; events = n.calls.events } };
 }
 
-/// Fills `out` with the bytes of a file from offset `at` on. Fails with the system's error, and
-/// with `UnexpectedEof` if there are fewer bytes; `out` has arbitrary bytes then.
+/// Fills `out` with the bytes of a file from offset `at` on. Fails with `UnexpectedEof` if the file
+/// ends before `out` is full, and with the system's error if a call fails. After a failure `out`
+/// has arbitrary bytes.
 fn fill_from<F: Read + Seek>(file: &mut F, at: u64, out: &mut [u8]) -> io::Result<()> {
     file.seek(SeekFrom::Start(at))?;
     file.read_exact(out)
@@ -91,9 +92,9 @@ impl<F: Read + Write + Seek + OpenFile> NotedFile<F> {
 
     /// Appends bytes to the file, which has to be open for appending (`OpenOptions::append`). No
     /// clause requires this. A file that is not open for appending would get the bytes at its
-    /// current position, which `read_at` moves. Fails with the system's error; a failure is
-    /// recorded too. The file may then have a prefix of the bytes, though a replay of the record
-    /// adds none of them.
+    /// current position, which `read_at` moves. Fails with `WriteZero` if a write takes no byte,
+    /// and with the system's error if a write fails. A failure is recorded too. The file may then
+    /// have a prefix of the bytes, though a replay of the record adds none of them.
     pub fn append(&mut self, bytes: &[u8]) -> io::Result<()>
         ensures noted { self.new.events
             ≡ append_event (is_ok result) bytes.now ∷ self.old.events }
@@ -106,9 +107,9 @@ impl<F: Read + Write + Seek + OpenFile> NotedFile<F> {
         answer
     }
 
-    /// Fills `out` with the bytes of the file from offset `at` on. Fails with the system's error,
-    /// and with `UnexpectedEof` if there are fewer bytes; a failure is recorded too, with the
-    /// arbitrary bytes that `out` has then.
+    /// Fills `out` with the bytes of the file from offset `at` on. Fails with `UnexpectedEof` if
+    /// the file ends before `out` is full, and with the system's error if a call fails. After a
+    /// failure `out` has arbitrary bytes. A failure is recorded too, with these bytes.
     pub fn read_at(&mut self, at: u64, out: &mut [u8]) -> io::Result<()>
         ensures noted { self.new.events
             ≡ read_event at (is_ok result) out.new ∷ self.old.events }

@@ -1,6 +1,6 @@
 -- Induction over the attribute instances of a tree: what every rule passes on from its arguments to its target holds of all
 -- instances.
--- It goes pass by pass, and in a pass child by child, as the proof that there is one solution.
+-- The induction goes pass by pass, and in a pass child by child, as does the proof that there is one solution.
 use Rattle.std.proofs.Common.{ℕ, zero, suc, ◌≡◌, ◌+◌, ◌-◌, ◌<◌, ◌≤◌, ◌⊎◌, inl, inr, List, [], ◌∷◌, ◌++◌, map, Option, Some, None}
 use Rattle.std.proofs.Common.{slice_get, length, refl, ap, ◌∙◌, sym, subst, zero-add, arith}
 use Rattle.ag_grammar.specs.Lists.{Each}

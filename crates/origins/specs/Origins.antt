@@ -46,7 +46,7 @@ abbrev mutual
   origin_counts g (more t ts) vs = origin_count g t (vs 0) + origin_counts g ts (rest vs)
 
 -- A test: in the order of the sentence the node at the end of the first path comes before the node at the end of the second one.
--- A node comes before those below it, and those below one child come before those below the children right of it.
+-- A node comes before those below it. The nodes of a child's subtree come before those of the subtrees right of this child.
 abbrev pub is_before : List ℕ → List ℕ → Bool
 is_before [] [] = false
 is_before [] (j ∷ q) = true

@@ -57,7 +57,7 @@ upcoming d o f = drop o.visited (in_order d (kids 0 f.trees f.values))
 abbrev pub last_of : Direction → Open → ℕ
 last_of d o = nth d o.children (o.visited - 1)
 
--- The path from the root to the child that was visited last of the innermost open node. The list of open
+-- The path from the root to the innermost open node's child that was visited last. The list of open
 -- nodes begins with the innermost one.
 abbrev pub way : Direction → List Open → List ℕ
 way d [] = []
@@ -108,7 +108,7 @@ AreOpen g m k (o ∷ os) (f ∷ fs) =
     × SolvesAll NoRule g f.trees f.values × AtEachNodeOf (WellAt (λ p. p ≤ k)) g m f.trees f.values f.values
     × (o.children ≡ length (stored_items q.items)) × AreOpen g m k os fs
 
--- The first argument is `Some` of a path, and the second one, `path`, does not come before it.
+-- The first argument is `Some first`, and the path `path` does not come before the path `first`.
 abbrev pub IsNotBefore : Option (List ℕ) → List ℕ → Type 0
 IsNotBefore None path = ⊥
 IsNotBefore (Some first) path = is_before path first ≡ false

@@ -30,10 +30,10 @@ impl From<ValueFault> for DecodeFault {
 /// Why a walk over a tree file failed.
 #[derive(Clone, Copy, Debug, PartialEq, Eq)]
 pub enum WalkFault {
-    /// R1: the content is not the file of the last pass of a tree of the grammar. The offset in
-    /// bytes is 0 if the content does not begin as a tree file. Otherwise the frames are read from
-    /// the last to the first. Then the offset is the end of the first frame that is wrong or left
-    /// over, or the offset at which a frame should end and none does.
+    /// R1: the content is not the file of the last pass of a tree of the grammar. Carries an offset
+    /// in bytes. The offset is 0 if the content does not begin as a tree file. Otherwise the frames
+    /// are read from the last to the first, and the offset is where this reading stopped: at the
+    /// end of a frame that is wrong or left over, or where a frame should end and none does.
     Damaged(u64),
     /// P2: no tree of at most `MAX_DEPTH` levels has this file.
     TooDeep,

@@ -40,8 +40,8 @@ pub struct Origins {
 impl Origins {
     /// Adds the node that was read last, which has `count` rules in which an error arises. `nodes`
     /// are the open nodes above it, from the root down. Changes nothing if `count` is 0. Fails with
-    /// P3 if the number of all such rules is 2^64 or more, which no tree within the limits reaches,
-    /// and with NoMemory if memory is refused.
+    /// P3 if the number of all such rules is 2^64 or more. No tree within the limits reaches this
+    /// number. Fails with NoMemory if memory is refused.
     fn add_node(
         &mut self,
         alloc: Global,
@@ -175,10 +175,10 @@ struct Walk {
 }
 
 impl Walk {
-    /// Reads the next record, that of an item. Fails with P2 if `MAX_DEPTH` nodes are open, with P3
-    /// if `MAX_NODES` records were read before, and with R1 if no frame ends at the reader's offset
-    /// or its body is not a record of the item. Fails with D1 if the device fails, and with
-    /// NoMemory if memory is refused.
+    /// Reads the next record, that of an item. Fails with P2 if `MAX_DEPTH` nodes are open, and
+    /// with P3 if `MAX_NODES` records were read before. Fails with R1 if no frame ends at the
+    /// reader's offset, and if the body of the frame that ends there is not a record of the item
+    /// (`record_of`). Fails with D1 if the device fails, and with NoMemory if memory is refused.
     fn fetch<D: Device>(
         &mut self,
         alloc: Global,
@@ -292,7 +292,7 @@ impl Walk {
     /// Visits the next child of `node`, or leaves `node` if all its children were visited. `node`
     /// was the innermost open node, and the caller has removed it from the list of open nodes.
     /// Before a child is read, `node` is put back. Fails as `read` does. Would fail with R1 if the
-    /// grammar lacked the node's production or its next child; in `find_origins` it has both.
+    /// grammar lacked the node's production or the next child, which it has in `find_origins`.
     fn turn<D: Device>(
         &mut self,
         alloc: Global,
@@ -354,11 +354,12 @@ impl Walk {
     }
 }
 
-/// Finds where errors arise in a tree. A device contains the tree's file of the last pass. Returns
-/// the path to the first node, in the order of the sentence, that has a rule in which an error
-/// arises, and the number of such rules in the tree. A node comes before what is below it. That the
-/// file is of the last pass is not checked: for another file nothing is claimed. The program does
-/// not call this function.
+/// Finds where errors arise in a tree. `device` contains the tree's file of the last pass.
+///
+/// Returns the number of the tree's rules in which an error arises. Also returns the path to the
+/// first node that has such a rule. The first node is the first in the order of the sentence, in
+/// which a node comes before the nodes below it. Does not check that the file is of the last pass:
+/// for another file nothing is claimed. The program does not call this function.
 ///
 /// Reads the file once, from its end. Evaluates each rule of the tree that does more than copy an
 /// argument, and a second time if its value is an error. Takes memory for a buffer, for the values

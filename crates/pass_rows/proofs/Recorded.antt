@@ -409,7 +409,7 @@ valued k (p ∷ ps) vs long well = go (nat_le p k) refl (λ vs long well. valued
           ap (λ b. (if b then Num (pos 0) ∷ [] else []) ++ values_up_to k ps r.0) z ∙ r.2,
         )
 
--- A list of well values is the copies of some items if its length is their number.
+-- The number of an item's copies. By `tabled`, a list of well values is the copies of some items if it has as many elements.
 pub count_copied : (c : Setting) (k : ℕ) (x : Item) → copied_count c.grammar c.passes k x ≡ count_up_to k (copied_passes c x)
 count_copied c k (item.Symbol s) = refl
 count_copied c k (item.Terminal (Class d)) = let one : ◌≡◌ {A = ℕ} (if nat_le 0 k then 1 else 0) 1 =
@@ -437,7 +437,7 @@ tabled c k (x ∷ xs) vs long well =
     take_drop (suc n) [] = refl
     take_drop (suc n) (v ∷ vs) = ap (λ ws. v ∷ ws) (take_drop n vs)
 
--- The copies of a table have the number of those of some items, and are well.
+-- The copies that a table has for some items are as many as `copies_count` counts, and are well.
 pub copies_counted : (c : Setting) (k : ℕ) (xs : List Item) (e : Table)
     → length (copies c k xs e) ≡ copies_count c.grammar c.passes k xs
 copies_counted c k [] e = refl
@@ -475,7 +475,7 @@ pub empty_is : {X : Type 0} (xs : List X) → length xs < 1 → xs ≡ []
 empty_is [] h = refl
 empty_is (x ∷ xs) h = absurd (omega arith)
 
--- The passes of the items from one on, if those of the items before it are at the beginning.
+-- Moving the passes of item i from the beginning of the rest to the end of `prefix` does not change the whole list.
 pub passes_more : (f : Item → List ℕ) (prefix whole : List ℕ) (xs : List Item) (i : ℕ) (d : Item) → i < length xs
     → prefix ++ flat_map f (drop i xs) ≡ whole → (prefix ++ f (get_or xs i d)) ++ flat_map f (drop (i + 1) xs) ≡ whole
 passes_more f prefix whole xs i d less is =

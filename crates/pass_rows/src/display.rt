@@ -4,7 +4,8 @@ use crate::run_fault::RunFault;
 use std::error::Error;
 use std::fmt;
 
-/// Prints the number of the fault, and its offset if it has one: `R1 at 20`, `P2`.
+/// Prints the number of the fault, and its offset if it has one: `R1 at 20`, `P2`. The fault
+/// `NoMemory`, which has no number, is printed as `NoMemory`.
 impl fmt::Display for RunFault {
     ghost use Rattle.std.specs.Prelude.{Some};
     ghost use Rattle.pass_rows.specs.Printed.{printed};

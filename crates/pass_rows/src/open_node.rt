@@ -40,8 +40,8 @@ impl OpenNode {
         }
     }
 
-    /// Returns the node after its next instruction, which is not `Go`. `child` is the new value of
-    /// the field `child`.
+    /// Returns the node after its next instruction, which enters no child (is not a `Go`). `child`
+    /// is the new value of the field `child`.
     pub fn after_step(self, child: u16) -> OpenNode
         requires { self.at + 1 < 2 ^ 64 }
         ensures { result ≡ after_step self child }

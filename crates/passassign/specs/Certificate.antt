@@ -1,4 +1,4 @@
--- Reasons that keep attributes out of a pass, and certificates that attributes can have none.
+-- Reasons that keep attributes out of a pass, and certificates that attributes can have no pass.
 use Rattle.std.specs.Prelude.{ℕ, ◌≡◌, ◌≤◌, ◌⊎◌, List, [], ◌∷◌, Option, Some, None, slice_get}
 use Rattle.ag_grammar.specs.Lists.{Has, Differ}
 use Rattle.ag_grammar.specs.declared.grammar.Item.TheVariants as item
@@ -26,7 +26,7 @@ abbrev pub IsStruckBy : List Strike → ℕ → ℕ → Type 0
 IsStruckBy [] s a = ⊥
 IsStruckBy (x ∷ xs) s a = ((x.symbol ≡ s) × (x.attr ≡ a)) ⊎ IsStruckBy xs s a
 
--- attribute a of an item is one of these attributes: those of a terminal never are
+-- attribute a of an item is one of these attributes; an attribute of a terminal never is
 abbrev pub IsOneOf : Attributes → Option Item → ℕ → Type 0
 IsOneOf some None a = ⊥
 IsOneOf some (Some (item.Symbol s)) a = some s a
@@ -39,8 +39,8 @@ IsSameOrLater d j i = (1 ≤ j) × (1 ≤ i) × ((i ≡ j) ⊎ IsBefore d j i)
 -- Argument o is a reason why a pass of direction d can't compute the target, at place j, of a rule of production q. `candidate`
 -- are the attributes that have no earlier pass, and `struck` those of them that are struck. There are two cases: the argument is
 -- struck; or it is a candidate, and is at the target's child or at one that the pass visits later. In the second case it is not
--- computed before the pass enters the target's child (after Jazayeri and Walter 1975; there every argument at a later child is a
--- reason, here one that an earlier pass has computed is none).
+-- computed before the pass enters the target's child. (After Jazayeri and Walter 1975: there every argument at a later child is a
+-- reason; here an argument that an earlier pass has computed is not a reason.)
 abbrev pub IsReasonWhere : Direction → (candidate struck : Attributes) → Production → ℕ → Target → Type 0
 IsReasonWhere d candidate struck q j o =
     IsOneOf struck (item_at q o.place) o.attr

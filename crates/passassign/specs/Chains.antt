@@ -9,7 +9,7 @@ use Rattle.ag_grammar.specs.declared.direction.Direction.{Direction}
 use Rattle.passassign.specs.declared.stuck.Strike.{Strike}
 use Rattle.passassign.specs.Certificate.{Attributes, IsSameOrLater, IsGood, IsStruckBy}
 
--- the list with only the first strike of a list, empty if the list is
+-- the list with only the first strike of a list; empty if that list is empty
 abbrev pub first_only : List Strike → List Strike
 first_only [] = []
 first_only (x ∷ xs) = x ∷ []
@@ -46,8 +46,8 @@ pub record WaitsFor (g : Grammar) (d : Direction) (x : Strike) (s a : ℕ) : Typ
   pub symbol : item_at production argument.place ≡ Some (item.Symbol s)
   pub attr : argument.attr ≡ a
 
--- A strike waits for no attribute: its argument is at the target's child or at one that is visited later, or it is not an
--- attribute of a symbol, or the strike names no argument that exists.
+-- A strike waits for no attribute. There are three cases: its argument is at the target's child or at one that is visited later;
+-- its argument is not an attribute of a symbol; the argument that the strike names does not exist.
 abbrev pub WaitsForNone : Grammar → Direction → Strike → Type 0
 WaitsForNone g d x = (q : Production) (u : Rule) (o : Target) (s : ℕ) → Names g x q u o → item_at q o.place ≡ Some (item.Symbol s)
     → IsSameOrLater d u.target.place o.place

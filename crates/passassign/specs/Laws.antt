@@ -27,7 +27,7 @@ StuckIsRefused = (g : Grammar) (s a : ℕ) → IsAttribute g s a → IsStuck g s
 abbrev pub CertifiedIsRefused : Type 0
 CertifiedIsRefused = (g : Grammar) (c : Stuck) → Each (IsComplete g) g.productions → IsCertificate g c → IsAlternating g → ⊥
 
--- The passes before pass k assign no attribute a later pass than any legal partial assignment does.
+-- A legal partial assignment assigns no attribute an earlier pass than the passes before pass k do, if both assign one.
 abbrev pub MadeIsAtMost : Type 0
 MadeIsAtMost = (g : Grammar) (k : ℕ) (m n : Partial) → IsMade g k m → IsLegalPartial g n → (s a p q : ℕ) → m s a ≡ Some p
     → n s a ≡ Some q → p ≤ q
@@ -49,7 +49,7 @@ WholeIsLeast = (g : Grammar) (k : ℕ) (n : Partial) (m : Passes) → Each (IsCo
     → Each (IsNormal g) g.productions → IsMade g k n → ((s : ℕ) → length (m s) ≡ length (symbol_kinds (slice_get g.symbols s)))
     → ((s a : ℕ) → partial_of m s a ≡ n s a) → IsLeast g m
 
--- A least assignment has the fewest passes: the greatest one of a legal assignment is at least its own.
+-- A least assignment has the fewest passes: no legal assignment has a smaller greatest pass.
 abbrev pub LeastHasFewest : Type 0
 LeastHasFewest = (g : Grammar) (rows other : List (List ℕ)) (n k : ℕ) → IsLeast g (passes_of rows) → IsLegal g (passes_of other)
     → IsGreatest n rows → IsGreatest k other → n ≤ k
@@ -97,15 +97,15 @@ abbrev pub StrikesShowLeast : Type 0
 StrikesShowLeast = (g : Grammar) (rows : List (List ℕ)) (lists : List (List Strike)) → IsLegal g (passes_of rows)
     → AreStrikesOf g rows lists → IsLeast g (passes_of rows)
 
--- If an assignment gives no attribute pass k, and exactly the members of a certificate a later pass, the certificate's list for
--- the direction of pass k has the strikes of pass k.
+-- If an assignment assigns pass k to no attribute, and a later pass to exactly the members of a certificate, then the
+-- certificate's list for the direction of pass k has the strikes of pass k.
 abbrev pub CertificatesAreStrikes : Type 0
 CertificatesAreStrikes = (g : Grammar) (c : Stuck) (m : Passes) (k : ℕ) → IsCertificate g c
     → ((s a : ℕ) → Members c.set s a ↔ HasPassFrom m k s a) → ((s a : ℕ) → Members c.set s a ↔ HasPassAfter m k s a)
     → AreStrikesAt g m k (list_for c (direction_of k))
 
--- If an assignment has strikes, the first attribute of a chain for one of its passes has a later pass than this one in every
--- legal assignment. In the statement this pass is k + 1. It may also be the one after the last pass, but has no chain then.
+-- If an assignment has strikes, and a chain for its pass k + 1 begins with a strike of an attribute, then every legal assignment
+-- gives this attribute a pass after k + 1. (Pass k + 1 may also be the one after the last pass, but that pass has no chain.)
 abbrev pub ChainsShowLater : Type 0
 ChainsShowLater =
     (g : Grammar) (rows : List (List ℕ)) (lists : List (List Strike)) (k s a : ℕ) (xs : List Strike) (other : Passes)

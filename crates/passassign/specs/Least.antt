@@ -49,7 +49,7 @@ pub record IsLegalPartial (g : Grammar) (n : Partial) : Type 0 where
 abbrev pub IsStuck : Grammar → ℕ → ℕ → Type 0
 IsStuck g s a = (n : Partial) → IsLegalPartial g n → n s a ≡ None
 
--- The least assignment: it is legal, and assigns no attribute a later pass than any legal one does (after
+-- The least assignment: it is legal, and no legal assignment gives any attribute an earlier pass (after
 -- Jazayeri and Walter 1975).
 pub record IsLeast (g : Grammar) (m : Passes) : Type 0 where
   pub legal : IsLegal g m

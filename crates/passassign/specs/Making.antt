@@ -45,7 +45,7 @@ pub record AreIdle (g : Grammar) (k : ℕ) (m : Partial) (first second : List St
 abbrev pub AreMarks : (ℕ → ℕ → Bool) → List Strike → Type 0
 AreMarks hit xs = (s a : ℕ) → (hit s a ≡ true) ↔ IsStruckBy xs s a
 
--- the pass of an attribute after pass k: its old one, else k if it is not marked as struck
+-- the pass of an attribute after pass k: its old one if it has one; otherwise none if it is marked as struck, and k if not
 abbrev pub pass_after : ℕ → Option ℕ → Bool → Option ℕ
 pass_after k (Some p) hit = Some p
 pass_after k None true = None

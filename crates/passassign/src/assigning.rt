@@ -63,8 +63,8 @@ pub(crate) struct StrikeLog {
 }
 
 impl StrikeLog {
-    /// Appends the strikes of a pass, if they are wanted. Otherwise changes nothing (the contract
-    /// says nothing of `lists` then).
+    /// Appends the strikes of a pass, if they are wanted. Changes nothing if they are not wanted.
+    /// (The contract says nothing of `lists` in this case.)
     fn keep(&mut self, strikes: Vec<Strike>) -> Result<(), NoMemory>
         ensures wanted { OnOk result (self.new.is_wanted ≡ self.old.is_wanted) }
         ensures kept { OnOk result (self.old.is_wanted ≡ true
@@ -79,7 +79,7 @@ impl StrikeLog {
 
 /// Makes the next pass: each attribute without a pass gets this pass if the pass can compute it.
 /// Returns the strikes of the pass: one for each attribute that still has no pass. The number of
-/// the pass after it must fit in 16 bits.
+/// the pass after this one must fit in 16 bits.
 fn make_pass(
     alloc: Global,
     dependencies: &Dependencies,

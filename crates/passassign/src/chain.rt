@@ -19,9 +19,10 @@ use ag_grammar::{Direction, Grammar, Item, Production, Rule, Target};
 use ag_value::NoMemory;
 use std::alloc::Global;
 
-/// Returns the attribute that a strike by this argument of a rule waits for: the argument's, as the
+/// Returns the attribute that a strike by this argument of a rule waits for: the argument, as the
 /// number of its symbol and its own number. Returns `None` if the argument is not an attribute of a
-/// symbol, or is at the target's own child or at one that a pass in the direction visits later.
+/// symbol. Returns `None` also if the argument is at the target's own child, or at a child that a
+/// pass in the direction visits later.
 fn awaited_attribute(
     direction: Direction,
     production: &Production,
@@ -40,10 +41,10 @@ fn awaited_attribute(
     }
 }
 
-/// Returns the attribute that a strike waits for: that of its argument. A strike waits for none if
-/// the argument is at the target's own child or at one that a pass in the direction visits later,
-/// since that is a reason by itself. Returns `None` then, and if the strike's argument doesn't
-/// exist or is not an attribute of a symbol.
+/// Returns the attribute that a strike waits for: its argument. Returns `None` if the argument is
+/// at the target's own child, or at a child that a pass in the direction visits later: such an
+/// argument is a reason by itself, so the strike waits for no attribute. Returns `None` also if the
+/// argument doesn't exist, or is not an attribute of a symbol.
 fn waits_for(grammar: &Grammar, direction: Direction, strike: Strike) -> Option<(u16, u16)>
     ensures { IsWait grammar.now direction strike result }
 {
@@ -80,9 +81,9 @@ fn index_of(strikes: &[Strike], symbol: u16, attr: u16) -> Option<usize>
     None
 }
 
-/// Returns the index of the first strike, before index `at`, of the attribute that the strike at
-/// index `at` waits for. Returns `None` if this strike waits for no attribute, or if no strike
-/// before it is of that attribute.
+/// Finds the attribute that the strike at index `at` waits for, and returns the index of the first
+/// strike of this attribute. Returns `None` if the strike at `at` waits for no attribute, or if no
+/// strike before `at` is of the attribute.
 fn awaited_index(
     grammar: &Grammar,
     direction: Direction,

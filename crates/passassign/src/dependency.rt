@@ -1,4 +1,4 @@
-//! The dependencies in a production: of its rules' targets on their arguments.
+//! The dependencies in a production: the target of each rule depends on the rule's arguments.
 
 ghost use Rattle.std.specs.Prelude.{◌≡◌, ◌≤◌, length, IfOk, OnOk, slice_get};
 ghost use Rattle.ag_grammar.specs.expressions.Occurrences.{AreDifferent};
@@ -116,8 +116,8 @@ fn arguments(rule: &Rule) -> &[Target]
     rule.args.as_slice()
 }
 
-/// Appends the dependencies of `rule` to `found`. It is the rule `number` of production
-/// `production`, both numbered from 0.
+/// Appends the dependencies of a rule to `found`. `number` is the rule's number in its production,
+/// and `production` is the production's number, both from 0.
 fn append_rule(
     found: &mut Vec<Dependency>,
     places: &[Item],

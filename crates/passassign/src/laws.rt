@@ -27,8 +27,8 @@ pub fn certified_is_refused()
     ensures { CertifiedIsRefused }
 {}
 
-/// States that passes made one after the other, from pass 1 on, assign no attribute a later pass
-/// than any legal partial assignment does.
+/// States that if passes made from pass 1 on and a legal partial assignment both assign a pass to
+/// an attribute, the legal partial assignment assigns no earlier one.
 pub fn made_is_at_most()
     ensures { MadeIsAtMost }
 {}
@@ -52,8 +52,8 @@ pub fn whole_is_least()
     ensures { WholeIsLeast }
 {}
 
-/// States that a least assignment has the fewest passes: no legal one has a greatest pass below its
-/// own.
+/// States that a least assignment has the fewest passes: no legal assignment has a smaller greatest
+/// pass.
 pub fn least_has_fewest()
     ensures { LeastHasFewest }
 {}
@@ -71,7 +71,7 @@ pub fn stuck_is_left()
 {}
 
 /// States that the strikes of two consecutive passes that assign nothing are a certificate for the
-/// attributes that they leave open, if there are any.
+/// attributes that these passes leave open, if there are any.
 pub fn rest_is_certified()
     ensures { RestIsCertified }
 {}
@@ -100,14 +100,16 @@ pub fn strikes_show_least()
     ensures { StrikesShowLeast }
 {}
 
-/// States that if an assignment gives no attribute pass k, and exactly the members of a certificate
-/// a later pass, the certificate's list for the direction of pass k has the strikes of pass k.
+/// States that if an assignment assigns pass k to no attribute, and a later pass to exactly the
+/// members of a certificate, then the certificate's list for the direction of pass k has the
+/// strikes of pass k.
 pub fn certificates_are_strikes()
     ensures { CertificatesAreStrikes }
 {}
 
-/// States that if an assignment has strikes, one list for each pass, the first attribute of a chain
-/// for one of its passes has a later pass than this one in every legal assignment.
+/// States that if an assignment has strikes, one list for each pass, and a chain for one of its
+/// passes begins with a strike of an attribute, then every legal assignment assigns a later pass
+/// than that one to this attribute.
 pub fn chains_show_later()
     ensures { ChainsShowLater }
 {}

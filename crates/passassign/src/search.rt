@@ -157,7 +157,8 @@ fn dependency_for(all: &[Dependency], barred: &[Dependency], reason: Reason) -> 
 }
 
 /// Returns a strike for each `Addition`, in the same order. An addition is a slot that `closure`
-/// found, with its reason. The strike is that of the dependency that is the reason.
+/// found, with the reason. The reason names a dependency, and the strike is the one of this
+/// dependency.
 fn strikes_of(
     alloc: Global,
     all: &[Dependency],

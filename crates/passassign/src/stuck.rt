@@ -1,11 +1,13 @@
-//! Two kinds of certificates, as plain data: that a grammar has no legal assignment, and that a
-//! legal assignment is the least one. The definitions in `specs` say what makes them valid.
+//! Two kinds of certificates, as plain data. One shows that a grammar has no legal assignment, and
+//! the other that a legal assignment is the least one. The definitions in `specs` say when a
+//! certificate is valid.
 
 use ag_value::Items;
 
 /// A reason why a pass of some direction can't compute an attribute: a rule for this attribute, and
 /// an argument of this rule that is not computed before the rule is evaluated. All numbers are from
-/// 0. The fields of a strike can have any values: `Certificate.IsGood` says when a strike is good.
+/// 0. The fields of a strike can have any values: `IsGood` of `specs/Certificate.antt` says when a
+/// strike is good.
 #[derive(Clone, Copy, Debug, PartialEq, Eq)]
 pub struct Strike {
     /// The number of the attribute's symbol.

@@ -47,7 +47,7 @@ pub(crate) fn look_up(states: &[State], slot: usize) -> State
     }
 }
 
-/// Returns whether the slot has an attribute without a pass.
+/// Returns whether a slot in this state has an attribute without a pass.
 pub(crate) fn has_no_pass(state: State) -> bool
     ensures { result ≡ is_open state }
 {
@@ -123,7 +123,8 @@ fn row(alloc: Global, states: &[State], from: usize, count: usize) -> Result<Vec
     Ok(row)
 }
 
-/// Returns a row for each symbol, with the passes of its attributes, and 0 for one that has none.
+/// Returns a row for each symbol. The row has the passes of the symbol's attributes, and 0 for an
+/// attribute that has none.
 pub(crate) fn rows(
     alloc: Global,
     symbols: &[Symbol],

@@ -197,7 +197,7 @@ module _ (m : Passes) (q : Production) (k : ℕ) (xs : List Instr) (one : 1 ≤ 
   may_compute zero a r n e = (may n (instr.Def a r) e).1
   may_compute (suc j) a r n e = (may n (instr.Set (suc j) a r) e).1
 
-  -- and the rule is this one
+  -- the rule that may be run there is this rule
   module _ (r n : ℕ) (u : Rule) (is : IsRuleAt q r u) (e : slice_get xs n ≡ Some (instruction_of u r)) where
     its_own : MayCompute m q k (state n) u.target.place u.target.attr r
     its_own = may_compute u.target.place u.target.attr r n e

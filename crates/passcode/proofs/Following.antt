@@ -38,14 +38,14 @@ phase_gone Got t u le less apart = absurd (apart refl)
 phase_gone Gone t u le less apart = (refl, omega arith)
 phase_gone p t u le less apart = absurd (omega arith)
 
--- what a rule may use is of no later pass
+-- an attribute that a rule may use has no later pass
 pub may_use_most : (k j i p : ℕ) → MayUse k j i p → p ≤ k
 may_use_most k zero i p h = h
 may_use_most k (suc j) i p (inl h) = h.1
 may_use_most k (suc j) i p (inr (inl h)) = h.1
 may_use_most k (suc j) i p (inr (inr less)) = omega arith
 
--- the parts of a rule's own instruction
+-- if a `Set` or `Def` is the instruction of a target and a rule, its numbers are those of the target and of the rule
 set_parts : (j a r : ℕ) (o : Target) (s : ℕ) → instr.Set j a r ≡ set_or_def o.place o.attr s
     → (o ≡ record { place = j; attr = a }) × (r ≡ s) × (1 ≤ j)
 set_parts j a r o s = go o.place o.attr
@@ -106,7 +106,7 @@ module _ (m : Passes) (q : Production) (k : ℕ) (xs : List Instr) (one : 1 ≤ 
         let within = slice_get_within xs n x is in
         omega arith
 
-    -- if the `Get` of a turn is before it, the child was read
+    -- if the `Get` of a turn's child is before index n, the child was read; likewise for `Go`, `Put` and rules
     was : (A : State → Type 0) (y : Instr) → IsMark m q k A y → Has xs y → ((i : ℕ) → slice_get xs i ≡ Some y → i < n)
         → A (state n)
     was A y mark has prefix = seen A y mark has.0 (prefix has.0 has.1) has.1
@@ -136,7 +136,7 @@ module _ (m : Passes) (q : Production) (k : ℕ) (xs : List Instr) (one : 1 ≤ 
     turn_here p t j within place phase same =
         record { phase_is = phase; within = subst (λ t. t < arity q) same within; place = place ∙ ap (place_of q k) same }
 
-    -- an argument that is available at the index is available in the state before it
+    -- an argument that is available at index n (`IsAvailableAt`) is available in the state before n (`IsAvailable`)
     hand : (r : ℕ) (u : Rule) → IsRuleAt q r u → HasPass m q u.target k → (o : Target) → IsArgument u o
         → IsAvailableAt m q k xs n o → Course.IsAvailable m q k (state n) o
     hand r u at passed o arg (inl own) = let p = allowed u o k (r, at) arg passed in
@@ -173,7 +173,7 @@ module _ (m : Passes) (q : Production) (k : ℕ) (xs : List Instr) (one : 1 ≤ 
     abbrev now : State
     now = state n
 
-    -- at a child that was read, and in which the pass has not run
+    -- if a child was read and the pass has not run in it, it is the child's turn, in the phase `Got`
     got_turn : (x : Instr) → slice_get xs n ≡ Some x → (j : ℕ) → (child : IsChild q j)
         → ((i : ℕ) → slice_get xs i ≡ Some (instr.Get j) → i < n) → ((i : ℕ) → i < n → slice_get xs i ≡ Some (instr.Go j) → ⊥)
         → IsTurnOf q k (state n) Got j
@@ -263,7 +263,7 @@ module _ (m : Passes) (q : Production) (k : ℕ) (xs : List Instr) (one : 1 ≤ 
         read : turn.0 < read_in now
         read = was_read n (instr.Put j) is may turn.0 j turn.1 turn.2 (λ i e. list.visits.put_after_get j i n e is)
 
-        -- the pass has run in a declared symbol's child
+        -- the phase is not `Got`: the child is a symbol's node, and the pass has run in it
         not_got : now.phase ≡ Got → ⊥
         not_got e =
             let count = read_is now Got e in

@@ -68,7 +68,7 @@ none_found us o e r u at same = elim (cases_lt (position_or_len (λ u. is_same u
       cc)
 ]
 
--- whether a number is in a list
+-- a number that the test finds in a list is in it
 has_number : (done : List ℕ) (r : ℕ) → list_any (nat_eq r) done ≡ true → Has done r
 has_number [] r e = absurd cc
 has_number (x ∷ done) r e = elim (cases_eq r x) [
@@ -136,8 +136,8 @@ module _ (m : Passes) (q : Production) (k : ℕ) (one : 1 ≤ k) (single : Diffe
       by_pass false n p e is = inl record
           { empty = is; run = λ s u at same has. absurd ((is_the_pass k (pass_at m q o)).1 p has) }
 
-  -- While the remaining instructions run, the rules of the pass that were run are the old ones and those for attributes with
-  -- property P.
+  -- Of the rules of the pass, `done` has exactly those of `old` and those for attributes with property P. This holds while the
+  -- remaining instructions run.
   abbrev Way : (Target → Type 0) → List ℕ → Type 0
   Way P done = (r : ℕ) (u : Rule) → IsRuleAt q r u → HasPass m q u.target k → Has done r ↔ (Has old r ⊎ P u.target)
 
@@ -148,7 +148,7 @@ module _ (m : Passes) (q : Production) (k : ℕ) (one : 1 ≤ k) (single : Diffe
     λ h. (way r u at has).1 (elim h [ inl is ↦ inl is | inr p ↦ back r u at has p ]),
   )
 
-  -- An attribute is at one of the first t children; or it is there, or at place j with a number below a.
+  -- `IsDoneAt`: an attribute is at one of the first t children. `IsPassed`: it is, or it is at place j with a number below a.
   abbrev IsDoneAt : ℕ → Target → Type 0
   IsDoneAt t o = IsVisited q k t o.place
 
@@ -460,6 +460,6 @@ module _ (m : Passes) (q : Production) (k : ℕ) (one : 1 ≤ k) (single : Diffe
           )
       at_phase Ended e = refl
 
-  -- and so does the list for the production and the pass from the start
+  -- the list for the production and the pass runs from the start
   pub list_runs : Runs m q k start (generated_list m q k)
   list_runs = remaining_runs start (starts m q k one)

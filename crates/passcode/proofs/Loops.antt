@@ -6,7 +6,7 @@ use Rattle.std.proofs.lemmas.Bool.{cases_eq, le-ltb, lt-ltb}
 use Rattle.std.proofs.lemmas.List.Sums.{position_or_len_is}
 use Rattle.std.proofs.lemmas.Option.{slice_get_within, slice_get-get_or}
 
--- the pieces for the numbers from a on, and one more piece
+-- the pieces for n numbers from a on and then the piece for a + n are the pieces for n + 1 numbers from a on
 pieces_more : {A : Type 0} (f : ℕ → List A) (n a : ℕ)
     → flat_map f (range_with_len a n) ++ f (a + n) ≡ flat_map f (range_with_len a (suc n))
 pieces_more f zero a = let e : a + 0 ≡ a = omega arith in ap f e ∙ sym (append-nil (f a))
@@ -28,7 +28,7 @@ pushed_more f n old now new piece was push is =
     ∙ ap (λ l. old ++ (flat_map f (range_with_len 0 n) ++ l)) (is ∙ ap f (sym e))
     ∙ ap (λ l. old ++ l) (pieces_more f n 0 ∙ ap (λ n. flat_map f (range_with_len 0 n)) next)
 
--- the position of the first member that passes a test, and None if none does
+-- if no member before index n passes a test: `position` is n if the member at n passes, and None if the list ends there
 module _ {X : Type 0} (p : X → Bool) (xs : List X) (n : ℕ)
     (before : (i : ℕ) (x : X) → i < n → slice_get xs i ≡ Some x → p x ≡ false) where
   pub first_is : (x : X) → slice_get xs n ≡ Some x → p x ≡ true → position p xs ≡ Some n

@@ -19,7 +19,7 @@ use Rattle.passcode.proofs.States.{IsKept, IsMark}
 use Rattle.passcode.proofs.Turns.{one_turn}
 use Rattle.ag_grammar.specs.declared.grammar.Target.{Target}
 
--- the number of children of a node in a state that were read, and that of those in which the pass has run
+-- the number of a node's children that were read in a state, and the number of those in which the pass has run
 abbrev pub read_in : State → ℕ
 read_in s = read_count s.phase s.turn
 
@@ -144,7 +144,7 @@ module _ (m : Passes) (q : Production) (k : ℕ) where
   pub go_mark : (t j : ℕ) → t < arity q → j ≡ place_of q k t → IsChild q j → IsMark m q k (λ s. t < run_in s) (instr.Go j)
   go_mark = counter_mark (IsChild q) run_in instr.Go runs
 
-  -- the end, after which nothing may come
+  -- no instruction may come after the end
   pub not_after_end : (s : State) (x : Instr) → MayRun m q k s x → s.phase ≡ Ended → ⊥
   not_after_end s (instr.Get j) may e = let f = may.phase_is in cc
   not_after_end s (instr.Set j a r) may e = let f = may.0.phase_is in cc

@@ -39,7 +39,7 @@ forward_refused h = let bad : 7 < 0 = h.visits.in_direction 2 1 (omega arith) 7 
 pub late_refused : ListAgrees sample_passes sample_production 1 late_list → ⊥
 late_refused h = let bad : 6 < 5 = h.computes.before_go 1 1 1 6 5 refl refl in omega arith
 
--- at the `End` of the last list rule 0 was not run
+-- at the `End` of `undefined_list` rule 0 was not run
 pub undefined_refused : IsLegal sample sample_passes → ListAgrees sample_passes sample_production 1 undefined_list → ⊥
 undefined_refused legal h = let k = known legal in let runs =
     follows sample_passes sample_production 1 undefined_list (omega arith) k.allowed h in
@@ -50,7 +50,7 @@ undefined_refused legal h = let k = known legal in let runs =
     none (suc zero, e) = cc
     none (suc (suc n), e) = cc
 
--- the only rule of the other production
+-- the only rule of `hasty_production`
 only_rule : (r : ℕ) (u : Rule) → IsRuleAt hasty_production r u → (hasty_rule ≡ u) × (0 ≡ r)
 only_rule zero u e = (cc, refl)
 only_rule (suc r) u e = absurd cc
@@ -59,7 +59,7 @@ own_attribute : (o : Target) → IsArgument hasty_rule o → attribute 0 1 ≡ o
 own_attribute o (zero, e) = cc
 own_attribute o (suc n, e) = absurd cc
 
--- under this assignment the production's list runs
+-- under this assignment, in which `i` has pass 1 too, `hasty_list` runs
 abbrev calm_passes : ℕ → List ℕ
 calm_passes s = 1 ∷ 1 ∷ []
 
@@ -83,7 +83,7 @@ calm_runs = (
     computed : (j : ℕ) → AreDone calm_passes hasty_production 1 (record { phase = start.phase; turn = 0; done = 0 ∷ [] }) j
     computed j r u at place has = (0, ap Some (only_rule r u at).1)
 
--- so the list agrees under `hasty_passes` too, which differs only in the pass of an argument
+-- so the list agrees under `calm_passes`, and under `hasty_passes` too, which differs only in the pass of an argument
 pub hasty_agrees : ListAgrees hasty_passes hasty_production 1 hasty_list
 hasty_agrees = record {
   visits = calm.visits;

@@ -50,7 +50,7 @@ module _ (m : Passes) (q : Production) (k : ℕ) where
   IsKept A = (s : State) (x : Instr) → MayRun m q k s x → A s → A (after q s x)
 
   module _ (xs : List Instr) (n : ℕ) (may : MayRunTo start xs n) where
-    -- one more instruction
+    -- a kept property still holds after one more instruction
     one_more : (A : State → Type 0) → IsKept A → (j : ℕ) → j < n → A (state_at q start xs j) → A (state_at q start xs (suc j))
     one_more A keep j less a = go (slice_get xs j) refl
       where
@@ -88,13 +88,13 @@ module _ (m : Passes) (q : Production) (k : ℕ) where
     occurs zero most a = absurd (mark.none a)
     occurs (suc j) most a = occurs_next j (omega arith) (λ b. occurs j (omega arith) b) a (slice_get xs j) refl
 
-    -- and after the instruction the mark holds
+    -- after the instruction the mark holds
     pub marked : (i j : ℕ) → i < j → j ≤ n → slice_get xs i ≡ Some x → A (state_at q start xs j)
     marked i j less most at =
         kept xs n may A mark.stays (suc i) j (omega arith) most
         (subst A (sym (state_next start xs i x at)) (mark.made (state_at q start xs i) (may i x (omega arith) at)))
 
-    -- the instruction occurs at most once,
+    -- the instruction occurs at most once
     not_before : (i j : ℕ) → i < j → j < n → slice_get xs i ≡ Some x → slice_get xs j ≡ Some x → ⊥
     not_before i j less most at at' = mark.before (state_at q start xs j) (may j x most at') (marked i j less (omega arith) at)
 
@@ -104,7 +104,7 @@ module _ (m : Passes) (q : Production) (k : ℕ) where
       | inr le ↦ elim (cases_lt j i) [ inl less ↦ absurd (not_before j i less a at' at) | inr le' ↦ omega arith ]
     ]
 
-    -- and before each index at which the mark holds
+    -- the instruction occurs before each index at which the mark holds
     pub precedes : (i j : ℕ) → i < n → j < n → slice_get xs i ≡ Some x → A (state_at q start xs j) → i < j
     precedes i j a b at there =
         let s = occurs j (omega arith) there in

@@ -75,15 +75,15 @@ pub record MayCompute (m : Passes) (q : Production) (k : ℕ) (s : State) (j a r
 abbrev pub AreDone : Passes → Production → ℕ → State → ℕ → Type 0
 AreDone m q k s j = (r : ℕ) (u : Rule) → IsRuleAt q r u → u.target.place ≡ j → HasPass m q u.target k → Has s.done r
 
--- a node is in a phase, and this is the place of its first child, in the direction of the pass, that is not complete
+-- the node is in this phase, and j is the place of the first child, in the pass's direction, that is not complete
 pub record IsTurnOf (q : Production) (k : ℕ) (s : State) (phase : Phase) (j : ℕ) : Type 0 where
   pub phase_is : s.phase ≡ phase
   pub within : s.turn < arity q
   pub place : j ≡ place_of q k s.turn
 
--- An instruction may come next: the `Get` of the next child, then the `Set`s of that child, its `Go` if all of them were
--- run, and its `Put`; a `Def` anywhere before `End`; and `End` if all children are complete and all rules of the pass were
--- run. The rule of a `Set` or `Def` may be run at that moment (`MayCompute`).
+-- An instruction may come next in a state. At a child: its `Get`, then its `Set`s, its `Go` if all rules of the pass for the
+-- child were run, and its `Put`. A `Def` may come anywhere before `End`. `End` may come if all children are complete and all
+-- rules of the pass were run. At a `Set` or `Def`, its rule may be run (`MayCompute`).
 abbrev pub MayRun : Passes → Production → ℕ → State → Instr → Type 0
 MayRun m q k s (instr.Get j) = IsTurnOf q k s Between j
 MayRun m q k s (instr.Set j a r) = IsTurnOf q k s Got j × MayCompute m q k s j a r

@@ -17,7 +17,7 @@ abbrev pub ListsRun : Type 0
 ListsRun = (g : Grammar) (m : Passes) (p k : ℕ) (q : Production) (xs : List Instr) → IsAccepted g → IsLegal g m
     → IsProduction g p q → 1 ≤ k → ListAgrees m q k xs ↔ Runs m q k start xs
 
--- A list that agrees runs as many rules as the production has for targets with the pass, whether or not the assignment is legal.
+-- A list that agrees runs as many rules as the production has rules whose targets have the pass, under any assignment.
 abbrev pub ListsEvaluateRules : Type 0
 ListsEvaluateRules = (m : Passes) (q : Production) (k : ℕ) (xs : List Instr) → ListAgrees m q k xs
     → count_by is_computation xs ≡ pass_rule_count m k (Some q)

@@ -29,8 +29,8 @@ pub fn instruction(place: u16, attr: u16, rule: u16) -> Instr
     }
 }
 
-/// Returns the number of children of a production's node: of the symbols and token classes of its
-/// right side. A literal is not a child. Does not allocate.
+/// Returns the number of children of a production's node, which is the number of symbols and token
+/// classes on its right side. A literal is not a child. Does not allocate.
 pub fn arity(production: &Production) -> usize
     ensures { result ≡ arity production.now }
 {
@@ -96,9 +96,10 @@ impl<'a> ListContext<'a> {
     }
 
     /// Appends the instruction that computes an attribute at a place, if the attribute has this
-    /// pass and a rule computes it. Other productions have the rules for the inherited attributes
-    /// of the left side and the synthesized ones of children. In the contracts of these methods
-    /// `[]` means that no rule was run before. Fails with NoMemory if memory is refused.
+    /// pass and the production has a rule for it. A production has no rule for the inherited
+    /// attributes of its left side, nor for the synthesized attributes of its children: other
+    /// productions compute these. In the contracts of these methods `[]` means that no rule was run
+    /// before. Fails with NoMemory if memory is refused.
     fn append_instruction(&self, list: &mut Vec<Instr>, target: Target) -> Result<(), NoMemory>
         requires { length self.now.production.now.rules ≤ max_rules }
         ensures { OnOk result (list.new.items ≡ list.old.items ++ remaining_for

@@ -18,8 +18,9 @@ use ag_value::NoMemory;
 use passassign::Assignment;
 use std::alloc::Global;
 
-/// Returns the lists of a production, for the passes from 1 to `passes`. (`lists_of` of the specs
-/// looks them up in given code.) Fails with NoMemory if memory is refused.
+/// Returns the lists of a production, for the passes from 1 to `passes`. Fails with NoMemory if
+/// memory is refused. (`lists_of` of the specs is another function: it finds a production's lists
+/// in given code.)
 fn lists_of(
     alloc: Global,
     production: &Production,
@@ -48,10 +49,11 @@ fn lists_of(
 /// Returns the code of an accepted grammar under a legal assignment: a list of instructions for
 /// each production and each pass up to the assignment's greatest.
 ///
-/// A list has, for each place of the right side in the pass's direction, the `Get`; if a symbol is
-/// there, the `Set`s in the order of their attributes, and the `Go`; and the `Put`. Then come the
-/// `Def`s in the order of their attributes, and `End`. The `Set`s and `Def`s are those of the
-/// attributes that have the list's pass.
+/// A list begins with the instructions for each place of the right side, in the pass's direction.
+/// At a token these are the `Get` and the `Put`. At a symbol they are the `Get`, the `Set`s in the
+/// order of their attributes, the `Go` and the `Put`. Then come the `Def`s in the order of their
+/// attributes, and `End`. The `Set`s and `Def`s are those of the attributes that have the list's
+/// pass.
 ///
 /// Fails with NoMemory if the allocator refuses memory. Allocates only the code. For each list it
 /// looks up each attribute of the left side and of each child that is a symbol once. It searches

@@ -15,8 +15,8 @@ ghost use Rattle.passcode.specs.Sample.{undefined_list};
 
 use ag_grammar::samples::sample_legal;
 
-/// Worked example: pass 1 goes from right to left, so it visits the second of the two places first.
-/// After the visit of one child the second place was visited, and the first one was not.
+/// Worked example: pass 1 goes from right to left, so it visits place 2 first, and then place 1.
+/// After it has visited one child, place 2 was visited and place 1 was not.
 #[tactic(auto, using(crate::proofs::Sampled::sample_visited, crate::proofs::Sampled::sample_unvisited))]
 pub fn sample_turns()
     ensures turn { place_of sample_production 1 0 ≡ 2 }

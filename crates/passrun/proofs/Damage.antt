@@ -1,5 +1,5 @@
--- The offset at which a content shows that it is the file of no tree, or of none within the limits: what the
--- content shows is true of it, and it shows at most one fault.
+-- The offset at which a content shows a fault: that it is the file of no tree, or of no tree within the limits. Such a fault is
+-- true of the content, and a content shows at most one fault.
 use Rattle.std.specs.List.{flat_map}
 use Rattle.std.proofs.Common.{ℕ, suc, ◌≡◌, ◌≢◌, ◌+◌, ◌^◌, ◌<◌, ◌≤◌, ◌⊎◌, inl, inr, Bool, true, false, if◌then◌else◌, List, []}
 use Rattle.std.proofs.Common.{◌∷◌, ◌++◌, Some, Ok, Err, length, refl, ap, ◌∙◌, sym, subst, arith}
@@ -191,7 +191,7 @@ module _ (s : Source) (sound : IsDecidable s) where
     shown = inr (inr (readable, h));
   }
 
-  -- The content is the file of no tree within the limits if one is exceeded.
+  -- If reading exceeds the limit of levels, the content is the file of no tree within this limit.
   pub too_deep : (content : List ℕ) → ExceedsDepth s content → IsTooDeep s content
   too_deep content h = record {
     none =
@@ -231,7 +231,7 @@ module _ (s : Source) (sound : IsDecidable s) where
         },
       )
 
-  -- The content is the file of this pass of no tree if it is the file of another pass.
+  -- If the header has the number of another pass, the content is not the file of the source's pass of any tree.
   pub other_pass : (content : List ℕ) (pass : ℕ) → s.pass < 2 ^ 16 → pass_in s.version content ≡ Ok pass → pass ≢ s.pass
       → IsDamaged s content 4
   other_pass content pass small exact not =

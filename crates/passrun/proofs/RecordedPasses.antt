@@ -63,8 +63,8 @@ passes_are_recorded g plan k from to count evals accepted legal positive is =
       pass_counts (setting_of g plan k) from to count evals accepted legal next is,
     )
 
--- A fault of the pass after some passes holds for the content before them: after a pass that succeeded, R1, P2 and P3 never
--- occur, since the first file is that of a tree within the limits.
+-- If a pass fails after others succeeded, its fault holds for the content before these passes: R1, P2 and P3 can't occur then,
+-- since that content is the file of a tree within the limits.
 pub refused_back : (g : Grammar) (plan : List (List ℕ) × Lists) (k n : ℕ) (start now before : List ℕ)
     → RunsPasses version_two g (passes_of plan.0) (k - 1) (n - 1) start now before → HoldsTree g (passes_of plan.0) (k - 1) start
     → (f : RunFault) → IsRunFault (setting_of g plan n) now f → IsRunFault (setting_of g plan k) start f

@@ -37,8 +37,8 @@ pub record IsReadable (s : Source) (content : List ℕ) : Type 0 where
   pub number : pass_of content ≡ s.pass
 
 -- Reading some bodies turns the list of children to be read (the third argument, `todo`) into the list `left`. An entry x of such
--- a list has a child x.1 and its level x.0. Each body is a record of the first child, and its level is within the limit. In the
--- list, the children of this child replace it, in the direction d.
+-- a list has a child x.1 and its level x.0. Each body is a record of the child that is then first in the list, and the level of
+-- this child is within the limit. Its own children take its place in the list, in the direction d.
 abbrev pub Leaves : Source → Direction → Pending → List (List ℕ) → Pending → Type 0
 Leaves s d todo [] left = todo ≡ left
 Leaves s d [] (body ∷ bodies) left = ⊥
@@ -73,8 +73,8 @@ BreaksAt s content at =
     (todo : Pending) × (arrival : ArrivesAt s content at todo) × IsWithin s todo (length arrival.bodies)
     × Breaks s.version s.grammar s.passes s.pass todo (next_before s.version content at)
 
--- The offset at which a content shows that it is the file of no tree: 0 if it does not begin as a tree file
--- of the version, 4 if it is that of another pass, and otherwise the one at which reading meets damage.
+-- The offset at which a content shows that it is the file of no tree: 0 if it does not begin as a tree file of the version, 4 if
+-- its header has the number of another pass, and otherwise the offset at which reading meets damage.
 abbrev pub ShowsAt : Source → List ℕ → ℕ → Type 0
 ShowsAt s content at =
     ((is_tree_file s.version content ≡ false) × (at ≡ 0))
@@ -121,7 +121,7 @@ pub record HasTooManyNodes (s : Source) (content : List ℕ) : Type 0 where
   pub none : (depth : ℕ) → HasNoTreeWithin depth s.nodes s.version s.grammar s.passes s.pass content
   pub shown : ExceedsNodes s content
 
--- The damage that R1, P2 and P3 show in a content. D1 and NoMemory show none.
+-- What R1, P2 and P3 say of a content: damage shows at the offset, or a limit is exceeded. No content shows D1 or NoMemory.
 abbrev pub Shows : Source → List ℕ → RunFault → Type 0
 Shows s content (fault.Damaged at) = ShowsAt s content at
 Shows s content fault.TooDeep = ExceedsDepth s content

@@ -43,7 +43,7 @@ abbrev pub CountsPass : Grammar → Passes → ℕ → (from : List ℕ) → (co
 CountsPass g m k from count evals = (t : Tree) (u : Valuation) → IsTreeOf g t → IsFileOfTree version_two g m k t u from
     → (count ≡ node_count t) × (evals ≡ rules_of_pass m (suc k) g t)
 
--- The result of a pass for some tree holds for every tree that has the file it read: there is only one such tree.
+-- The result of a pass for some tree holds for every tree that has the file that the pass read: there is only one such tree.
 abbrev pub PassesAreRecorded : Type 0
 PassesAreRecorded =
     (g : Grammar) (plan : List (List ℕ) × Lists) (k : ℕ) (from to : List ℕ) (count evals : ℕ) → IsAccepted g
@@ -69,6 +69,6 @@ ValuesAreTheSolution =
     → (h : HasRunAll g m 0 last start which a b evals sum) (t : Tree) (u : Valuation) (tree : IsTreeOf g t)
     (file : IsFileOfTree version_two g m 0 t u start) → IsTheSolution g m t (h.runs t u tree file).values
 
--- No attribute has a later pass than the greatest number in the rows of an assignment (`IsLastPass`).
+-- No attribute has a later pass than the greatest number in an assignment (`IsLastPass`), whose rows are lists of passes.
 abbrev pub GreatestIsLast : Type 0
 GreatestIsLast = (last : ℕ) (rows : List (List ℕ)) → IsGreatest last rows → IsLastPass last (passes_of rows)

@@ -44,8 +44,8 @@ abbrev pub one_more : Passed → Passed → Passed
 one_more sum passed = record { nodes = passed.nodes; read = sum.read + passed.read; written = sum.written + passed.written }
 
 -- The counts of `count` passes after pass k over the tree t. They evaluated `evals` rules: as many as the tree has in these
--- passes. `sum` has the other counts: each pass read and wrote as many records as the tree has nodes. Its number of nodes is 0 if
--- no pass ran.
+-- passes. `sum` has the other counts: each pass read and wrote as many records as the tree has nodes. The number of nodes in
+-- `sum` is 0 if no pass ran.
 pub record HasCounted (g : Grammar) (m : Passes) (t : Tree) (k count evals : ℕ) (sum : Passed) : Type 0 where
   pub evals_are : evals ≡ sum_of_passes (λ p. rules_of_pass m p g t) k count
   pub none : count ≡ 0 → sum.nodes ≡ 0

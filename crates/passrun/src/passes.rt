@@ -106,9 +106,9 @@ fn next_pass<D: Device>(
     }
 }
 
-/// Returns the counts after one more pass: the number of nodes of this pass, and the sums of
-/// records read and written. `sum` has the counts of the passes before, and `passed` those of this
-/// pass.
+/// Returns the counts after one more pass: the number of nodes of this pass, and the numbers of
+/// records read and written in all passes. `sum` has the counts of the earlier passes, and `passed`
+/// those of this pass.
 fn one_more(sum: Passed, passed: Passed) -> Passed
     requires read { sum.read + passed.read < 2 ^ 64 }
     requires written { sum.written + passed.written < 2 ^ 64 }
@@ -123,10 +123,10 @@ fn one_more(sum: Passed, passed: Passed) -> Passed
 
 /// Runs the passes of a plan for a grammar from pass `first` to the greatest, in sequence. `first`
 /// is a number from 1 to one more than the greatest pass. The passes alternate between two devices:
-/// pass `first` reads the file of pass `first` - 1 from `a` and writes its own file to `b`, the
-/// next pass reads that and writes to `a`, and so on. Evaluates each rule of these passes once at
-/// each node of its production. The meter counts these evaluations, and may be at most 2^62 before
-/// the call.
+/// pass `first` reads the file of pass `first` - 1 from `a` and writes its own file to `b`. The
+/// next pass reads this file and writes to `a`, and so on. Evaluates each rule of these passes once
+/// at each node of its production. The meter counts these evaluations, and may be at most 2^62
+/// before the call.
 ///
 /// Returns the device that has the file of the last pass, with the number of nodes of the
 /// tree, and the numbers of records read and written in all passes together. If `first` is one more

@@ -1,4 +1,4 @@
--- Links of strikes: each good strike has one, and those of a chain are in its order.
+-- Links of strikes: each good strike (`IsGood` of `passassign`) has one, and the links of a chain are in the chain's order.
 use Rattle.std.proofs.Common.{ℕ, zero, suc, ◌≡◌, ◌≤◌, ◌+◌, ◌++◌, inl, inr, List, [], ◌∷◌, Option, Some, None, slice_get, length}
 use Rattle.std.proofs.Common.{refl, ap, sym, ◌∙◌, subst, length-append, arith}
 use Rattle.ag_grammar.specs.Lists.{AreRelated, Each}

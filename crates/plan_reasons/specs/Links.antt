@@ -61,8 +61,8 @@ pub record AreChainLinks (g : Grammar) (d : Direction) (candidate : Attributes) 
   pub is_chain : IsChainOf g d candidate s a chain
   pub are_links : AreRelated (IsLinkOf g) chain links
 
--- l is the link of strike x, and it is an obstacle in passes of direction d: its argument is at the target's child or at one that
--- is visited later, so the strike waits for no other.
+-- l is the link of strike x, and it is an obstacle in passes of direction d: its argument is at the target's child or at a child
+-- that is visited later. So strike x waits for no other.
 abbrev pub IsObstacleOf : Grammar → Direction → Strike → Link → Type 0
 IsObstacleOf g d x l = IsLinkOf g x l × IsSameOrLater d l.target.place l.argument.place
 

@@ -31,14 +31,13 @@ pub struct Explanation<'a> {
 impl<'a> Explanation<'a> {
     /// Returns the explanation of a grammar, whose text is `source`. Reads the text again, for the
     /// positions of the rules. Fails with NoMemory if memory is refused, and also if the text can't
-    /// be read as a grammar, which happens only if the text isn't that of `grammar`.
+    /// be read as a grammar. The text of `grammar` always can.
     pub fn new(
         alloc: Global,
         source: Source<'a>,
         grammar: &'a Grammar,
     ) -> Result<Explanation<'a>, NoMemory> {
-        // If the text is that of `grammar`, it can be read, so only refused memory can be the
-        // cause.
+        // the text of `grammar` reads as a grammar unless memory is refused
         let Ok(raw) = read_grammar(alloc, source.bytes) else {
             return Err(NoMemory::NoMemory);
         };

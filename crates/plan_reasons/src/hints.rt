@@ -91,9 +91,9 @@ fn copied_among(
 }
 
 impl Explanation<'_> {
-    /// Writes the attributes that no rule uses, except the start symbol's `out`, and those that
-    /// are only copied (each rule for them is a copy, and there is one). If one of these two lists
-    /// is empty, its heading is left out too.
+    /// Writes two lists, each after a heading: the attributes that no rule uses, without the start
+    /// symbol's `out`, and the attributes that are only copied. For these there are rules, all of
+    /// which are copies. An empty list is left out with its heading.
     pub(crate) fn write_hints(&self, out: &mut String) -> Result<(), NoMemory> {
         let attributes = attributes_of(self.alloc, self.grammar.symbols())?;
         let unused = unused_among(self.alloc, self.grammar, attributes.as_slice())?;

@@ -154,7 +154,8 @@ fn append_obstacle(
 
 /// Returns the obstacles in passes of a direction among the links of some strikes, in the order of
 /// the strikes. A link is an obstacle if its argument is at the target's child or at a child that
-/// is visited later, so that its strike waits for no other strike. Fails if memory is refused.
+/// is visited later. The strike of an obstacle waits for no other strike. Fails if memory is
+/// refused.
 pub fn obstacles_of(
     alloc: Global,
     grammar: &Grammar,

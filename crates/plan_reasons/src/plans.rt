@@ -11,8 +11,8 @@ const MAX_EXPLAINED_PASSES: u16 = 20;
 
 impl Explanation<'_> {
     /// Writes the number of passes. For each pass after pass 1 that has attributes, writes why the
-    /// pass before it can't compute one of them. Then writes the attributes that no rule uses,
-    /// except the start symbol's `out`, and those that are only copied. Fails if memory is refused.
+    /// pass before can't compute one of these attributes. Then writes the attributes that the
+    /// grammar may not need (`write_hints`). Fails if memory is refused.
     pub fn write_plan(&self, out: &mut String, plan: &LeastPlan<'_>) -> Result<(), NoMemory> {
         let passes = plan.assignment.passes();
         let noun = if passes == 1 { "pass" } else { "passes" };
@@ -32,9 +32,9 @@ impl Explanation<'_> {
         self.write_hints(out)
     }
 
-    /// Writes the pass of an attribute, and for each earlier pass, the latest one first, why it
-    /// can't compute the attribute. Explains at most 20 passes, and then names the others. An
-    /// attribute without a pass is written as one of pass 1. Fails if memory is refused.
+    /// Writes the pass of an attribute. Then writes for each earlier pass, the latest one first,
+    /// why that pass can't compute the attribute. Explains at most 20 passes, and then names the
+    /// others. An attribute without a pass is written as one of pass 1. Fails if memory is refused.
     pub fn write_attribute(
         &self,
         out: &mut String,

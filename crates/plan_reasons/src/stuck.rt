@@ -14,8 +14,8 @@ const DIRECTIONS: [Direction; 2] = [Direction::RightToLeft, Direction::LeftToRig
 impl Explanation<'_> {
     /// Writes the obstacles of one direction (`obstacles_of`), with the reason of each. The
     /// direction is the one with fewer obstacles, or that of pass 1 if both have the same number.
-    /// Then writes the attributes that no rule uses, except the start symbol's `out`, and those
-    /// that are only copied. Fails if memory is refused.
+    /// Then writes the attributes that the grammar may not need (`write_hints`). Fails if memory is
+    /// refused.
     pub fn write_stuck(&self, out: &mut String, stuck: &Stuck) -> Result<(), NoMemory> {
         let (alloc, grammar) = (self.alloc, self.grammar);
         let odd = obstacles_of(alloc, grammar, Direction::RightToLeft, stuck.odd.as_slice())?;

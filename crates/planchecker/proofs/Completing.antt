@@ -25,7 +25,7 @@ use Rattle.planchecker.specs.Following.{IsOnPath, RunsRule, state_of}
 use Rattle.planchecker.specs.declared.following.NodeState.{NodeState}
 use Rattle.planchecker.proofs.Loops.{or_none}
 
--- a list continues after its first n instructions in another way
+-- a list's first n instructions, followed by any others, begin as the list
 begins_as : (xs zs : List Instr) (n : ℕ) → BeginsAs n xs (take n xs ++ zs)
 begins_as xs zs zero i x less at = absurd (omega arith)
 begins_as [] zs (suc n) i x less at = absurd (let bad : ⊥ = cc in bad)
@@ -42,7 +42,7 @@ same_state q s (x ∷ xs) (y ∷ ys) (suc n) most keeps =
     let same : y ≡ x = cc in
     rw same (same_state q (after q s x) xs ys n (omega arith) (λ i z less at. keeps (suc i) z (omega arith) at))
 
--- the rules that were run are those of the instructions before
+-- after rule n was run too, the rules that were run are n and the earlier ones
 split : (n r : ℕ) (done : List ℕ) → Has (n ∷ done) r → Has done r ⊎ (n ≡ r)
 split n r done (zero, e) = inr cc
 split n r done (suc i, e) = inl (i, e)

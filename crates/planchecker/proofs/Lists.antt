@@ -1,4 +1,4 @@
--- The first list of a production that does not agree, if the lists before it do.
+-- The first list of a production that does not agree: the lists before it agree.
 use Rattle.std.proofs.Common.{ℕ, ◌≡◌, ◌+◌, ◌-◌, List, Some, slice_get, inl, inr, arith}
 use Rattle.ag_grammar.specs.declared.grammar.Production.{Production}
 use Rattle.ag_grammar.specs.grammars.Passes.{Passes}

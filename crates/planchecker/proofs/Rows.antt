@@ -1,4 +1,4 @@
--- The row of a number beyond the symbols and the rows of an assignment is empty.
+-- For a number beyond the symbols and beyond the rows of an assignment, the row is empty, as it has to be.
 use Rattle.std.proofs.Common.{ℕ, ◌≡◌, ◌≤◌, List, [], Some, slice_get, length, refl}
 use Rattle.std.proofs.lemmas.List.{get_or_past}
 use Rattle.std.proofs.lemmas.Option.{slice_get_past}

@@ -12,8 +12,8 @@ use Rattle.planchecker.specs.Plans.{IsPlan, IsPlanFault}
 use Rattle.passcode.specs.Settings.{setting_of}
 use Rattle.passcode.specs.Sound.{IsSound}
 
--- No fault of `check_plan` is true of a legal assignment and code that agrees with it, if no pass is above 8,192, there are at
--- most as many rows as symbols, and there is a list for each production and pass. `assign` and `generate` return such results.
+-- No fault of `check_plan` is true of a legal assignment and code that agrees with it, if no pass is above 8,192, there are no
+-- more rows than symbols, and there is a list for each production and pass. `assign` and `generate` return such results.
 abbrev pub MadeIsAccepted : Type 0
 MadeIsAccepted = (g : Grammar) (rows : List (List ℕ)) (code : Lists) → IsLegal g (passes_of rows) → AreWithinMaxPasses rows
     → length rows ≤ length g.symbols → Agrees g (passes_of rows) code → HasLists g rows code → (f : PlanFault)

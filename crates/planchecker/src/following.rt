@@ -1,5 +1,5 @@
 //! Computes the state of a node before each instruction of a list (`Course.antt` of `passcode`),
-//! and finds the first instruction that may not come next in its state.
+//! and finds the first instruction that may not come next in this state.
 
 ghost use Rattle.std.specs.Prelude.{ℕ, ◌≡◌, ◌<◌, ◌≤◌, ◌↔◌, IsTrue, Some, length};
 ghost use Rattle.ag_grammar.specs.Lists.{Has};
@@ -116,8 +116,8 @@ impl NodeState<'_> {
         false
     }
 
-    /// Returns whether an attribute at a place is available: it has an earlier pass than this one,
-    /// or it has this pass and is on the left side or at a child in which the pass has run.
+    /// Returns whether an attribute at a place is available: it has an earlier pass; or it has this
+    /// pass, and is on the left side or at a child in which the pass has run.
     fn is_available(&self, target: Target) -> bool
         requires { IsOnPath self.now }
         ensures { IsTrue result ↔ IsAvailable (passes_of self.now.context.assignment.now)
@@ -178,7 +178,7 @@ impl NodeState<'_> {
         !self.context.has_pass(target) || self.was_run(number)
     }
 
-    /// Returns whether each rule was run whose target is at this place and has this pass.
+    /// Returns whether each rule with a target at this place and of this pass was run.
     fn are_done(&self, place: u16) -> bool
         requires { IsOnPath self.now }
         ensures { IsTrue result ↔ AreDone (passes_of self.now.context.assignment.now)
@@ -192,7 +192,7 @@ impl NodeState<'_> {
         true
     }
 
-    /// Returns whether each rule was run whose target has this pass.
+    /// Returns whether each rule with a target of this pass was run.
     fn are_all_done(&self) -> bool
         requires { IsOnPath self.now }
         ensures { IsTrue result ↔ ((j : ℕ) → AreDone (passes_of self.now.context.assignment.now)

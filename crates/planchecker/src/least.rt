@@ -17,8 +17,8 @@ use ag_value::Items;
 use passassign::laws::none_is_earlier;
 use passassign::{Assignment, Strike, Strikes};
 
-/// The candidates of a pass of an assignment: the attributes of this pass and of later ones. Those
-/// of later ones have to be struck.
+/// The candidates of a pass of an assignment: the attributes of this pass and of later passes. The
+/// attributes of later passes have to be struck.
 #[derive(Clone, Copy)]
 struct PassCandidates<'a> {
     assignment: &'a Assignment,

@@ -2,9 +2,9 @@
 //! it.
 //!
 //! A strike names an attribute, a rule for it and an argument of that rule. It is good if this
-//! argument is a reason why the pass can't compute the attribute: the argument was struck before,
-//! or it is a candidate at the same child as the rule's target or at a child that the pass visits
-//! later.
+//! argument is a reason why the pass can't compute the attribute. There are two cases: the argument
+//! was struck before; or it is one of the `Candidates` (below), and is at the same child as the
+//! rule's target or at a child that the pass visits later.
 
 ghost use Rattle.std.specs.Prelude.{ℕ, ◌≡◌, ◌↔◌, IfSome, IsSome, IsTrue, Some, slice_get, take};
 ghost use Rattle.ag_grammar.specs.declared.direction.Direction.{Direction as TheDirection};
@@ -26,12 +26,12 @@ pub(crate) trait Candidates {
     /// The direction of the pass.
     ghost direction: { Self → TheDirection };
 
-    /// `candidates x s a` is the statement that attribute a of symbol s is a candidate, by the
-    /// value x of the type.
+    /// `candidates x s a` is the statement that attribute a of symbol s is one of the candidates
+    /// that the value x describes.
     ghost candidates: { Self → ℕ → ℕ → Type 0 };
 
-    /// `later x s a` is the statement that the pass has to strike attribute a of symbol s, by the
-    /// value x.
+    /// `later x s a` is the statement that attribute a of symbol s is one of those that the pass
+    /// has to strike.
     ghost later: { Self → ℕ → ℕ → Type 0 };
 
     /// Returns the direction of the pass.

@@ -46,8 +46,8 @@ pub fn read_translator<R: Files + Input>(
     build_translator(alloc, Source::new(grammar.name(), bytes.as_slice()))
 }
 
-/// Returns the translator of the grammar in a text. Fails with the report of the fault with which
-/// `Translator::build` fails: the grammar is refused, or memory is.
+/// Returns the translator of the grammar in a text. Fails if the grammar or memory is refused, with
+/// the report of the fault of `Translator::build`.
 pub fn build_translator(alloc: Global, grammar: Source<'_>) -> Result<Translator, FaultReport> {
     match Translator::build(alloc, grammar.bytes) {
         Ok(translator) => Ok(translator),

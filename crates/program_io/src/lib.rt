@@ -1,7 +1,7 @@
-//! What the commands of the program have in common: reading their input, checking and writing
-//! output files, and the reports of an input that can't be read and of a refused grammar or
-//! sentence. The checks compare written files with the inputs, and translations' files with the
-//! tree files of `--work`.
+//! What the commands of the program have in common: they read inputs, check and write output files,
+//! and make the reports of inputs that can't be read and of refused grammars and sentences. The
+//! checks compare written files with the inputs, and the files of translations with the tree files
+//! of `--work`.
 #![tactic(auto)]
 
 mod files;

@@ -18,12 +18,13 @@ const MAX_LINKS: usize = 40;
 const MAX_NAMES: u32 = 1_000;
 
 /// Writes a translation to the file at `path`:
-/// - prints it if the file is a regular one that is also standard output, which a new file would
-///   not be;
+///
+/// - prints it if the file is a regular one and also standard output. A new file in its place would
+///   not be standard output;
 /// - appends it to a file that is not a regular one, and to any existing file whose path begins
 ///   with /dev/ (but not /dev/shm/) or /proc/;
-/// - replaces any other file by a new one with its mode, and creates a missing file, in both cases
-///   with the whole translation or not at all.
+/// - replaces any other file by a new one with the same mode, and creates a missing file, in both
+///   cases with the whole translation or not at all.
 ///
 /// Fails with F1 if the file can't be examined, opened or created, if its mode can't be set, or if
 /// its links can't be followed. Fails with O2 if a write fails or takes no byte, or if the new file
@@ -42,8 +43,8 @@ pub fn write_file<R: Files + Print>(
     }
 }
 
-/// Writes bytes to the file at `path`, as `write_file` does, and fails with the fault of its
-/// report.
+/// Writes bytes to the file at `path`, as `write_file` does. Fails with the fault that the report
+/// of `write_file` contains.
 fn put<R: Files + Print>(rt: &R, alloc: Global, path: &str, bytes: &[u8]) -> Result<(), Fault> {
     let standard = FileId::of_standard_output(rt)?;
     match fs::metadata(rt, path) {
@@ -109,9 +110,9 @@ fn replace<R: Files>(
     renamed
 }
 
-/// Gives a new file the mode `mode`, if there is one, and writes bytes to it. Fails with F1 if the
-/// mode can't be set (with NoMemory if memory for that is refused), and with O2 if a write fails or
-/// takes no byte.
+/// Sets the mode of a new file to `mode`, if there is one, and writes bytes to the file. Fails with
+/// F1 if the mode can't be set, or with NoMemory if memory is refused then. Fails with O2 if a
+/// write fails or takes no byte.
 fn fill<F: io::Write + OpenFile + Drop>(
     mut file: F,
     bytes: &[u8],
@@ -125,8 +126,8 @@ fn fill<F: io::Write + OpenFile + Drop>(
 }
 
 /// Returns the path that the links at `path` lead to. No file need exist there. Fails with F1 if
-/// there are more than `MAX_LINKS` links, or one can't be read, and with NoMemory if memory is
-/// refused.
+/// there are more than `MAX_LINKS` links, or if a link can't be read, and with NoMemory if memory
+/// is refused.
 fn target_of<R: Files>(rt: &R, alloc: Global, path: &str) -> Result<String, Fault> {
     let mut target = String::from_str(alloc, path)?;
     // the last iteration only finds out whether there is another link after `MAX_LINKS` links
@@ -159,8 +160,8 @@ fn link_at<R: Files>(rt: &R, alloc: Global, path: &str) -> Result<String, Fault>
 }
 
 /// Creates a new file in the folder of `path`, and returns its path and the file. Fails with F1 if
-/// it can't be created, or if all `MAX_NAMES` names are in use, and with NoMemory if memory is
-/// refused.
+/// the file can't be created, or if all `MAX_NAMES` names are in use, and with NoMemory if memory
+/// is refused.
 fn create_beside<R: Files>(rt: &R, alloc: Global, path: &str) -> Result<(String, R::File), Fault> {
     let mut how = OpenOptions::new();
     how.write(true).create_new(true);

@@ -55,9 +55,10 @@ pub fn check_inputs<R: Files>(
     Ok(())
 }
 
-/// Fails if the output at `path` is one of `inputs` or, if there is a folder `work`, a work file in
-/// it. The output is a translation's file, or the tree file that `parse` or `upgrade` writes. (For
-/// `upgrade`, `inputs` does not contain the old tree file.) Fails if memory is refused.
+/// Fails if the output at `path` is one of `inputs`. If there is a folder `work`, also fails if the
+/// output is a work file in this folder. The output is a translation's file, or the tree file that
+/// `parse` or `upgrade` writes. (For `upgrade`, `inputs` does not contain the old tree file.) Fails
+/// if memory is refused.
 pub fn check_output<R: Files>(
     rt: &R,
     alloc: Global,
@@ -190,7 +191,8 @@ fn ids_of<R: Files>(rt: &R, alloc: Global, paths: &[&str]) -> Result<Vec<FileId>
     Ok(ids)
 }
 
-/// Returns the identity of the regular file that an input is, if it is one.
+/// Returns the identity of an input if it is a regular file, else `None`. Fails if memory is
+/// refused.
 fn id_of_input<R: Files>(rt: &R, input: InputPath<'_>) -> Result<Option<FileId>, NoMemory> {
     match input {
         InputPath::Standard => FileId::of_standard_input(rt),

@@ -14,7 +14,7 @@ const STANDARD_INPUT: &str = "/dev/stdin";
 /// The path of standard output.
 const STANDARD_OUTPUT: &str = "/dev/stdout";
 
-/// The identity of a file. While the file exists, no other file has it.
+/// The identity of a file. While the file exists, no other file has the same identity.
 #[derive(Clone, Copy, PartialEq, Eq, PartialOrd, Ord)]
 pub struct FileId {
     /// The number of the device that the file is on.
@@ -52,21 +52,21 @@ impl FileId {
         }
     }
 
-    /// Returns the identity of the regular file that is standard input, if it is one. Fails if
-    /// memory is refused.
+    /// Returns the identity of standard input if it is a regular file, else `None`. Fails if memory
+    /// is refused.
     pub fn of_standard_input<R: Files>(rt: &R) -> Result<Option<FileId>, NoMemory> {
         FileId::at(rt, STANDARD_INPUT)
     }
 
-    /// Returns the identity of the regular file that is standard output, if it is one. Fails if
+    /// Returns the identity of standard output if it is a regular file, else `None`. Fails if
     /// memory is refused.
     pub fn of_standard_output<R: Files>(rt: &R) -> Result<Option<FileId>, NoMemory> {
         FileId::at(rt, STANDARD_OUTPUT)
     }
 }
 
-/// Returns `None` for a call of the file system that failed with `error`. Fails if it failed since
-/// memory was refused.
+/// Returns `None` for a call of the file system that failed with `error`. Fails with NoMemory if
+/// the call failed because memory was refused.
 fn none_or_refused(error: &io::Error) -> Result<Option<FileId>, NoMemory> {
     match fault_or(error, Fault::File) {
         Fault::NoMemory => Err(NoMemory::NoMemory),

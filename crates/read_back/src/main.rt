@@ -1,8 +1,8 @@
-//! `read_back [--old] PATH` reads a tree file from its end and prints the number of its records;
-//! with `--old` the file is one of version 1. `benches/run` measures the program, and
+//! `read_back [--old] PATH` reads a tree file from its end and prints the number of its records.
+//! With `--old` the file is one of version 1. `benches/run` measures the program.
 //! `tests/refused-memory` runs it once for each request for memory that it makes, and refuses this
 //! request. If memory for a call of the reader is refused, the program names the call on standard
-//! error and makes it a second time, to test that a call can be repeated after NoMemory.
+//! error, and makes the call a second time. This tests that a call can be repeated after NoMemory.
 #![tactic(auto)]
 
 ghost use Rattle.std.specs.Prelude.{IfOk};
@@ -19,8 +19,8 @@ use treefile::{Device, FileDevice, FileVersion, FrameFault};
 /// The word of the command line before the path of a tree file of version 1.
 const OLD: &str = "--old";
 
-/// Prints the number of records, or the fault on standard error. The exit status is 0, that of the
-/// fault (`status`), or 1 if the number can't be printed.
+/// Prints the number of records, or the fault on standard error. Returns 0 after the number, 1 if
+/// the number can't be printed, and the status of the fault (`status`) after a fault.
 fn main(rt: HostRuntime) -> ExitCode {
     match run(&rt, rt.alloc()) {
         Ok(records) => match println!(rt; "{records} nodes") {
@@ -100,7 +100,7 @@ fn records<R: Eprint, D: Device>(
 }
 
 /// Starts a reader, and tries a second time if memory was refused. Fails as `start` does. The
-/// clause `over` is the condition on which `Back::back` may be called with the device.
+/// clause `over` states what `Back::back` requires of its caller.
 fn start_twice<R: Eprint, D: Device>(
     rt: &R,
     alloc: Global,

@@ -45,8 +45,8 @@ pub record EndsWithNoRoot (g : Grammar) (assignment : List (List ℕ)) (content 
   pub none : (x : Value) → EndsWithRoot g assignment content x → ⊥
 
 -- The meaning of the value or the fault found at the end of a content. A value is that of the root's `out`. B1 means that the
--- content does not begin as a tree file, and B2 that it does but has no root's record there. D1 and NoMemory say nothing about
--- the content.
+-- content does not begin as a tree file. B2 means that it begins so, but does not end with a root's record. D1 and NoMemory say
+-- nothing about the content.
 abbrev pub FindsValue : Grammar → List (List ℕ) → List ℕ → Result Value FrameFault → Type 0
 FindsValue g assignment content (Ok x) = EndsWithRoot g assignment content x
 FindsValue g assignment content (Err frame_fault.NotATreeFile) = last_body_of version_two content ≡ Err frame_fault.NotATreeFile

@@ -138,13 +138,13 @@ fn last_value<D: Device>(
 /// pass, which is on the device. Reads the header and the last record of the file, which in the
 /// file of a tree is the root's.
 ///
-/// Fails with O1 NoText and the value if it is a number, a list, a table or an error. Fails with B1
-/// NotATreeFile if there are fewer than 6 bytes or the first four are not `AGT2`. Otherwise fails
-/// with B2 Damaged, and the number of bytes as its offset, if no frame ends at the end of the file,
-/// or if the body of the last frame is not a root's record. A root's record has a production of the
-/// start symbol, a well value for each attribute, the copies of the children's values, and no more
-/// bytes. Fails with D1 Device if a call of the device failed, and with NoMemory if memory was
-/// refused.
+/// Fails with O1 NoText and the value if the value is a number, a list, a table or an error. Fails
+/// with B1 NotATreeFile if the file has fewer than 6 bytes or does not begin with `AGT2`. Otherwise
+/// fails with B2 Damaged if no frame ends at the end of the file, or if the body of the last frame
+/// is not a root's record; the offset is the number of bytes of the file. A root's record has a
+/// production of the start symbol, a well value for each attribute, the copies of the children's
+/// values, and no more bytes. Fails with D1 Device if a call of the device failed, and with
+/// NoMemory if memory was refused.
 ///
 /// Ignores the number of the pass in the header. Takes memory for the record and for its values.
 pub fn root_text<D: Device>(

@@ -10,14 +10,14 @@ same_right : (l r l' r' : List ℕ) → l ++ r ≡ l' ++ r' → length l ≡ len
 same_right l r l' r' e n =
     sym (drop_at l r (length l) refl) ∙ (ap (λ (t : List ℕ). drop (length l) t) e ∙ drop_at l' r' (length l) (sym n))
 
--- While `self` and `other` are compared, the lists `one` and `another` are left to compare: they have the same length, at most
--- that of `self`, and are equal exactly if `self` and `other` are.
+-- While `self` and `other` are compared, the lists `one` and `another` are left to compare. They are equal exactly if `self` and
+-- `other` are equal. Their lengths are the same, and not greater than the length of `self`.
 pub record IsComparing (self other one another : List ℕ) : Type 0 where
   pub answer : (one ≡ another) ↔ (self ≡ other)
   pub len : length one ≡ length another
   pub fewer : length one ≤ length self
 
--- two lists, cut into the sides l and r, and l' and r'; both left sides have the same length
+-- `one` is cut into the sides l and r, and `another` into l' and r'; l and l' have the same length
 pub record AreCut (one another l r l' r' : List ℕ) : Type 0 where
   pub first : one ≡ l ++ r
   pub second : another ≡ l' ++ r'
@@ -52,12 +52,12 @@ right_same self other one another l r l' r' h c e =
       fewer = omega (arith, h.fewer);
     }
 
--- the left sides are equal if the lists are
+-- the left sides are equal if `self` and `other` are equal
 pub left_of_same : (self other one another l r l' r' : List ℕ) → IsComparing self other one another
     → AreCut one another l r l' r' → self ≡ other → l ≡ l'
 left_of_same self other one another l r l' r' h c e = same_left l r l' r' (sym c.first ∙ h.answer.1 e ∙ c.second) c.len
 
--- the right sides are equal if the lists are
+-- the right sides are equal if `self` and `other` are equal
 pub right_of_same : (self other one another l r l' r' : List ℕ) → IsComparing self other one another
     → AreCut one another l r l' r' → self ≡ other → r ≡ r'
 right_of_same self other one another l r l' r' h c e = same_right l r l' r' (sym c.first ∙ h.answer.1 e ∙ c.second) c.len
@@ -70,7 +70,7 @@ sum_taken n m xs =
     ∙ (ap (λ (t : List ℕ). t ++ drop n (take (n + m) xs)) (take-take n (n + m) xs (omega arith))
     ∙ ap (λ (t : List ℕ). take n xs ++ t) (drop-take n m xs))
 
--- if the first n elements of two lists are equal, and the next m, then so are the first n + m
+-- if two lists have the same first n elements, and the same m elements after these, they have the same first n + m elements
 pub more_same : (n m : ℕ) (xs ys : List ℕ) → take n xs ≡ take n ys → take m (drop n xs) ≡ take m (drop n ys)
     → take (n + m) xs ≡ take (n + m) ys
 more_same n m xs ys e f =

@@ -12,7 +12,7 @@ bytes_of (Joined pair) = pair.value.left ++ pair.value.right
 abbrev pub AreBytes : List ℕ → Type 0
 AreBytes bytes = (i : ℕ) → slice_index bytes i < 256
 
--- all numbers are bytes; and if the node has two ropes, neither is empty, and the length stored beside them is that of both
+-- each number is below 256; if the node has two ropes, neither is empty, and the stored length is the sum of their lengths
 abbrev pub IsNode : RopeNode → Type 0
 IsNode (Piece piece) = AreBytes piece.value.items
 IsNode (Joined pair) =

@@ -9,9 +9,9 @@ use crate::rope::{Rope, RopeNode};
 const BLOCK: usize = 1024;
 
 impl Rope {
-    /// Returns whether two ropes have the same bytes. Takes no memory. As long as both are nodes
-    /// with two sides, and the left sides have the same length, compares the shorter sides by
-    /// recursion and goes on with the longer ones. Calls `same_by_blocks` for the rest.
+    /// Returns whether two ropes have the same bytes. Takes no memory. As long as both ropes have
+    /// two sides, and their left sides have the same length, compares the shorter sides by
+    /// recursion, and goes on with the longer sides. Calls `same_by_blocks` for the rest.
     #[tactic(auto, using(crate::proofs::Sides::sides))]
     pub fn same(&self, other: &Rope) -> bool
         ensures { IsTrue result ↔ (self.now ≡ other.now) }
@@ -49,8 +49,8 @@ impl Rope {
         same_by_blocks(one, another)
     }
 
-    /// Returns whether the rope has exactly these bytes. Takes no memory. The shorter side is
-    /// compared by recursion and the longer one in the loop.
+    /// Returns whether the rope has the bytes `bytes`. Takes no memory. Compares the shorter side
+    /// by recursion and the longer side in the loop.
     #[tactic(auto, using(crate::proofs::Sides::sides))]
     pub fn has_bytes(&self, bytes: &[u8]) -> bool
         ensures { IsTrue result ↔ (self.now ≡ bytes.now) }
@@ -110,7 +110,7 @@ fn same_by_blocks(one: &Rope, another: &Rope) -> bool
 }
 
 /// Returns whether two ropes have the same `count` bytes from index `at` on. `count` must be at
-/// most the length of a block, and both ropes must have `count` bytes from that index on.
+/// most `BLOCK`, and both ropes must have `count` bytes from that index on.
 fn same_block(one: &Rope, another: &Rope, at: usize, count: usize) -> bool
     requires block { count ≤ 1024 }
     requires one { at + count ≤ length one.now }

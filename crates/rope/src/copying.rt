@@ -15,8 +15,8 @@ impl Rope {
     }
 
     /// Fills `out` with the bytes from index `from` on. `from` plus the length of `out` must not
-    /// exceed the length of the rope. Takes no memory. Of two sides, the one with fewer bytes to
-    /// copy is copied by recursion and the other one in the loop.
+    /// exceed the length of the rope. Takes no memory. Copies the side with fewer bytes to copy by
+    /// recursion and the other side in the loop.
     pub fn copy_part(&self, from: usize, out: &mut [u8])
         requires { from + length out.old ≤ length self.now }
         ensures { out.new ≡ take (length out.old) (drop from self.now) }
@@ -58,8 +58,8 @@ impl Rope {
         out[at..end].copy_from_slice(&piece.as_slice()[from..last]);
     }
 
-    /// Appends a copy of the bytes to a vector. Fails with AllocError; the bytes of the
-    /// vector are then unchanged.
+    /// Appends a copy of the bytes to a vector. Fails with AllocError if memory is refused, or if
+    /// the vector would have 2^64 bytes or more. The bytes of the vector are then unchanged.
     pub fn append_to(&self, out: &mut Vec<u8>) -> Result<(), AllocError>
         ensures ok { OnOk result (out.new.items ≡ out.old.items ++ self.now) }
         ensures err { OnErr result (out.new.items ≡ out.old.items) }

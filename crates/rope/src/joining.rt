@@ -5,19 +5,20 @@ ghost use Rattle.std.specs.Prelude.{◌≡◌, ◌++◌, ◌+◌, ◌<◌, ◌^�
 use crate::rope::{Rope, RopeNode};
 use std::alloc::{AllocError, Global};
 
-/// The greatest length in bytes of a piece that is made of two.
+/// The greatest length in bytes of a piece that `join` makes of two.
 const MAX_PIECE: usize = 256;
 
 /// The greatest depth in a rope, counted from 0 at the root, of a piece to which `join` adds bytes.
-/// In a text that grows at both ends in turn, the piece at one end has depth 1, and the piece at the
+/// In a text that grows at both ends in turn, the piece at one end has depth 1, and that at the
 /// other end depth 2.
 const MAX_LEVELS: u32 = 2;
 
 impl Rope {
-    /// Joins two ropes, whose lengths together must be below 2^64, in constant time. If one rope is
-    /// a single piece, this piece and the nearest one of the other rope are copied into one piece,
-    /// but only if the nearest one is at most two nodes below the root of its rope, and both have
-    /// at most 256 bytes together. Fails with AllocError.
+    /// Joins two ropes in constant time. The sum of their lengths must be below 2^64. If one rope
+    /// is a single piece, copies this piece and the adjacent piece of the other rope into one new
+    /// piece. Two conditions have to hold for that: the adjacent piece is at most two nodes below
+    /// the root of its rope, and the two pieces have at most 256 bytes together. Fails with
+    /// AllocError.
     pub fn join(alloc: Global, left: Rope, right: Rope) -> Result<Rope, AllocError>
         requires { length left + length right < 2 ^ 64 }
         ensures { IfOk result (λ rope. rope ≡ left ++ right) }
@@ -36,10 +37,11 @@ impl Rope {
     }
 }
 
-/// Returns the rope with `bytes` added at the beginning of its first piece, or `None` if the piece
-/// is more than `levels` nodes below the root or would have more than `MAX_PIECE` bytes. `rope` is
-/// unchanged, since it may have other owners: the piece and the nodes above it are new ones in the
-/// result, which shares all other pieces with `rope`. Fails with AllocError.
+/// Returns a rope that is `rope` with `bytes` added at the beginning of its first piece. Returns
+/// `None` if the first piece is more than `levels` nodes below the root, and if it would have more
+/// than `MAX_PIECE` bytes. `rope` may have other owners, so `rope` stays as it is: the result has a
+/// new first piece with new nodes above it, and shares all other pieces with `rope`. Fails with
+/// AllocError.
 fn extend_first(
     alloc: Global,
     bytes: &[u8],
@@ -64,10 +66,10 @@ fn extend_first(
     }
 }
 
-/// Returns the rope with `bytes` added at the end of its last piece, or `None` if the piece is more
-/// than `levels` nodes below the root or would have more than `MAX_PIECE` bytes. As with
-/// `extend_first`, `rope` is unchanged, and the result shares all other pieces with it. Fails with
-/// AllocError.
+/// Returns a rope that is `rope` with `bytes` added at the end of its last piece. Returns `None` if
+/// the last piece is more than `levels` nodes below the root, and if it would have more than
+/// `MAX_PIECE` bytes. As with `extend_first`, `rope` stays as it is, and the result shares all
+/// other pieces with `rope`. Fails with AllocError.
 fn extend_last(
     alloc: Global,
     rope: &Rope,

@@ -9,16 +9,18 @@ use std::marker::Model;
 use std::rc::Rc;
 
 /// Bytes with several owners: one piece, or two ropes one after the other. `share` copies no byte,
-/// and `join` at most 256. The tree is not balanced, and may be deep. So `drop`, `same` and
-/// `has_bytes` recurse into the side with fewer bytes, and `copy_part` into the side with fewer
-/// bytes to copy, and they loop over the other side: the depth of recursion is at most the number
-/// of bits of the length. `join` recurses at most twice.
+/// and `join` at most 256.
+///
+/// The tree is not balanced, and may be deep. So `drop`, `same` and `has_bytes` recurse into the
+/// side with fewer bytes, and `copy_part` recurses into the side with fewer bytes to copy. All four
+/// loop over the other side. So the depth of recursion is at most the number of bits of the length.
+/// `join` recurses at most twice.
 #[cycle(rope)]
 pub struct Rope {
     pub(crate) node: RopeNode,
 }
 
-/// A node of the tree: the root of a rope.
+/// A node of the tree. Each node is the root of a rope.
 #[cycle(rope)]
 pub(crate) enum RopeNode {
     /// Bytes in one vector.
@@ -123,8 +125,9 @@ impl Rope {
         Ok(Rope { node })
     }
 
-    /// Returns two ropes, one after the other, as a node with two sides; if one is empty, the other
-    /// alone. Fails with AllocError.
+    /// Returns two ropes, one after the other, as a node with two sides. If one rope is empty,
+    /// returns the other rope alone. The sum of their lengths must be below 2^64. Fails with
+    /// AllocError.
     pub(crate) fn pair(alloc: Global, left: Rope, right: Rope) -> Result<Rope, AllocError>
         requires { length left + length right < 2 ^ 64 }
         ensures { IfOk result (λ rope. rope ≡ left ++ right) }

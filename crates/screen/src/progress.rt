@@ -59,8 +59,8 @@ impl<'a, R: Clock + Eprint> Progress<'a, R> {
         self.written.set(self.written.get().saturating_add(1));
     }
 
-    /// Returns the number of the pass whose tree file was begun last: 0 while the sentence is
-    /// parsed, and before the first tree file is begun.
+    /// Returns the number of the pass whose tree file was begun last. Returns 0 while the sentence
+    /// is parsed, and before the first tree file is begun.
     fn pass(&self) -> u16 {
         self.first
             .saturating_add(self.written.get())
@@ -94,8 +94,8 @@ impl<'a, R: Clock + Eprint> Progress<'a, R> {
         }
     }
 
-    /// Returns whether a line is due. If so, records that a line is shown now, so that the next one
-    /// is due after `INTERVAL`. Returns false if the clock can't be read.
+    /// Returns whether a line is due. If so, records that a line is shown now: the next line is due
+    /// after `INTERVAL`. Returns false if the clock can't be read.
     fn is_due(&self) -> bool {
         let Ok(now) = self.rt.monotonic() else {
             return false;
@@ -117,7 +117,7 @@ impl<'a, R: Clock + Eprint> Progress<'a, R> {
     }
 }
 
-/// Returns a part in hundredths of the whole, rounded down; 100 if the whole is 0.
+/// Returns how many hundredths of the whole a part is, rounded down; 100 if the whole is 0.
 fn percent_of(part: u64, whole: u64) -> u64 {
     part.saturating_mul(100).checked_div(whole).unwrap_or(100)
 }

@@ -30,8 +30,8 @@ pub struct Screen {
 }
 
 impl Screen {
-    /// Returns the screen for messages before the command line is parsed, or if parsing it fails:
-    /// all messages are printed, and none is marked. No progress is shown.
+    /// Returns the screen for messages before the command line is parsed, and for a command line
+    /// that can't be parsed. All messages are printed, and none is marked. No progress is shown.
     pub fn plain() -> Screen {
         Screen {
             is_quiet: false,
@@ -67,7 +67,8 @@ impl Screen {
 
     /// Returns the progress of a translation that begins now. The first tree file that is written
     /// is that of pass `first`: 0 if a sentence is parsed, and 1 if the tree is read from a file.
-    /// (With 1, nothing is shown while pass 1 runs: it reads a device that is not a `ShownDevice`.)
+    /// (With 1, nothing is shown while pass 1 runs: the pass reads a device that is not a
+    /// `ShownDevice`.)
     /// Returns `None` if no progress is shown, or the clock can't be read.
     pub fn progress<'a, R: Clock + Eprint>(
         self,
@@ -102,7 +103,7 @@ impl Screen {
     }
 }
 
-/// Returns whether the environment allows colours: if `NO_COLOR` is missing or empty, or can't be
+/// Returns whether the environment allows colours: `NO_COLOR` is missing or empty, or can't be
 /// read.
 fn allows_colors<R: Env + AllocGlobal>(rt: &R) -> bool {
     match std::env::var(rt, "NO_COLOR") {
@@ -135,8 +136,9 @@ fn marked_line(alloc: Global, report: &FaultReport) -> Option<String> {
     format!(in alloc; "{NUMBER}{number}{END}{offset}{before}{PLACE}{place}{END}{after}").ok()
 }
 
-/// Returns the number of bytes of what is marked of a fault: its text up to the first space, or all
-/// of it if there is no space. A colon before that space, as in `usage: ..`, is not marked.
+/// Returns the number of bytes of the part of a fault's text that is marked: the part before the
+/// first space, or the whole text if it has no space. A colon before that space, as in
+/// `usage: ..`, is not marked.
 fn number_len(fault: &str) -> usize {
     match fault.split_once(' ') {
         Some((word, _)) => word.trim_end_matches(':').len(),
@@ -169,8 +171,8 @@ fn place_len(alloc: Global, report: &FaultReport) -> Option<usize> {
     }
 }
 
-/// Returns the parts of a text before and after an offset in bytes; the whole text and an empty one
-/// if the offset is not within the text or divides a character.
+/// Returns the parts of a text before and after an offset in bytes. If the offset is greater than
+/// the length, or divides a character, returns the whole text and an empty text.
 fn parts_at(text: &str, at: usize) -> (&str, &str) {
     match text.split_at_checked(at) {
         Some(parts) => parts,

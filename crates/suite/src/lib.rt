@@ -1,8 +1,8 @@
-//! Tests of the libraries below the translator that are not rows of data: cursors over the tokens
-//! of a text (`Cursor` of `ag_tokens`), list trees and table trees, devices that fail or lie
-//! (return a wrong length or wrong bytes), and tree files. Some of the files change while they are
-//! read. This crate has no other code, since a crate that has tests is proved twice, without them
-//! and with them. The crates `cases`, `translations` and `failures` run the rows of data;
+//! Tests of the libraries that the translator uses: of cursors over the tokens of a text (`Cursor`
+//! of `ag_tokens`), list trees and table trees, devices that fail or lie (return a wrong length or
+//! wrong bytes), and tree files. Some of the files change while they are read. This crate has no
+//! other code, since a crate that has tests is proved twice, without them and with them. The crates
+//! `cases`, `translations` and `failures` run tests that are rows of data;
 //! `tests/refused-memory` tests refused memory.
 #![tactic(auto)]
 

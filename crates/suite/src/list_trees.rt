@@ -1,5 +1,5 @@
-//! Tests of list trees. No clause states that each call succeeds, and that the trees are balanced.
-//! Other assertions repeat clauses.
+//! Tests of list trees: that each call succeeds, and that the trees are balanced, which no clause
+//! states. The other assertions repeat clauses.
 
 use ag_value::{NoMemory, Value, ValueFault, decode};
 use list_tree::ListTree;
@@ -90,8 +90,8 @@ fn an_encoding_is_that_of_the_flat_list(rt: HostRuntime) -> Result<(), ValueFaul
     Ok(())
 }
 
-/// Compares a list with a longer one that was made of it. Compares the longer one with a rebuilt
-/// tree, the shorter one with another owner of it, and both with a flat copy of the longer one.
+/// Compares the list `old` with the longer list `new` that was made of it. Compares `new` with a
+/// rebuilt tree, `old` with another owner of `old`, and both with a flat copy of `new`.
 fn compare_versions(
     rt: &impl Abort,
     alloc: Global,

@@ -1,5 +1,5 @@
-//! Tests of table trees. No clause states that each call succeeds, and that the trees are balanced.
-//! Other assertions repeat clauses.
+//! Tests of table trees: that each call succeeds, and that the trees are balanced, which no clause
+//! states. The other assertions repeat clauses.
 
 use ag_value::{NoMemory, Value};
 use std::alloc::Global;

@@ -7,7 +7,7 @@ use Rattle.std.proofs.lemmas.Option.{get_or_from_slice_get}
 use Rattle.table_tree.specs.Splits.{IsSplit}
 use Rattle.table_tree.proofs.Keys.{Pair}
 
--- three parts are equal
+-- the parts a, p and b are equal to the parts c, q and d
 pub record AreSame (a : List Pair) (p : Pair) (b c : List Pair) (q : Pair) (d : List Pair) : Type 0 where
   pub before : a ≡ c
   pub here : p ≡ q
@@ -29,7 +29,7 @@ pub whole_same : (a : List Pair) (p : Pair) (b c : List Pair) (q : Pair) (d : Li
     → a ++ p ∷ b ≡ c ++ q ∷ d
 whole_same a p b c q d s = let x = s.before in let y = s.here in let z = s.after in cc
 
--- two split tables
+-- two tables that are split at the same index are equal exactly if their parts are
 pub split_same : (ps a : List Pair) (p : Pair) (b qs c : List Pair) (q : Pair) (d : List Pair) → IsSplit ps a p b
     → IsSplit qs c q d → length a ≡ length c → ps ≡ qs → AreSame a p b c q d
 split_same ps a p b qs c q d s t len e = same_parts a p b c q d len (sym s.parts ∙ (e ∙ t.parts))
@@ -44,7 +44,7 @@ sum_taken n m xs =
     ∙ (ap (λ (t : List Pair). t ++ drop n (take (n + m) xs)) (take-take n (n + m) xs (omega arith))
     ∙ ap (λ (t : List Pair). take n xs ++ t) (drop-take n m xs))
 
--- the pairs of another table that a split table is to equal
+-- a split table is compared with the pairs of another table from an index on, part by part
 pub part_parts : (ps a : List Pair) (p : Pair) (b qs : List Pair) (i : ℕ) (x : Pair) → IsSplit ps a p b
     → slice_get qs (i + length a) ≡ Some x → i + length ps ≤ length qs
     → take (length ps) (drop i qs) ≡ take (length a) (drop i qs) ++ x ∷ take (length b) (drop (i + length a + 1) qs)

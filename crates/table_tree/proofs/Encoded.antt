@@ -84,7 +84,7 @@ piece_more bytes piece more is = record {
   some = is.some;
 }
 
--- a piece of the encodings of the pairs before a pair
+-- a piece of the encodings of the pairs before a pair is a piece of all encodings
 pub piece_before : (ps before : List Pair) (p : Pair) (after : List Pair) (offset : ℕ) (piece : List ℕ)
     → IsSplit ps before p after → offset < length (encodings before) → IsPiece (drop offset (encodings before)) piece
     → IsPiece (drop offset (encodings ps)) piece
@@ -100,7 +100,7 @@ past offset n xs ys e le =
     ap (λ (i : ℕ). drop i (xs ++ ys)) sum
     ∙ (sym (drop-drop (offset - n) n (xs ++ ys)) ∙ ap (drop (offset - n)) (drop_at xs ys n e))
 
--- the rest of the encoding of the pair
+-- so is the rest of the encoding of the pair
 pub piece_here : (ps before : List Pair) (p : Pair) (after : List Pair) (offset skip : ℕ) (piece : List ℕ)
     → IsSplit ps before p after → length (encodings before) ≤ offset → skip ≡ offset - length (encodings before)
     → skip < length (spelling_of_pair p) → piece ≡ drop skip (spelling_of_pair p) → IsPiece (drop offset (encodings ps)) piece
@@ -117,7 +117,7 @@ piece_here ps before p after offset skip piece s le e lt is =
       some = omega arith;
     }
 
--- a piece of the encodings of the pairs after the pair
+-- so is a piece of the encodings of the pairs after the pair
 pub piece_after : (ps before : List Pair) (p : Pair) (after : List Pair) (offset rest : ℕ) (piece : List ℕ)
     → IsSplit ps before p after → length (encodings before) + length (spelling_of_pair p) ≤ offset
     → rest ≡ offset - length (encodings before) - length (spelling_of_pair p) → IsPiece (drop rest (encodings after)) piece

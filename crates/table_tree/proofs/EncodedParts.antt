@@ -1,11 +1,11 @@
--- The encoding of a table beside bytes.
+-- The encoding of a table is compared with bytes, part by part.
 use Rattle.std.proofs.Common.{◌≡◌, ℕ, ◌+◌, List, [], ◌∷◌, ◌++◌, length, refl, sym, ap, ◌∙◌, arith, length-append}
 use Rattle.ag_value.specs.Spelling.{spelling_of_pair}
 use Rattle.table_tree.specs.Splits.{IsSplit}
 use Rattle.table_tree.proofs.Encoded.{encodings, split_encodings}
 use Rattle.table_tree.proofs.Keys.{Pair}
 
--- two parts of bytes are two others
+-- the parts a and b are equal to the parts c and d
 pub record AreTwo (a b c d : List ℕ) : Type 0 where
   pub first : a ≡ c
   pub rest : b ≡ d

@@ -134,7 +134,7 @@ sorted_around [] q qs s b a t = (a, t)
 sorted_around (p ∷ ps) q qs s b a t =
     (after_append p.0 ps (q ∷ qs) s.0 (b.0, after_trans p.0 q.0 qs b.0 a), sorted_around ps q qs s.1 b.1 a t)
 
--- what passes a test
+-- the pairs that pass a test are still sorted
 after_filter : (test : Pair → Bool) (key : List ℕ) (ps : List Pair) → AreAfter key ps → AreAfter key (filter test ps)
 after_filter test key [] s = tt
 after_filter test key (p ∷ ps) s = go (test p) (after_filter test key ps s.1)

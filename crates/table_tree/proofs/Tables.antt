@@ -58,7 +58,7 @@ well_of pairs t =
       light = let e = weight-Table pairs in omega arith;
     }
 
--- all of the first and of the second
+-- all pairs of two joined lists pass a test exactly if all pairs of each list do
 pub all_prefix : (f : Pair → Bool) (ps qs : List Pair) → all_true (map f (ps ++ qs)) ≡ true → all_true (map f ps) ≡ true
 all_prefix f [] qs h = refl
 all_prefix f (p ∷ ps) qs h =

@@ -132,7 +132,7 @@ room key x ps none added own most n a o j is =
     let light = is.1 in
     (omega arith, omega arith)
 
--- a table within the limits, or beyond them
+-- `fit` returns a table that is within the limits, and the error for a table that is beyond one
 pub fit_within : (ps : List Pair) → IsFaultOf ps None → fit (v.Table ps) ≡ v.Table ps
 fit_within ps is =
     let flat : nat_lt max_value_depth (depth_of (v.Table ps)) ≡ false = le-ltb max_value_depth (depth_of (v.Table ps)) is.0 in

@@ -24,14 +24,14 @@ use Rattle.table_tree.proofs.Keys.{right_of_after, right_of_before, right_of_sam
 use Rattle.table_tree.proofs.Tables.{all_append, depth_of_pair, greatest_append, is_text, sum_append, table_of, well_of}
 use Rattle.table_tree.proofs.Tables.{well_prefix, well_suffix}
 
--- pairs before the key come before
+-- pairs with smaller keys stay at the beginning
 with_prefix : (key : List ℕ) (x : Value) (ps qs : List Pair) → AreBefore key ps
     → with_pair key x (ps ++ qs) ≡ ps ++ with_pair key x qs
 with_prefix key x ps qs s =
     rw (filter-append (is_left key) ps qs, filter-append (is_right key) ps qs, left_of_before key ps s, right_of_before key ps s)
     (append_assoc ps (filter (is_left key) qs) ((key, x) ∷ filter (is_right key) qs))
 
--- pairs after the key come after
+-- pairs with greater keys stay at the end
 with_suffix : (key : List ℕ) (x : Value) (ps qs : List Pair) → AreAfter key qs
     → with_pair key x (ps ++ qs) ≡ with_pair key x ps ++ qs
 with_suffix key x ps qs s =
@@ -39,11 +39,11 @@ with_suffix key x ps qs s =
     (rw (append-nil (filter (is_left key) ps))
     (sym (append_assoc (filter (is_left key) ps) ((key, x) ∷ filter (is_right key) ps) qs)))
 
--- the value of a pair is replaced
+-- the pair with the key is replaced
 with_same : (key : List ℕ) (x : Value) (p : Pair) → p.0 ≡ key → with_pair key x (p ∷ []) ≡ (key, x) ∷ []
 with_same key x p e = rw (left_of_same key p e, right_of_same key p e) refl
 
--- the parts of a table around a pair
+-- in a split table, the pairs before the pair have smaller keys, and those after it greater ones
 before_pair : (ps before : List Pair) (p : Pair) (after : List Pair) → IsSplit ps before p after → AreBefore p.0 before
 before_pair ps before p after s =
     before_middle before p after (subst AreSorted s.parts (table_of ps s.well).sorted)
@@ -115,7 +115,7 @@ found_equal key ps before p after s e =
 
 -- ---- measures of the table in which a key has a value
 
--- the pairs before a key and those after it weigh at most as much as all pairs
+-- for a measure f of pairs: the sum over the pairs before a key and those after it is at most the sum over all pairs
 sides_lighter : (key : List ℕ) (f : Pair → ℕ) (ps : List Pair)
     → sum (map f (filter (is_left key) ps)) + sum (map f (filter (is_right key) ps)) ≤ sum (map f ps)
 sides_lighter key f [] = omega arith
@@ -165,7 +165,7 @@ with_shallower key x f ps =
     let parts = greatest_append f (filter (is_left key) ps) ((key, x) ∷ filter (is_right key) ps) in
     omega arith
 
--- ---- it is well if it is within the limits
+-- ---- the table in which a key has a value is well if it is within the limits
 
 all_filter : (f test : Pair → Bool) (ps : List Pair) → all_true (map f ps) ≡ true → all_true (map f (filter test ps)) ≡ true
 all_filter f test [] all = refl

@@ -15,8 +15,8 @@ abbrev pub pairs_of : TableNode → List (List ℕ × Value)
 pairs_of Leaf = []
 pairs_of (Fork rc) = rc.value.left ++ rc.value.entry.value ∷ rc.value.right
 
--- The pairs are a well table, and these are its totals. All numbers in the encodings of the pairs are bytes. The block, if there
--- is one, has these encodings one after the other.
+-- The pairs are a well table, and `totals` are its totals. All numbers in the encodings of the pairs are bytes. The block, if
+-- there is one, has these encodings one after the other.
 pub record IsTotalled (pairs : List (List ℕ × Value)) (totals : Totals) (block : Option (List ℕ)) : Type 0 where
   pub well : IsWell (value.Table pairs)
   pub are : AreTotals pairs totals
@@ -24,7 +24,7 @@ pub record IsTotalled (pairs : List (List ℕ × Value)) (totals : Totals) (bloc
   pub block_is : IfSome block (λ encoded. encoded ≡ joined (map spelling_of_pair pairs))
 
 -- The pairs of a fork are a well table, and the fork's totals and block are those of its pairs. Nothing is required of a leaf,
--- which is an empty tree, nor of the height.
+-- which is an empty tree. The height may be any number.
 abbrev pub IsNode : TableNode → Type 0
 IsNode Leaf = Unit {0}
 IsNode (Fork rc) = IsTotalled (pairs_of (Fork rc)) rc.value.totals rc.value.block

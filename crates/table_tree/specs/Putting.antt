@@ -8,15 +8,15 @@ use Rattle.table_tree.specs.declared.putting.PutFault.{PutFault}
 use Rattle.table_tree.specs.declared.putting.PutFault.TheVariants as fault
 use Rattle.table_tree.specs.declared.totals.Totals.{Totals}
 
--- The result of `put` is right for the expected value. If it is a table, that is the expected value. If it is TooDeep, the
--- expected value is the error `deep`, and if it is TooHeavy, the error `big`. NoMemory may come in any case.
+-- The result of `put` is right for the expected value. A resulting table is the expected value itself. TooDeep means that the
+-- expected value is the error `deep`, and TooHeavy that it is the error `big`. NoMemory may come in any case.
 abbrev pub IsPut : Value → Result (List (List ℕ × Value)) PutFault → Type 0
 IsPut expected (Ok pairs) = expected ≡ value.Table pairs
 IsPut expected (Err fault.TooDeep) = expected ≡ value.Fault Deep
 IsPut expected (Err fault.TooHeavy) = expected ≡ value.Fault Big
 IsPut expected (Err fault.NoMemory) = Unit {0}
 
--- the limit that a table exceeds, if there is one: first that of the depth, then that of the weight
+-- the fault for the limit that a table exceeds, if it exceeds one; if it exceeds both, the fault is TooDeep
 abbrev pub IsFaultOf : List (List ℕ × Value) → Option PutFault → Type 0
 IsFaultOf pairs None = (depth_of (value.Table pairs) ≤ max_value_depth) × (weight_of (value.Table pairs) ≤ max_weight)
 IsFaultOf pairs (Some fault.TooDeep) = max_value_depth < depth_of (value.Table pairs)

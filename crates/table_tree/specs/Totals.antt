@@ -14,14 +14,14 @@ pub record AreTotals (pairs : List (List ℕ × Value)) (totals : Totals) : Type
 abbrev pub AreBytes : List ℕ → Type 0
 AreBytes bytes = (i : ℕ) → slice_index bytes i < 256
 
--- the totals of three parts together
+-- `whole` are the totals of the three parts together
 pub record AreJoined (before pair after whole : Totals) : Type 0 where
   pub pairs_are : whole.pairs ≡ before.pairs + pair.pairs + after.pairs
   pub bytes_are : whole.bytes ≡ before.bytes + pair.bytes + after.bytes
   pub depth_is : whole.depth ≡ max (max before.depth pair.depth) after.depth
 
 -- A table with these totals is within the limits of well values: its weight is five bytes more than that of its pairs, and its
--- depth one more than that of its deepest value. There are at most as many pairs as bytes in their encodings.
+-- depth one more than that of its deepest value. The number of pairs is at most the number of bytes of their encodings.
 pub record AreSmall (totals : Totals) : Type 0 where
   pub few : totals.pairs ≤ totals.bytes
   pub light : 5 + totals.bytes ≤ max_weight

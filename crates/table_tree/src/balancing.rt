@@ -11,9 +11,9 @@ use ag_value::NoMemory;
 use std::alloc::Global;
 use std::rc::Rc;
 
-/// Returns the table of the pairs of `left`, the pair of `entry` and the pairs of `right`. The root
-/// has `entry`, unless one side is higher than the other by at least two levels: then a rotation,
-/// or a double one, takes the root from the higher side. Fails with NoMemory.
+/// Returns the table of the pairs of `left`, the pair of `entry` and the pairs of `right`. If the
+/// heights of `left` and `right` differ by at most one, the root has `entry`. Otherwise a single or
+/// double rotation takes the root from the higher side. Fails with NoMemory.
 pub(crate) fn balanced(
     alloc: Global,
     left: TableTree,

@@ -6,8 +6,8 @@ use crate::tree::TableTree;
 
 impl TableTree {
     /// Returns whether two tables are equal. Takes no memory. If the trees have the same shape,
-    /// takes time that is linear in the length of the encoding. Otherwise takes this time and, for
-    /// each pair, at most that of a call of `entry_at`.
+    /// takes time that is linear in the length of the encoding. Otherwise takes more time: for each
+    /// pair at most that of a call of `entry_at`.
     pub fn same(&self, other: &TableTree) -> bool
         ensures { IsTrue result ↔ (self.now ≡ other.now) }
     {
@@ -33,8 +33,8 @@ impl TableTree {
         root.right.same(other_root.right)
     }
 
-    /// Returns whether two tables with the same number of pairs are equal, or `None` unless both
-    /// have a block.
+    /// Returns whether two tables with the same number of pairs are equal. Returns `None` if one of
+    /// them has no block.
     fn same_block(&self, other: &TableTree) -> Option<bool>
         requires { length self.now ≡ length other.now }
         ensures { IfSome result (λ same. IsTrue same ↔ (self.now ≡ other.now)) }
@@ -45,7 +45,7 @@ impl TableTree {
         Some(one == another)
     }
 
-    /// Returns whether the pairs of another table from `index` on begin with those of this one. By
+    /// Returns whether the pairs of `other` from `index` on begin with the pairs of this table. By
     /// the clause `small`, the indexes of these pairs can't overflow.
     fn is_part(&self, other: &TableTree, index: usize) -> bool
         requires within { index + length self.now ≤ length other.now }

@@ -99,10 +99,10 @@ impl TableTree {
         root.right.append_pairs(out)
     }
 
-    /// Returns the bytes from `offset` on (counted from 0 in the joined encodings of the pairs) up
-    /// to the end of the largest block that contains this offset. If no block contains the offset,
-    /// returns the bytes up to the end of the encoding of one pair, the one at the offset. The
-    /// result is not empty.
+    /// Returns the bytes from `offset` on, up to the end of the largest block that contains this
+    /// offset. If no block contains the offset, returns the bytes up to the end of the encoding of
+    /// the pair there. The result is not empty. Offsets are in bytes, from 0, in the joined
+    /// encodings of the pairs, and `offset` must be within these.
     fn piece_at(&self, offset: usize) -> &[u8]
         requires { offset < length (joined (map spelling_of_pair self.now)) }
         ensures { IsPiece (drop offset (joined (map spelling_of_pair self.now))) result.now }

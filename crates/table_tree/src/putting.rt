@@ -64,8 +64,8 @@ impl TableTree {
     /// Returns the fault of the table in which the entry's key has the entry's value: TooDeep if
     /// its depth exceeds 64, otherwise TooHeavy if its weight exceeds 1,048,576, and otherwise
     /// `None`. Takes constant time if all pairs of this table and the entry together are within
-    /// these limits. Otherwise visits the way to the key: if the table has a pair with this key,
-    /// the entry replaces this pair, and the new table may be within the limits.
+    /// these limits. Otherwise visits the nodes on the way to the key: if one of them has the key,
+    /// the entry replaces its pair, and the new table may be within the limits.
     fn fault_with(&self, entry: &Entry) -> Option<PutFault>
         ensures fault { IsFaultOf (with_pair entry.now.0 entry.now.1 self.now) result }
         ensures well { IsWell (v.Table self.now) }
@@ -123,7 +123,7 @@ impl TableTree {
 
 /// Returns the fault of a table whose pairs have these totals: TooDeep if its depth, one more than
 /// that of its deepest value, exceeds 64; otherwise TooHeavy if its weight, five bytes more than
-/// the pairs, exceeds 1,048,576; and otherwise `None`.
+/// that of its pairs, exceeds 1,048,576; and otherwise `None`.
 fn limit_fault(totals: Totals) -> Option<PutFault>
     ensures { IsLimitFault totals result }
 {

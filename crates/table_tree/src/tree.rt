@@ -59,8 +59,8 @@ struct TableBranch {
     right: TableTree,
     /// The totals of all these pairs.
     totals: Totals,
-    /// The number of nodes on the longest way down from this one, itself included, or 255 if there
-    /// are more.
+    /// The number of nodes on the longest way down, from this node on, or 255 if the number is
+    /// greater.
     height: u8,
     /// The block of all these pairs, if it has the length of a long or a short one.
     block: Option<Items<u8>>,

@@ -19,9 +19,9 @@ use std::rt::{Clock, Files};
 /// first sentence that failed in one of these ways; 0 if none did.
 ///
 /// Fails only before a sentence is read:
-/// - if a translation's file is one of the inputs;
-/// - if an input or a translation's file is one of the tree files of `--work`;
-/// - if the folder for the translations is missing or not a folder (F1);
+/// - if a translation's file is one of the inputs (`usage`);
+/// - if an input or a translation's file is one of the tree files of `--work` (`usage`);
+/// - if the folder for the translations is missing, can't be examined or is not a folder (F1);
 /// - if the grammar can't be read or is refused;
 /// - if memory is refused.
 pub fn run_sentences<'a, R: Files + Input + Print + Eprint + Clock>(
@@ -144,8 +144,8 @@ fn check_folder<R: Files>(rt: &R, alloc: Global, path: &str) -> Result<(), Fault
 }
 
 /// Reads the sentence at `path`, translates it, and writes the translation to the file at `output`.
-/// Each report names the sentence, except one of NoMemory, and unless memory for the name is
-/// refused.
+/// Each report names the sentence, with two exceptions: a report of NoMemory, and one for which
+/// memory for the name is refused.
 fn translate<R: Files + Input + Print + Eprint + Clock>(
     translating: &TranslationRun<'_, R>,
     path: &str,
@@ -160,9 +160,9 @@ fn translate<R: Files + Input + Print + Eprint + Clock>(
     }
 }
 
-/// Returns a report with the path of the sentence. Returns a report of NoMemory unchanged. If the
-/// report has no file, the path becomes its file. If its file is another one, which failed (F1, D1
-/// or O2), appends the path to the part `found`. Returns any other report unchanged.
+/// Returns a report with the path of the sentence. If the report has no file, the path becomes its
+/// file. If it has one, and its fault is F1, D1 or O2, it names the file that failed: then appends
+/// the path to the part `found`. Returns any other report, and one of NoMemory, unchanged.
 fn with_sentence(alloc: Global, mut report: FaultReport, path: &str) -> FaultReport {
     if matches!(report.fault, Fault::NoMemory) {
         return report;

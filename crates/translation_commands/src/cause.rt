@@ -1,4 +1,4 @@
-//! The cause of an error that the root's `out` has, in the message of O1 (`out` is not a text).
+//! The cause of an error, in the message of O1 (the root's `out` is not a text).
 
 use ag_value::Value;
 use aggen::{Fault, Translator};
@@ -7,7 +7,7 @@ use std::alloc::Global;
 use treefile::Device;
 use value_reasons::ErrorTranslation;
 
-/// What is needed to find the cause of an error that the root's `out` has.
+/// What is needed to find the cause if the root's `out` is an error.
 #[derive(Clone, Copy)]
 pub(crate) struct CauseFinder<'a> {
     /// The translator.
@@ -21,9 +21,11 @@ pub(crate) struct CauseFinder<'a> {
 impl CauseFinder<'_> {
     /// Returns what the message of O1 says of the cause, if `fault` is O1 and the root's `out` is
     /// an error. The translation's last tree file has to be on the device `b` if the number of
-    /// passes is odd, and on the device `a` if it is even. Returns `None` if there is no such
-    /// error, if its cause is not found, if the tree file is damaged, exceeds a limit or can't be
-    /// read, and if memory is refused.
+    /// passes is odd, and on the device `a` if that number is even.
+    ///
+    /// Returns `None` if `fault` is another fault or `out` is not an error. Also returns `None` if
+    /// no cause is found, if the tree file is damaged, exceeds a limit or can't be read, and if
+    /// memory is refused.
     pub(crate) fn cause_of<D: Device>(
         self,
         alloc: Global,
@@ -50,8 +52,9 @@ impl CauseFinder<'_> {
     }
 }
 
-/// Returns a report with the text about the cause, if there is one, appended to its part `found`.
-/// Returns the report without any of its parts if memory for the text is refused.
+/// Returns a report with the text about the cause appended to its part `found`, or unchanged if
+/// there is no cause. Returns the report without any of its parts if memory for the text is
+/// refused.
 pub(crate) fn with_cause(mut report: FaultReport, cause: Option<String>) -> FaultReport {
     let Some(cause) = cause else {
         return report;

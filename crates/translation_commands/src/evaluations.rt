@@ -22,10 +22,12 @@ use treefile::{Device, FileDevice, MemDevice, SharedDevice};
 /// Translates the tree in a tree file, and prints the translation or writes it to a file. The tree
 /// file keeps its content. The grammar is read first.
 ///
-/// Fails before the grammar is read if the tree file or the grammar is one of the tree files of
-/// `--work`, or if the translation's file is an input or one of these tree files. Fails if an input
-/// can't be read, if the grammar, the tree or the translation is refused, if a tree file or the
-/// output fails, and if memory is refused.
+/// Fails before the grammar is read:
+/// - if the tree file or the grammar is one of the tree files of `--work` (`usage`);
+/// - if the translation's file is an input or one of these tree files (`usage`).
+///
+/// Also fails if an input can't be read, if the grammar, the tree or the translation is refused, if
+/// a tree file or the output fails, and if memory is refused.
 pub fn evaluate<R: Files + Input + Print + Eprint + Clock>(
     rt: &R,
     alloc: Global,
@@ -99,7 +101,8 @@ impl<R: Files + Input + Print + Eprint + Clock> EvaluationRun<'_, R> {
     }
 
     /// Translates the tree in an opened tree file, and writes the translation. Calls
-    /// `evaluate_file` if the passes write to memory and the screen doesn't show the progress.
+    /// `evaluate_file` if the passes write to memory and the screen doesn't show the progress, and
+    /// otherwise `run_device`.
     fn run_file<W: Write>(
         &self,
         tree: &mut FileDevice<R::File>,
@@ -232,10 +235,12 @@ impl<R: Files + Input + Print + Eprint + Clock> EvaluationRun<'_, R> {
         )
     }
 
-    /// Returns the report of a fault. With `--work` the report names the folder after F1, since the
-    /// file of `tree` was opened before, and after D1 if `tree` can still return its length. In all
-    /// other cases, and without `--work`, returns the report of `FaultReport::of_tree`, which names
-    /// the file of `tree` after D1, R1, P2 and P3.
+    /// Returns the report of a fault. With `--work`, the report names the folder of the tree files:
+    /// - after F1, since the file of `tree` was opened before;
+    /// - after D1, if `tree` can still return its length.
+    ///
+    /// In all other cases returns the report of `FaultReport::of_tree`, which names the file of
+    /// `tree` after D1, R1, P2 and P3.
     fn report_of<T: Device>(&self, fault: Fault, tree: &mut T) -> FaultReport {
         let is_of_folder = match fault {
             Fault::File => true,

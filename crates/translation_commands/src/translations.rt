@@ -1,7 +1,8 @@
 //! The commands that translate one sentence: `run`, and the job on standard input.
 
-ghost use Rattle.std.specs.Prelude.{◌≡◌, ◌≢◌, IfErr, IsErr, OnOk};
+ghost use Rattle.std.specs.Prelude.{◌≡◌, ◌≢◌, IfErr, IsErr, OnErr, OnOk};
 ghost use Rattle.std.specs.Io.KnownBytes.{Appends};
+ghost use Rattle.agoutput.specs.Writing.{AppendsBeginning};
 
 use crate::cause::{CauseFinder, with_cause};
 use ag_job::Job;
@@ -24,10 +25,12 @@ use treefile::{Device, FileDevice, SharedDevice};
 /// Translates a sentence, and prints the translation or writes it to a file. Reads the grammar,
 /// then the sentence, then creates the tree files of `--work`, and at last writes the translation.
 ///
-/// Fails before the grammar is read if an input is one of the tree files of `--work`, or if the
-/// translation's file is an input or one of these tree files. Fails if an input can't be read, if
-/// the grammar, the sentence or the translation is refused, if a tree file or the output fails, and
-/// if memory is refused.
+/// Fails before the grammar is read:
+/// - if an input is one of the tree files of `--work` (`usage`);
+/// - if the translation's file is an input or one of these tree files (`usage`).
+///
+/// Also fails if an input can't be read, if the grammar, the sentence or the translation is
+/// refused, if a tree file or the output fails, and if memory is refused.
 pub fn run_sentence<R: Files + Input + Print + Eprint + Clock>(
     rt: &R,
     alloc: Global,
@@ -338,15 +341,17 @@ pub fn finish<F: io::Read + Write + io::Seek + OpenFile + Drop>(
 
 /// Writes a translation that was made in memory. `translated` is the result of making it, and
 /// `text` is the translation. Fails with O2 if a write to `out` fails, or accepts none of the
-/// bytes. If `translated` is a failure, writes nothing, and fails with the fault of `translated`.
-/// If this fault is O2, fails with NoMemory instead: a write to a buffer in memory fails only if
-/// memory is refused.
+/// bytes; a prefix of `text` was then written. If `translated` is a failure, writes nothing, and
+/// fails with the fault of `translated`. If this fault is O2, fails with NoMemory instead: a write
+/// to a buffer in memory fails only if memory is refused.
 pub fn write_translation<W: Write>(
     translated: Result<(), Fault>,
     text: &[u8],
     out: &mut W,
 ) -> Result<(), Fault>
     ensures written { OnOk result (Appends (W.contents out.old) (W.contents out.new) text.now) }
+    ensures begins { OnOk translated (OnErr result
+        (AppendsBeginning (W.contents out.old) (W.contents out.new) text.now)) }
     ensures refused { IfErr result (λ e. e ≢ Fault.Write → out.new ≡ out.old) }
     ensures failed { IsErr translated → IfErr result (λ e. e ≢ Fault.Write) × IsErr result }
 {

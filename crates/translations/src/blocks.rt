@@ -54,9 +54,9 @@ fn frames_answer(alloc: Global, bytes: u64, puts: u64, before: u64) -> Result<St
     format!(in alloc; "{read} read, {put} put")
 }
 
-/// Returns whether each file of a device was read at least 112 times after its header, and whether
-/// at least 400 frames were appended between each read and the next one. The interval before the
-/// last read is ignored.
+/// Returns true if two things hold: each file of a device was read at least 112 times after its
+/// header, and at least 400 frames were appended between each read and the next one. The interval
+/// before the last read is ignored.
 ///
 /// A pass reads blocks of at most 4,096 bytes. The frames of the tree's nodes fill 112 of these, so
 /// with fewer reads one read would be longer than a block. A block has about 585 frames. Before the
@@ -117,8 +117,9 @@ fn list(alloc: Global, children: &[u16], has_rule: bool) -> Result<Vec<Instr>, A
     Ok(list)
 }
 
-/// Returns the lists of instructions of a production for three passes, which visit its children in
-/// the orders `leftward`, `rightward` and `leftward`. Only the list of the last pass has a rule.
+/// Returns the lists of instructions of a production for three passes. The first and the third pass
+/// visit its children in the order `leftward`, and the second pass visits them in the order
+/// `rightward`. Only the list of the third pass has a rule.
 fn lists(
     alloc: Global,
     leftward: &[u16],
@@ -131,8 +132,8 @@ fn lists(
     Ok(lists)
 }
 
-/// Returns the code of three passes. The children of each production are visited from right to
-/// left, from left to right, and from right to left.
+/// Returns the code of three passes. The first and the third pass visit the children of each
+/// production from right to left, and the second pass visits them from left to right.
 fn code(alloc: Global) -> Result<Code, AllocError> {
     let mut rows = Vec::new(alloc);
     for (leftward, rightward) in [

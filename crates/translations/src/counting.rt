@@ -57,12 +57,12 @@ pub struct CountingDevice<'a> {
     pub bytes: u64,
     /// The counts of the current file.
     reading: Reading,
-    /// The least number of reads of a file, of the files before the current one; `u64::MAX` if
-    /// there is none.
+    /// The least number of reads of a file after its header, among the files before the current
+    /// one. A file without such reads doesn't count. `u64::MAX` if no file counts.
     fewest_reads: u64,
-    /// The least number of appends between two successive reads, of the files before the current
-    /// one, without the last read of each; `u64::MAX` if none of them had three reads after its
-    /// header.
+    /// The least number of appends between two successive reads of a file, among the files before
+    /// the current one. The interval before the last read of a file doesn't count. `u64::MAX` if no
+    /// file had three reads after its header.
     least_gap: u64,
 }
 
@@ -79,8 +79,8 @@ impl<'a> CountingDevice<'a> {
         }
     }
 
-    /// Returns the least number of reads of a file after its header, or `u64::MAX` if nothing
-    /// after a header was read.
+    /// Returns the least number of reads of a file after its header. A file without such reads
+    /// doesn't count. Returns `u64::MAX` if no file counts.
     pub fn fewest_reads(&self) -> u64 {
         if self.reading.reads == 0 {
             return self.fewest_reads;
@@ -88,8 +88,9 @@ impl<'a> CountingDevice<'a> {
         self.fewest_reads.min(self.reading.reads)
     }
 
-    /// Returns the least number of appends between two successive reads of a file. Its header and
-    /// its last read are ignored. Returns `u64::MAX` if no file had three reads after its header.
+    /// Returns the least number of appends between two successive reads of a file after its header.
+    /// The interval before the last read of a file doesn't count. Returns `u64::MAX` if no file had
+    /// three such reads.
     pub fn least_gap(&self) -> u64 {
         self.least_gap.min(self.reading.least_gap)
     }

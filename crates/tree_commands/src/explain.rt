@@ -24,10 +24,11 @@ use value_reasons::{ExplainedTree, NodeRequest, write_errors};
 /// whole.
 const WIDTH: usize = 60;
 
-/// Prints the values of a node of a tree file, or those that the command line names, with the rules
-/// that computed them. With `--errors` prints the rules of the tree in which errors arise instead.
-/// Reads the grammar, then the sentence, if the command line names one, and then the whole tree
-/// file. Prints nothing before that.
+/// Prints values of a node of a tree file, with the rules that computed them. The node is the one
+/// that the command line names, or the root if it names none. The values are those of the
+/// attributes that the command line names, or all if it names none. With `--errors` prints the
+/// rules of the tree in which errors arise instead. Reads the grammar, then the sentence, if the
+/// command line names one, and then the whole tree file. Prints nothing before that.
 ///
 /// Fails:
 /// - if an input can't be read or is refused, if the tree file is damaged, and if its tree exceeds

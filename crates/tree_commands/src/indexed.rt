@@ -45,8 +45,8 @@ pub fn report_of_tree(alloc: Global, fault: ShowFault, path: &str) -> FaultRepor
     report.or_bare(written)
 }
 
-/// Returns what to do about a fault of a tree file. The text is empty unless the file is damaged or
-/// its tree exceeds a limit.
+/// Returns what to do about a damaged tree file (R1), and about a tree that exceeds a limit (P2,
+/// P3). For any other fault the text is empty.
 fn help_of(fault: &Fault) -> &'static str {
     match fault {
         Fault::Run(RunFault::Damaged(_)) => AGAIN,
@@ -61,9 +61,9 @@ pub fn no_memory(alloc: Global) -> FaultReport {
     FaultReport::new(alloc, Fault::NoMemory)
 }
 
-/// Parses a path from the root, such as `/2/1`, and returns its child numbers, from 1. Returns no
-/// numbers, which is the path of the root, if `path` is `None`. Fails if the text is not a path,
-/// and if memory is refused.
+/// Parses a path from the root, such as `/2/1`, and returns its child numbers, from 1. If `path` is
+/// `None`, returns the path of the root, which has no numbers. Fails if the text is not a path, and
+/// if memory is refused.
 pub fn places_of(alloc: Global, path: Option<&str>) -> Result<Vec<u16>, FaultReport> {
     let Some(text) = path else {
         return Ok(Vec::new(alloc));

@@ -89,8 +89,8 @@ impl TreeSentence<'_> {
     }
 
     /// Returns the path, as child numbers from 1, from the root to the innermost node of a symbol
-    /// whose tokens include all tokens of a range. Returns no numbers, the path of the root, if
-    /// `range` is `None`. Fails if memory is refused.
+    /// whose tokens include all tokens of a range. If `range` is `None`, returns the path of the
+    /// root, which has no numbers. Fails if memory is refused.
     fn find_node(self, alloc: Global, range: Option<TokenRange>) -> Result<Vec<u16>, NoMemory> {
         let Some(range) = range else {
             return Ok(Vec::new(alloc));
@@ -147,8 +147,8 @@ impl TreeSentence<'_> {
         }
     }
 
-    /// Returns the literal with this number as a token. (If the grammar lacked it, the text would
-    /// be empty; but the grammar has each literal of its productions.) Fails if memory is refused.
+    /// Returns the literal with this number as a token. Fails if memory is refused. (The case with
+    /// an empty text is not reached: the grammar has each literal of its productions.)
     fn literal(self, alloc: Global, number: u16) -> Result<TokenText, NoMemory> {
         let literals = self.translator.grammar().literals();
         let text = match literals.get(usize::from(number)) {

@@ -14,8 +14,9 @@ use tree_index::{FileFormat, SentenceWalk};
 use tree_text::{SelectedAttribute, TreeText, selected_attribute, write_tree};
 use treefile::{Device, FileDevice};
 
-/// Prints the nodes of a tree file. Reads the grammar, and then the whole tree file. Prints nothing
-/// before that.
+/// Prints nodes of a tree file: the node that the command line names, or the root if it names none,
+/// and the nodes below. Reads the grammar, and then the whole tree file, before it prints
+/// anything.
 ///
 /// Fails:
 /// - if an input can't be read or is refused, if the tree file is damaged, and if its tree exceeds

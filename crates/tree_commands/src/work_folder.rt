@@ -18,10 +18,10 @@ pub enum TreePath<'a> {
 }
 
 impl<'a> TreePath<'a> {
-    /// Returns `path` or, if that is a folder, the path of one of its files a.agt and b.agt.
-    /// Chooses the tree file of the greater pass, and a.agt if both are of the same pass or neither
-    /// is a tree file of version 2. If only one is such a tree file, chooses that one. Fails if
-    /// memory is refused.
+    /// Returns `path` if it is not the path of a folder. Otherwise returns the path of one of the
+    /// files a.agt and b.agt in the folder. Chooses the tree file of the greater pass. If only one
+    /// is a tree file of version 2, chooses that one. If both are of the same pass, or neither is a
+    /// tree file of version 2, chooses a.agt. Fails if memory is refused.
     pub fn find<R: Files>(rt: &R, alloc: Global, path: &'a str) -> Result<TreePath<'a>, NoMemory> {
         if FileId::of_folder(rt, path)?.is_none() {
             return Ok(TreePath::Given(path));

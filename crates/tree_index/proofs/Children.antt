@@ -91,7 +91,7 @@ kid_fits g (y ∷ xs) (more t ts) vs zero kid x f at is =
     subst (λ (z : Subtree). Fits g x z.tree) same (subst (λ z. Fits g z t) item f.0)
 kid_fits g (y ∷ xs) (more t ts) vs (suc i) kid x f at is = kid_fits g xs ts (rest vs) i kid x f.1 at is
 
--- and there are as many as items
+-- a node has as many children as its right side has stored items
 pub kids_length : (g : Grammar) (xs : List Item) (ts : Forest) (vs : ℕ → Valuation) → FitsAll g xs ts
     → length (kids ts vs) ≡ length xs
 kids_length g [] none vs f = refl

@@ -41,7 +41,7 @@ first_of d nodes n (node p ts) v s = ap (λ (ns : List Subtree). slice_get ns n)
 pub root_occurs : (d : Direction) (t : Tree) (v : Valuation) → IsSubtreeAt d (nodes_of d t v) 0 t v
 root_occurs d t v = record { prefix = []; others = []; split = sym (append-nil (nodes_of d t v)); at = refl }
 
--- after a node come its children,
+-- the children of a node come after the node
 kids_occur : (d : Direction) (nodes : List Subtree) (n : ℕ) (p : ℕ) (ts : Forest) (v : Valuation)
     → IsSubtreeAt d nodes n (node p ts) v → StandAt d nodes (n + 1) (in_order d (kids ts (children v)))
 kids_occur d nodes n p ts v s =
@@ -57,7 +57,7 @@ kids_occur d nodes n p ts v s =
       at = omega arith;
     }
 
--- after a child those that come later,
+-- the later children come after the subtree of a child
 next_occur : (d : Direction) (nodes : List Subtree) (n : ℕ) (kid : Subtree) (later : List Subtree)
     → StandAt d nodes n (kid ∷ later) → StandAt d nodes (n + node_count kid.tree) later
 next_occur d nodes n kid later s =
@@ -104,11 +104,11 @@ size_there k t v index n tree w has s =
     ∙ slice_get-map size_at (nodes_of (back_from k) t v) n
     ∙ ap (option_map size_at) (first_of (back_from k) (nodes_of (back_from k) t v) n tree w s)
 
--- no child comes before the first,
+-- no child comes before the first one
 pub later_first : (index : TreeIndex) (number : ℕ) → HasLater index number 0 (number + 1)
 later_first index number k t v p ts w has few s = kids_occur (back_from k) (nodes_of (back_from k) t v) number p ts w s
 
--- and one more before the next.
+-- one child more comes before the next one
 pub later_next : (index : TreeIndex) (number before child size : ℕ) → size_of index child ≡ Some size
     → HasLater index number before child → HasLater index number (before + 1) (child + size)
 later_next index number before child size is later k t v p ts w has few s =
@@ -194,7 +194,7 @@ record_there g m k t v content index n end tree w indexed s is =
     end_at content index.ends.items (map (record_at g m k) nodes) n end (record_of g m k tree w) indexed.ends is
     (slice_get-map (record_at g m k) nodes n ∙ ap (option_map (record_at g m k)) (first_of (back_from k) nodes n tree w s))
 
--- the item of a node, by its production,
+-- the item of a node, by the node's production
 node_item : (g : Grammar) (p : ℕ) (q : Production) (x : Item) (tree : Tree) (w : Valuation) → IsProduction g p q
     → Some (kind_at (record { tree = tree; values = w })) ≡ Some (kind.Node p) → Fits g x tree → x ≡ item.Symbol q.left
 node_item g p q x (leaf c y) w is what fits = absurd (let bad : ⊥ = cc in bad)
@@ -210,7 +210,7 @@ pub has_node_item : (g : Grammar) (index : TreeIndex) (number p : ℕ) (q : Prod
 has_node_item g index number p q what is k t v x tree w has fits s = node_item g p q x tree w is
     (sym (kind_there k t v index number tree w has s) ∙ what) fits
 
--- or by its class
+-- the item of a token, by its class
 token_item : (g : Grammar) (c : ℕ) (x : Item) (tree : Tree) (w : Valuation)
     → Some (kind_at (record { tree = tree; values = w })) ≡ Some (kind.Token c) → Fits g x tree → x ≡ item.Terminal (Class c)
 token_item g c x (node r ts) w what fits = absurd (let bad : ⊥ = cc in bad)

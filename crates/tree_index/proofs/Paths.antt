@@ -29,7 +29,7 @@ child_item g x (leaf c y) v (suc i) child f is = absurd (let bad : ⊥ = cc in b
 child_item g (item.Terminal a) (node p ts) v (suc i) child f is = elim f [ ]
 child_item g (item.Symbol s) (node p ts) v (suc i) child f is = kid_item g (stored_items f.0.items) ts (children v) i child f.3 is
 
--- so is the node at the end of some places
+-- the node at the end of some places is a tree of some item
 pub item_at_end : (g : Grammar) (places : List ℕ) (x : Item) (t : Tree) (v : Valuation) (found : Subtree) → Fits g x t
     → IsAtEndOf places t v found → (y : Item) × Fits g y found.tree
 item_at_end g [] x t v found f is = (x, subst (λ (z : Subtree). Fits g x z.tree) (sym is) f)

@@ -40,7 +40,7 @@ abbrev pub both : {X : Type 0} → Direction → List X → List X → List X
 both LeftToRight child others = child ++ others
 both RightToLeft child others = others ++ child
 
--- The nodes of a tree in the prefix order of a direction: each node before its children, and these in the direction.
+-- The nodes of a tree in the prefix order of a direction: each node before its children, and the children in the direction.
 abbrev mutual
   pub nodes_of : Direction → Tree → Valuation → List Subtree
   nodes_of d (leaf c x) v = record { tree = leaf c x; values = v } ∷ []
@@ -80,7 +80,7 @@ record_of g m k (node p ts) v = node_body version_two g m k p (v []) (copies_of 
 abbrev pub record_at : Grammar → Passes → ℕ → Subtree → List ℕ
 record_at g m k s = record_of g m k s.tree s.values
 
--- At each of these offsets of a content ends a frame with the body at the same index of the list of bodies.
+-- A frame ends at each of these offsets of a content. Its body is the one at the same index of the list of bodies.
 abbrev pub AreEnds : List ℕ → List ℕ → List (List ℕ) → Type 0
 AreEnds content [] [] = Unit {0}
 AreEnds content [] (body ∷ bodies) = ⊥
@@ -110,7 +110,7 @@ abbrev pub OfEach : (Passes → ℕ → Tree → Valuation → Type 0) → Gramm
 OfEach P g content = (m : Passes) (k : ℕ) (t : Tree) (v : Valuation) → k < 2 ^ 16 → IsLegal g m → IsTreeOf g t
     → IsFileOfTree version_two g m k t v content → P m k t v
 
--- the index of each tree whose file a content is
+-- The index is that of each tree of which the content is a file.
 abbrev pub IsIndexIn : Grammar → List ℕ → TreeIndex → Type 0
 IsIndexIn g content index = OfEach (λ m k t v. IsIndexOf g m k t v content index) g content
 
@@ -126,8 +126,8 @@ kind_in index number = slice_get index.kinds.items number
 abbrev pub size_of : TreeIndex → ℕ → Option ℕ
 size_of index number = slice_get index.sizes.items number
 
--- `count` is the number of children of a node of this kind: 0 for a token and for `None`. Of a production that the
--- grammar does not have, nothing is claimed.
+-- `count` is the number of children of a node of this kind: 0 for a token and for `None`. Nothing is claimed of a
+-- production that the grammar does not have.
 abbrev pub HasCount : Grammar → Option NodeKind → ℕ → Type 0
 HasCount g None count = count ≡ 0
 HasCount g (Some (kind.Token c)) count = count ≡ 0
@@ -194,13 +194,13 @@ IsAtEndOf [] t v found = found ≡ record { tree = t; values = v }
 IsAtEndOf (place ∷ places) t v found = (child : Subtree) × (child_in t v place ≡ Some child)
     × IsAtEndOf places child.tree child.values found
 
--- A number is that of the node of a tree at the end of some places.
+-- `number` is the number of the node of a tree at the end of the path of these places.
 pub record IsNumberIn (d : Direction) (t : Tree) (v : Valuation) (places : List ℕ) (number : ℕ) : Type 0 where
   pub found : Subtree
   pub there : IsAtEndOf places t v found
   pub numbered : IsSubtreeAt d (nodes_of d t v) number found.tree found.values
 
--- In each tree of the grammar that the index has, a number is that of the node at the end of some places.
+-- In each tree of the grammar that the index has, `number` is the number of the node at the end of the path of these places.
 abbrev pub HasNodeAt : Grammar → TreeIndex → List ℕ → ℕ → Type 0
 HasNodeAt g index places number = (k : ℕ) (t : Tree) (v : Valuation) → HasNodes k t v index → IsTreeOf g t
     → IsNumberIn (back_from k) t v places number
@@ -217,11 +217,11 @@ HasNoChild g index number place = (k : ℕ) (t : Tree) (v : Valuation) (x : Item
     → HasNodes k t v index → node_count t < 2 ^ 32 → Fits g x tree
     → IsSubtreeAt (back_from k) (nodes_of (back_from k) t v) number tree w → child_in tree w place ≡ None
 
--- In each tree of the grammar that the index has, with fewer than 2 ^ 32 nodes, no node is at the end of some places.
+-- In each tree of the grammar that the index has, with fewer than 2 ^ 32 nodes, no node is at the end of the path of the places.
 abbrev pub HasNoNodeAt : Grammar → TreeIndex → List ℕ → Type 0
 HasNoNodeAt g index places = (k : ℕ) (t : Tree) (v : Valuation) (found : Subtree) → HasNodes k t v index
     → node_count t < 2 ^ 32 → IsTreeOf g t → IsAtEndOf places t v found → ⊥
 
--- Some places lead to a node, which has a number in the index.
+-- The path of these places leads to a node, which has the same number in each tree of the grammar that the index has.
 abbrev pub LeadsToNode : Grammar → TreeIndex → List ℕ → Type 0
 LeadsToNode g index places = (number : ℕ) × HasNodeAt g index places number

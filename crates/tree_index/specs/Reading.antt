@@ -27,8 +27,8 @@ use Rattle.tree_index.specs.declared.index.TreeIndex.{TreeIndex}
 use Rattle.tree_index.specs.declared.reading.Fetched.{Fetched}
 use Rattle.tree_index.specs.declared.reading.OpenRecord.{OpenRecord}
 
--- A body begins as the record of an item, with this number of a production or a class. Of a symbol it says only that the body is
--- that of a node, and that the grammar has a production of this number; not that the production is one of the symbol.
+-- A body begins as the record of an item, with this number of a production or a class. If the item is a symbol, the body is that
+-- of a node, and the grammar has the production. This does not say that the left side of the production is the symbol.
 abbrev pub BeginsRecord : Grammar → Item → List ℕ → ℕ → Type 0
 BeginsRecord g (item.Symbol s) body number = (q : Production) × (bytes : List ℕ) × IsProduction g number q
     × (body ≡ body_from Node number bytes)
@@ -109,10 +109,10 @@ AreOpen g (o ∷ os) (f ∷ fs) = (q : Production) × IsProduction g o.productio
     × (o.children ≡ length (stored_items q.items)) × AreOpen g os fs
 
 -- `sizes` has the size of the subtree of each node of the tree, n nodes were read, and the list of open nodes begins with the
--- innermost one. Its number is less than n. The subtree of an open node ends before the node with the number e: its own number
--- plus the size of its subtree is e. For the innermost one e is n plus the number of nodes in the subtrees of its unvisited
--- children. For each other one it is the e of the open node within it, plus the number of nodes in the subtrees of its own
--- unvisited children.
+-- innermost one. Let e be the number of an open node plus the size of its subtree: the subtree ends before the node with the
+-- number e. For the innermost open node, its number is less than n, and e is n plus the number of nodes in the subtrees of its
+-- unvisited children. For each other open node the same holds with another number in place of n: the e of the next open node
+-- within it.
 abbrev pub AreEnding : Direction → List ℕ → ℕ → List OpenRecord → List Family → Type 0
 AreEnding d sizes n [] fs = Unit {0}
 AreEnding d sizes n (o ∷ os) [] = ⊥
@@ -167,12 +167,12 @@ pub record IsPending (g : Grammar) (m : Passes) (k : ℕ) (t : Tree) (v : Valuat
   pub left : ReadsBack version_two content at (map (record_at g m k)
       (nodes_of (back_from k) tree values ++ nodes_to_come (back_from k) os families))
 
--- `IsSoFar` holds of each tree and values whose file of a pass the content is.
+-- If the content is the file of some pass of a tree with some values, `IsSoFar` holds of these.
 abbrev pub HasComeTo : Grammar → List ℕ → BackState → List OpenRecord → TreeIndex → Type 0
 HasComeTo g content back os index = OfEach (λ m k t v. IsSoFar g m k t v content back.progress.at back.progress.records os index)
     g content
 
--- `IsPending` holds of each tree and values whose file of a pass the content is.
+-- If the content is the file of some pass of a tree with some values, `IsPending` holds of these.
 abbrev pub IsNextRecord : Grammar → List ℕ → BackState → Item → List OpenRecord → TreeIndex → Type 0
 IsNextRecord g content back x os index =
     OfEach (λ m k t v. IsPending g m k t v content back.progress.at back.progress.records x os

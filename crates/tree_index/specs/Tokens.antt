@@ -61,8 +61,8 @@ HasTokens index counts number count = (g : Grammar) (k : ℕ) (t : Tree) (v : Va
     → AreCounts g index counts → HasNodes k t v index → IsSubtreeAt (back_from k) (nodes_of (back_from k) t v) number tree w
     → count ≡ token_count g tree
 
--- If the counts are those of the index, and the index has as many ends as the tree has nodes, then no node of the tree has this
--- number, in each tree of fewer than 2 ^ 32 nodes that the index has.
+-- Take a tree of fewer than 2 ^ 32 nodes that the index has. If the counts are those of the index, and the index has as many ends
+-- as the tree has nodes, no node of the tree has this number.
 abbrev pub HasNoTokens : TreeIndex → TokenCounts → ℕ → Type 0
 HasNoTokens index counts number = (g : Grammar) (k : ℕ) (t : Tree) (v : Valuation) (tree : Tree) (w : Valuation)
     → AreCounts g index counts → HasNodes k t v index → length index.ends.items ≡ node_count t → node_count t < 2 ^ 32

@@ -7,13 +7,13 @@ use std::alloc::Global;
 use treefile::{Device, FileVersion, FrameFault, LENGTH_BYTES, fits_before};
 
 /// Returns the body of the frame that ends at offset `end`, in bytes, of a file of version 2. The
-/// caller has to name the end of a frame, as an index does: the four bytes before it are read as
-/// the body's length. Takes memory for the body. No clause says which body is returned. (The crate
-/// `causes` proves what it reads, so it has a private `body_before` with such a clause.)
+/// caller has to pass the end of a frame, as an index has it: the four bytes before `end` are read
+/// as the body's length. Takes memory for the body. No clause says which body is returned. (The
+/// crate `causes` has a private `body_before` with such a clause, since it proves what it reads.)
 ///
-/// Fails with B2 and the offset if the length is below 3 or above 285,212,675, and if the frame
-/// does not fit between the header and the offset. Fails with D1 if a call of the device fails, and
-/// if memory is refused.
+/// Fails with B2 and the offset if the length is below 3 or above 285,212,675, or if the frame does
+/// not fit between the header and the offset. Fails with D1 if a call of the device fails, and with
+/// NoMemory if memory is refused.
 pub fn body_before<D: Device>(
     alloc: Global,
     device: &mut D,

@@ -37,8 +37,8 @@ impl TokenRange {
         self.last < count
     }
 
-    /// Returns the same tokens as a range of those after the first `count` ones, which are numbered
-    /// from 0 again. Returns `None` if the range begins with one of the first `count` tokens.
+    /// Returns the range of the same tokens if token `count` gets the number 0. Returns `None` if
+    /// the range begins before token `count`.
     fn after(self, count: u32) -> Option<TokenRange> {
         Some(TokenRange {
             first: self.first.checked_sub(count)?,

@@ -41,9 +41,9 @@ impl From<NoMemory> for ShapeFault {
 pub enum TreeFault {
     /// R1: no tree of the grammar has this file by the plan. The offset in bytes is 0 if the file
     /// does not begin as a tree file of version 2, and 4 if the plan does not have the file's pass.
-    /// Otherwise it is the end of the first wrong record, in the order in which the file is read
-    /// from its end, or the offset at which a record should end. A call that reads only one record
-    /// returns the offset at which this record should end.
+    /// Otherwise the record that ends at the offset is wrong, missing or one too many. It is the
+    /// first such record in the order in which the file is read from its end. A call that reads
+    /// only one record returns the offset at which this record should end.
     Damaged(u64),
     /// P2: no tree of at most `MAX_DEPTH` levels has this file.
     TooDeep,

@@ -33,8 +33,9 @@ pub struct FileFormat<'a> {
 pub struct NodeRecord {
     /// The number of the node's production, or of the token's class.
     pub number: u16,
-    /// The values of the record: the node's own values, and then copies of its children's
-    /// synthesized ones. (The copy of a child that is a token is its text.) Of a token, its text.
+    /// The values of the record. For a token this is its text. For another node these are the
+    /// node's own values, and then copies of its children's synthesized values. (For a child that
+    /// is a token, the copy is its text.)
     row: Vec<Carried>,
 }
 
@@ -73,8 +74,8 @@ impl<'a> FileFormat<'a> {
         at
     }
 
-    /// Returns the pass of an attribute (by its number from 0) of an item; 0 for a token's text.
-    /// Returns `None` if the item does not have the attribute.
+    /// Returns the pass of attribute `attr` of an item, or 0 for a token's text. Attributes are
+    /// numbered from 0. Returns `None` if the item does not have the attribute.
     pub fn pass_of(&self, item: Item, attr: u16) -> Option<u16> {
         match item {
             Item::Symbol(symbol) => { passes_of(self.plan, symbol).get(usize::from(attr)).copied() }
@@ -83,8 +84,8 @@ impl<'a> FileFormat<'a> {
         }
     }
 
-    /// Returns the name of an attribute (by its number from 0) of an item; `None` if the item does
-    /// not have it.
+    /// Returns the name of attribute `attr` of an item. Attributes are numbered from 0. Returns
+    /// `None` if the item does not have the attribute.
     pub fn attribute_name(&self, item: Item, attr: u16) -> Option<&'a str> {
         match item {
             Item::Symbol(symbol) => {
@@ -133,9 +134,9 @@ impl<'a> FileFormat<'a> {
     }
 
     /// Reads the values in a record of a node of a production, and appends them to a row: the
-    /// node's own values, and then the copies of its children's. Fails with `Damaged` if
-    /// `spellings` does not consist of the spellings of as many values, and with `NoMemory` if
-    /// memory is refused.
+    /// node's own values, and then the copies of its children's values. Fails with `Damaged` if
+    /// `spellings` does not consist of the spellings of exactly that many values, and with
+    /// `NoMemory` if memory is refused.
     fn read_row(
         &self,
         alloc: Global,
@@ -156,8 +157,9 @@ impl<'a> FileFormat<'a> {
     }
 
     /// Reads the record that ends at offset `end`, in bytes, as a record of an item. The offset has
-    /// to be the end of a frame, as for `body_before`. Fails with R1 and the offset if the frame
-    /// has no record of the item, with D1 if a call of the device fails, and if memory is refused.
+    /// to be the end of a frame, as for `body_before`. Fails with R1 and the offset if
+    /// `body_before` fails with B2, or if the body is not a record of the item. Fails with D1 if a
+    /// call of the device fails, and with NoMemory if memory is refused.
     pub fn read_record<D: Device>(
         &self,
         alloc: Global,
@@ -179,9 +181,9 @@ impl<'a> FileFormat<'a> {
         }
     }
 
-    /// Returns the value of an attribute (by its number from 0) of the node that has this record.
-    /// `item` is the item of the node. The text of a token is attribute 0. Returns `None` if the
-    /// record does not have the value.
+    /// Returns the value of attribute `attr` of the node that has this record. `item` is the item
+    /// of the node. Attributes are numbered from 0, and the text of a token is attribute 0. Returns
+    /// `None` if the record does not have the value.
     pub fn own_value<'r>(
         &self,
         record: &'r NodeRecord,
@@ -196,9 +198,10 @@ impl<'a> FileFormat<'a> {
         self.value_at(record, passes, 0, attr)
     }
 
-    /// Returns the value of a synthesized attribute (by its number from 0) of the child at `place`
-    /// (from 1), from the copies in the record of its parent, a node of `production`. The text of a
-    /// token is attribute 0. Returns `None` if the record does not have the value.
+    /// Returns the value of the synthesized attribute `attr` of a child from the copies in the
+    /// record of the child's parent, which is a node of `production`. `place` is the place of the
+    /// child, from 1. Attributes are numbered from 0, and the text of a token is attribute 0.
+    /// Returns `None` if the record does not have the value.
     pub fn copied_value<'r>(
         &self,
         record: &'r NodeRecord,
@@ -213,8 +216,8 @@ impl<'a> FileFormat<'a> {
 
     /// Returns the value of attribute number `attr` of a list of attributes. `passes` are the
     /// passes of these attributes, and their values begin at index `start` of the record's row.
-    /// Returns `None` if the attribute has a later pass than the file, or the record does not have
-    /// the value.
+    /// Returns `None` if the list does not have the attribute, if the attribute has a later pass
+    /// than the file, or if the record does not have the value.
     fn value_at<'r>(
         &self,
         record: &'r NodeRecord,

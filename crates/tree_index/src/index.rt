@@ -62,8 +62,8 @@ impl TreeIndex {
     }
 
     /// Sets the size of a node's subtree to the number of nodes from this node to the end of the
-    /// index. The caller calls it when the nodes of the subtree, and no others, were added after
-    /// the node. Does nothing if the index does not have the node.
+    /// index. Has to be called when exactly the other nodes of the subtree were added after the
+    /// node. Does nothing if the index does not have the node.
     pub(crate) fn close(&mut self, node: u32)
         ensures { HasClosed node self.old self.new }
     {
@@ -122,7 +122,8 @@ impl TreeIndex {
         }
     }
 
-    /// Returns the number of children of a node; 0 if the index does not have the node.
+    /// Returns the number of children of a node, which is 0 for a token. Returns 0 also if the
+    /// index does not have the node, or if the grammar does not have its production.
     pub fn child_count(&self, grammar: &Grammar, node: u32) -> u16
         ensures { HasCount grammar.now (kind_in self.now node) result }
     {
@@ -132,8 +133,8 @@ impl TreeIndex {
         }
     }
 
-    /// Returns the number of the child of a node at a place, from 1; `None` if the node has no such
-    /// child.
+    /// Returns the number, in the index, of a node's child at `place`, which counts from 1. Returns
+    /// `None` if the node has no such child.
     pub fn child(&self, grammar: &Grammar, node: u32, place: u16) -> Option<u32>
         ensures child { IfSome result (HasChild grammar.now self.now node place) }
         ensures complete { IfNone result (HasNoChild grammar.now self.now node place) }
@@ -142,16 +143,16 @@ impl TreeIndex {
         if place == 0 || count < place {
             return None;
         }
-        // an odd pass writes from right to left, so its file is read from the end from left to
-        // right
+        // an odd pass writes children from right to left, so they come from left to right if its
+        // file is read from the end
         let direction = Direction::of_pass(self.pass).turned();
         self.child_after(node, others_before(direction, count, place))
     }
 
-    /// Returns the number of that child of a node which comes after exactly `before` other children
-    /// of this node in the order of the index. If the node has no such child, a returned number has
-    /// no meaning. Returns `None` if the index lacks a node before the child, or if a number would
-    /// exceed 4,294,967,295.
+    /// Returns the number of the child of a node that comes after exactly `before` other children
+    /// of the node in the order of the index. If the node has no such child, a returned number has
+    /// no meaning. Returns `None` if the index lacks one of the other children, or if a number
+    /// would exceed 4,294,967,295.
     fn child_after(&self, node: u32, before: u16) -> Option<u32>
         ensures later { IfSome result (HasLater self.now node before) }
         ensures complete { IfNone result (HasNoLater self.now node before) }
@@ -163,8 +164,8 @@ impl TreeIndex {
         Some(child)
     }
 
-    /// Returns the number of the node at the end of a path of places (each from 1) from the root;
-    /// `None` if there is no such node.
+    /// Returns the number of the node at the end of a path. `places` are the places of children on
+    /// the path from the root, each from 1. Returns `None` if there is no such node.
     pub fn find(&self, grammar: &Grammar, places: &[u16]) -> Option<u32>
         ensures node { IfSome result (HasNodeAt grammar.now self.now places.now) }
         ensures complete { IfNone result (HasNoNodeAt grammar.now self.now places.now) }

@@ -1,4 +1,4 @@
-//! The passes, by a plan, of the attributes whose values a record can have.
+//! The passes that a plan assigns to the attributes whose values a record can have.
 
 use ag_grammar::{Grammar, Item, Symbol, Terminal};
 use planchecker::Plan;
@@ -11,8 +11,8 @@ pub(crate) fn passes_of(plan: &Plan, symbol: u16) -> &[u16] {
     }
 }
 
-/// Returns the passes of the synthesized attributes of the symbol of a number; an empty list if the
-/// grammar or the plan does not have the symbol.
+/// Returns the passes of the synthesized attributes of the symbol with number `symbol`. Returns an
+/// empty list if the grammar or the plan does not have the symbol.
 fn synthesized_passes<'a>(grammar: &Grammar, plan: &'a Plan, symbol: u16) -> &'a [u16] {
     let passes = passes_of(plan, symbol);
     match grammar.symbols().get(usize::from(symbol)) {

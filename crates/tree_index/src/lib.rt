@@ -1,7 +1,7 @@
 //! An index of a tree file: what each node is, the offset at which the frame of its record ends,
-//! and the number of nodes of its subtree. The index takes 16 bytes a node. It finds the node at
-//! the end of a path, or the nodes in the order of the sentence, without reading the file from its
-//! end again.
+//! and the number of nodes of its subtree. The index takes 16 bytes a node. With an index, a caller
+//! finds the node at the end of a path, or visits the nodes in the order of the sentence, without
+//! reading the file from its end again.
 //!
 //! `TreeIndex::read` reads a file from its end, record by record, as a pass reads it. The file can
 //! be that of any pass of the plan, or that of the parser (pass 0). A failure is R1, P2, P3, D1 or

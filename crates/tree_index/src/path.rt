@@ -47,8 +47,7 @@ impl NodePath {
         Ok(self.runs.push(Run { place, count: 1 })?)
     }
 
-    /// Makes the last run longer by one if the run repeats this place. Returns whether the run
-    /// does.
+    /// Makes the last run longer by one if it is a run of this place. Returns false otherwise.
     fn extend(&mut self, place: u16) -> bool {
         match self.runs.last_mut() {
             Some(run) if run.place == place => {
@@ -66,8 +65,7 @@ impl NodePath {
         }
     }
 
-    /// Makes the last run shorter by one if its place is repeated. Returns whether the place is
-    /// repeated.
+    /// Makes the last run shorter by one if its count is above 1. Returns false otherwise.
     fn shorten(&mut self) -> bool {
         match self.runs.last_mut() {
             Some(run) if 1 < run.count => {
@@ -78,11 +76,11 @@ impl NodePath {
         }
     }
 
-    /// Reads a path: `/` for the root, or a sequence of one or more runs, each after a `/`. A run
-    /// is a place, from 1 to 65,535, or a place, `*` and a number of repetitions, from 1 to 65,535:
-    /// `/1/1/1` has the same places as `/1*3`, but does not print like it. A number may begin with
-    /// `+` or zeros. Fails with `NotAPath` for another text (also for one that ends with `/`,
-    /// except `/` itself), and with `NoMemory` if memory is refused.
+    /// Reads a path: `/` for the root, or one or more runs, each after a `/`. A run is a place,
+    /// which may be followed by `*` and the number of repetitions. Both numbers are from 1 to
+    /// 65,535, and may begin with `+` or zeros. `/1/1/1` has the same places as `/1*3`, but is not
+    /// printed as `/1*3`. Fails with `NotAPath` for any other text, such as `/1/`, and with
+    /// `NoMemory` if memory is refused.
     pub fn parse(alloc: Global, text: &str) -> Result<NodePath, PathFault> {
         let Some(rest) = text.strip_prefix('/') else {
             return Err(PathFault::NotAPath);
@@ -123,9 +121,9 @@ impl NodePath {
     }
 }
 
-/// Reads the text of a run: a place, or a place, `*` and a number of repetitions. Returns `None`
-/// for another text, and if a number is out of range. A path in a tree has fewer than `MAX_DEPTH`
-/// places.
+/// Reads the text of a run: a place, which may be followed by `*` and the number of repetitions.
+/// Returns `None` for any other text, and if a number is out of range. The number of repetitions is
+/// below `MAX_DEPTH`, since a path in a tree has fewer than `MAX_DEPTH` places.
 fn run_of(part: &str) -> Option<Run> {
     let (place, count) = match part.split_once('*') {
         Some((place, count)) => (number_in(place)?, number_in(count)?),

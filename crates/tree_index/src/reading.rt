@@ -30,8 +30,8 @@ const PASS_OFFSET: u64 = 4;
 /// file decides, not that of its bodies.
 const MAX_COPIED: u64 = 4_194_304;
 
-/// A bound of the number of turns of the loop in `read_file`, for a tree of `MAX_NODES` nodes: one
-/// to read each node below the root, one to close each node, and one at which no node is open.
+/// A bound on the number of turns of the loop in `read_file`, for a tree of `MAX_NODES` nodes: one
+/// turn to read each node below the root, one to close each node, and one at which no node is open.
 const MAX_TURNS: u32 = 2 * MAX_NODES + 1;
 
 /// An open node: a node of a production that was read and is not closed yet. (A node is closed
@@ -167,7 +167,8 @@ impl Mode<'_> {
 ///
 /// Fails with P3 if `MAX_NODES` records were read already. Fails with R1 and the offset
 /// `back.end()` if no frame ends at this offset, or if the frame's body is not a record of the
-/// item. Fails with D1 if a call of the device fails, and if memory is refused.
+/// item. (If values are not read, only the kind and the number are checked.) Fails with D1 if a
+/// call of the device fails, and with NoMemory if memory is refused.
 fn fetch<D: Device>(
     mode: &Mode<'_>,
     item: Item,
@@ -283,8 +284,8 @@ impl Reading {
             && are_same(&own[..copies.width], &copied[..copies.width])
     }
 
-    /// Adds the node of a record to the index, and opens the node if it is one of a production. Of
-    /// a token, removes the text from `values`. Fails if memory is refused.
+    /// Adds the node of a record to the index. Opens the node if it is one of a production. Removes
+    /// the node's text from `values` if it is a token. Fails if memory is refused.
     fn open(&mut self, grammar: &Grammar, fetched: Fetched) -> Result<(), TreeFault>
         ensures opened { OnOk result (HasOpened grammar.now fetched.item fetched.end fetched.number
             self.old.index self.new.index self.old.nodes.items self.new.nodes.items) }
@@ -378,7 +379,7 @@ impl Reading {
 
     /// Ends the reading when no node is open, and returns the index. Fails with R1 if bytes are
     /// left between the header and the records that were read, with D1 if a call of the device
-    /// fails, and if memory is refused.
+    /// fails, and with NoMemory if memory is refused.
     fn end<D: Device>(mut self, device: &mut D) -> Result<TreeIndex, TreeFault>
         requires ready { IsReady (D.is_honest device.old) (D.content device.old) self.back }
         ensures index { IfOk result (λ index. index ≡ self.index) }
@@ -405,9 +406,9 @@ fn are_same(own: &[Carried], copied: &[Carried]) -> bool {
     true
 }
 
-/// Returns the number of the pass of the tree file that a device contains, as its header says.
-/// Fails with R1 at 0 if the content does not begin as a tree file of version 2, with D1 if a call
-/// of the device fails, and if memory is refused.
+/// Returns the number of the pass in the header of the tree file that a device contains. Fails with
+/// R1 at 0 if the content does not begin as a tree file of version 2, with D1 if a call of the
+/// device fails, and with NoMemory if memory is refused.
 pub fn pass_of_file<D: Device>(alloc: Global, device: &mut D) -> Result<u16, TreeFault>
     ensures content { LeavesContent (D.is_honest device.new)
         (D.content device.old) (D.content device.new) }
@@ -473,10 +474,10 @@ fn read_file<D: Device>(
 impl TreeIndex {
     /// Reads the tree file that a device contains, as a pass reads it, and makes its index.
     ///
-    /// Fails with R1, P2 or P3 if the file is not that of a tree within the limits, or with R1 at 4
-    /// if the file is of a pass that the plan does not have; with D1 if a call of the device fails;
-    /// and if memory is refused. Takes memory for a buffer, for the index (16 bytes a node), and
-    /// for the rows of the nodes from the root to the current one.
+    /// Fails with R1, P2 or P3 if the file is not that of a tree within the limits, and with R1 at
+    /// 4 if the plan does not have the file's pass. Fails with D1 if a call of the device fails,
+    /// and with NoMemory if memory is refused. Takes memory for a buffer, for the index (16 bytes a
+    /// node), and for the open nodes and their rows.
     pub fn read<D: Device>(
         alloc: Global,
         grammar: &Grammar,
@@ -493,9 +494,9 @@ impl TreeIndex {
         read_file(alloc, grammar, plan, true, device)
     }
 
-    /// Makes the index of a file as `read` does, but without reading the values in the records. So
-    /// it does not find a malformed, missing or additional value, or one that differs from its
-    /// copy. Otherwise it fails as `read` does. It is for a file that a pass has just written.
+    /// Makes the index of a file as `read` does, but does not read the values in the records. So a
+    /// value may be malformed, missing, one too many, or different from its copy. Otherwise fails
+    /// as `read` does. Callers use this function for a file that a pass has just written.
     pub fn read_shape<D: Device>(
         alloc: Global,
         grammar: &Grammar,

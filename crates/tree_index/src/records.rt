@@ -12,9 +12,10 @@ use std::alloc::Global;
 use treefile::{Kind, split_body};
 
 /// Returns the number in a record of an item, and the bytes after this number, which should be the
-/// spellings of the record's values. For a symbol it is the number of the production, and for a
-/// class that of the class. Returns `None` if the body does not begin with a kind and a number, or
-/// if these are not those of a record of the item. The bytes after the number are not checked.
+/// spellings of the record's values. The number is that of a production if the item is a symbol,
+/// and that of the class if the item is a class. Returns `None` if the body does not begin with a
+/// kind and a number, or if no record of the item has this kind and number. The bytes after the
+/// number are not checked.
 pub(crate) fn split_record<'b>(
     grammar: &Grammar,
     item: Item,

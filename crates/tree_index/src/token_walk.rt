@@ -6,8 +6,8 @@ use ag_grammar::{Grammar, Item, Terminal};
 use ag_value::NoMemory;
 use std::alloc::Global;
 
-/// A bound of the number of turns of the loop in `next` for one token, in a tree of `MAX_NODES`
-/// nodes: one to enter each node, one to leave it, and one at which no node is open.
+/// A bound on the number of turns of the loop in `next` for one token, in a tree of `MAX_NODES`
+/// nodes: one turn to enter each node, one to leave it, and one at which no node is open.
 const MAX_TURNS: u32 = 2 * MAX_NODES + 1;
 
 /// A token of a tree.

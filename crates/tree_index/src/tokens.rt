@@ -59,8 +59,8 @@ impl TokenCounts {
 }
 
 /// Returns the number of a node's own tokens: 1 for a token of a class, and the number of literals
-/// of its production for another node. Returns 0 if the index does not have the node, or the
-/// grammar its production.
+/// of its production for another node. Returns 0 if the index does not have the node, or if the
+/// grammar does not have the production.
 fn own_tokens(grammar: &Grammar, index: &TreeIndex, node: u32) -> u32
     ensures { result ≡ own_count grammar.now (kind_in index.now node) }
 {

@@ -2,12 +2,12 @@
 //! each printed node, each node before its children, and children from left to right.
 //!
 //! In lines, control characters, white space other than the plain space, and some invisible
-//! characters are written as escapes, such as `\u{1b}`; in the text of a value, LF, tab and CR are
-//! `\n`, `\t` and `\r`. In JSON, quotes, backslashes and control characters of a value are written
-//! as escapes, such as `\n` and `\u001b`, and other characters as they are. Productions and names
-//! of symbols have escapes twice in JSON: they are escaped as in lines, and the result is written
-//! as a JSON string. So `\u{1b}` becomes `\\u{1b}`. The functions that write to a `String` fail if
-//! memory is refused.
+//! characters are written as escapes, such as `\u{1b}`. In the text of a value, LF, tab and CR are
+//! written as `\n`, `\t` and `\r`. In JSON, quotes, backslashes and control characters of a value
+//! are written as escapes, such as `\n` and `\u001b`. Productions and names of symbols are escaped
+//! twice in JSON: first as in lines, and then as a JSON string. So `\u{1b}` becomes `\\u{1b}`.
+//!
+//! The functions that write to a `String` fail if memory is refused.
 #![tactic(auto)]
 
 mod fault;

@@ -75,7 +75,7 @@ impl TreeText<'_> {
     }
 
     /// Writes the number of nodes below a node, if the node is on the last level that is printed:
-    /// the nodes below it are left out. Writes nothing if there are none.
+    /// the nodes below it are left out. Writes nothing if no nodes are below it.
     fn write_left_out(&self, out: &mut String, shown: &ShownNode) -> Result<(), NoMemory> {
         if shown.level < self.depth {
             return Ok(());

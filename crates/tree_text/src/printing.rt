@@ -123,10 +123,10 @@ impl TreeText<'_> {
 /// empty, prints only the nodes that have one of its attributes. The walk has to be over the index
 /// `text.index`, and must not have begun. The call sets the walk's greatest level to `text.depth`.
 ///
-/// Fails with R1 if a record is damaged. (`TreeIndex::read` refuses a file with such a record, but
-/// `read_shape` does not read the values, and the file may have changed after the index was read.)
-/// Fails with D1 if a call of the device fails, with O2 if the output fails, and if memory is
-/// refused. A part of the text may have been printed before a failure.
+/// Fails with R1 if a record is damaged, with D1 if a call of the device fails, with O2 if the
+/// output fails, and if memory is refused. A part of the text may have been printed before a
+/// failure. A record can be damaged even if the index was made without a failure: `read_shape`
+/// does not read the values, and after `TreeIndex::read` the file may have changed.
 pub fn write_tree<D: Device, W: Write>(
     alloc: Global,
     text: &TreeText<'_>,

@@ -6,10 +6,10 @@ use message_parts::display::PlainText;
 use std::alloc::Global;
 
 /// Writes the first `width` characters of a value as text, and `..` after them if there are more.
-/// Writes the whole text if `width` is 0 or the value is a number. The characters are counted in
-/// the text that `show` returns: its quotes count, and an LF counts as two, since `show` writes
-/// `\n`. A character that is written as an escape such as `\u{1b}` counts as one. Fails if memory
-/// is refused.
+/// Writes the whole text if `width` is 0 or the value is a number. Counts the characters of the
+/// text that `show` returns: the quotes count, and an LF counts as two, since `show` writes `\n`. A
+/// character that is written as an escape such as `\u{1b}` counts as one. Fails if memory is
+/// refused.
 pub fn write_value(
     alloc: Global,
     out: &mut String,
@@ -40,9 +40,9 @@ fn write_flat(
     write_first(out, shown.as_str(), width)
 }
 
-/// Writes a text value as `write_value` does. Unless `width` is 0, converts only the first
-/// `width + 1` characters of a longer text. The result of the conversion has more than `width`
-/// characters, so the output ends with `..`, as that of the whole text would.
+/// Writes a text value as `write_value` does. If `width` is 0, converts the whole text. Otherwise
+/// converts at most its first `width + 1` characters. Of a longer text the result of the conversion
+/// has more than `width` characters, so the output ends with `..`, as that of the whole text would.
 fn write_text(alloc: Global, out: &mut String, text: &str, width: usize) -> Result<(), NoMemory> {
     let needed = if width == 0 {
         // the length in bytes, which is at least the number of characters

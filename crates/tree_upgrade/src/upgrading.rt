@@ -29,7 +29,7 @@ use treefile::{Device, Kind, Writer};
 const PASS_OFFSET: u64 = 4;
 
 /// The pass number of the intermediate file. As in a file of pass 1, each node is written after its
-/// children, and these from right to left.
+/// children, and the children from right to left.
 const BETWEEN: u16 = 1;
 
 /// Reads a tree file of version 1 from its end, and writes the records of version 2 of the same
@@ -269,7 +269,7 @@ fn stored_among(items: &[Item]) -> u32
 /// file of version 2 and pass 0 of the same tree: the file that `parse` writes for a sentence with
 /// this tree. Returns the number of nodes. The recursion is as deep as the tree, and ends before
 /// a record at a level above `MAX_REVERSED_LEVELS` (256) is read. The first device keeps its
-/// content, also on failure. After a success the old content of the second and the third is lost.
+/// content, also on failure. After success the old content of the two other devices is lost.
 ///
 /// Fails with R1 (`Damaged`) only if the content is not the file of version 1 and pass 0 of a tree
 /// of the grammar; the offset is as for `run_pass` of the crate `passrun`. If a limit is exceeded
@@ -280,8 +280,8 @@ fn stored_among(items: &[Item]) -> u32
 ///
 /// R1, P2 and P3 are true of the content if the first two devices return the bytes that were
 /// written to them. If the second one does not, the call may also fail with R1 and an offset in the
-/// second device's content, or with P2. After a failure the second and the third device each have
-/// their old content, or a prefix of a tree file.
+/// second device's content, or with P2. After a failure the second device has its old content, or a
+/// prefix of a tree file, if it is honest. The same holds of the third device.
 ///
 /// Allocates memory for a buffer for reading (4,096 bytes or the largest frame), for the frame that
 /// is written, and for the texts of the tokens among the children of each node on the path from the

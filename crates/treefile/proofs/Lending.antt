@@ -12,8 +12,8 @@ slice_of : (prefix mid rest : List ℕ) (i j : ℕ) → length prefix ≡ i → 
 slice_of prefix mid rest i j e f =
     ap (λ (t : List ℕ). take (j - i) t) (drop_at prefix (mid ++ rest) i e) ∙ take_at mid rest (j - i) f
 
--- if a content is cut at an offset, before the four bytes of the length that ends there, and before the body that ends before
--- these, then the frame of this body ends at the offset
+-- if a content is cut at an offset, again before the four bytes of the length there, and again before the body before these
+-- bytes, then the frame of this body ends at the offset
 pub cut_out : (version : Version) (content frame following rest last before body : List ℕ) (at len : ℕ)
     → content ≡ frame ++ following → length frame ≡ at
     → frame ≡ rest ++ last → length rest ≡ at - 4 → from_be_bytes w32 last ≡ len → rest ≡ before ++ body
@@ -34,6 +34,6 @@ cut_out version content frame following rest last before body at len e el f fl n
     ∙ slice_of before body (last ++ following) (at - 4 - len) (at - 4 - len + len) gl (omega arith) in
     read_at version content body at len number whole (omega arith) fits
 
--- if a list has only bytes, so has what follows its first n elements
+-- if a list has only bytes, the elements after its first n are bytes too
 pub dropped_bytes : (n : ℕ) (xs : List ℕ) → IsBytes xs → IsBytes (drop n xs)
 dropped_bytes n xs h i = rw (get_or-drop n xs i 0) (h (n + i))

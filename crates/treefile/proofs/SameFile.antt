@@ -1,4 +1,4 @@
--- Values that are the same up to a pass have the same file of it.
+-- Values that are the same up to a pass have the same file of this pass.
 use Rattle.std.proofs.Common.{◌≡◌, ℕ, suc, ◌≤◌, Bool, true, false, cond, List, [], ◌∷◌, ◌++◌, slice_get, refl, ap, ◌∙◌}
 use Rattle.std.specs.Prelude.{nat_le}
 use Rattle.std.proofs.lemmas.Bool.{leb-true}
@@ -17,7 +17,7 @@ use Rattle.treefile.specs.records.TreeFile.{Version, body_of, file}
 use Rattle.treefile.specs.declared.body.Kind.TheVariants.{Node}
 use Rattle.treefile.proofs.records.Copies.{synthesized_is}
 
--- the values of a record are the same
+-- the values of a record are the same if they are the same up to its pass
 same_values : (k : ℕ) (ps : List ℕ) (e f : ℕ → Value) → SameAt (λ p. p ≤ k) ps e f → values_up_to k ps e ≡ values_up_to k ps f
 same_values k [] e f s = refl
 same_values k (p ∷ ps) e f s =
@@ -29,7 +29,7 @@ same_values k (p ∷ ps) e f s =
         ap (λ v. v ∷ values_up_to k ps (λ a. e (suc a))) (s 0 p refl (leb-true p k is)) ∙ ap (λ vs. f 0 ∷ vs) later
     by_test false is later = later
 
--- and so are the records of a tree
+-- the records of a tree are the same for such values
 module _ (version : Version) (g : Grammar) (m : Passes) (k : ℕ) where
   -- the copy of one tree's values, and the copies of several trees
   same_copy : (t : Tree) (u w : Valuation) → Same (λ p. p ≤ k) g m t u w → copy_of g m k t u ≡ copy_of g m k t w

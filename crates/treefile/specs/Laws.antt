@@ -93,7 +93,7 @@ RefusalWithinGoesBack =
     → RunsPasses version g m k last start newest previous → HasNoTreeWithin depth nodes version g m last newest
     → HasNoTreeWithin depth nodes version g m k start
 
--- A body is the record of a child with at most one list of its own children.
+-- If a body is the record of a child, it determines the list of this child's own children.
 abbrev pub OneRecord : Type 0
 OneRecord = (version : Version) (g : Grammar) (m : Passes) (k : ℕ) (x : Child) (body : List ℕ) (ys zs : List Child) → IsNumbered g
     → IsRecordOf version g m k x body ys → IsRecordOf version g m k x body zs → ys ≡ zs

@@ -18,8 +18,8 @@ pub record RanPass (version : Version) (g : Grammar) (m : Passes) (k : ℕ) (t :
   pub kept : Same (λ p. p < suc k) g m t u values
   pub solved : Solves (OfPass m (suc k)) g t values
 
--- Pass k + 1 ran from one content to another: for every tree and values whose file of pass k the first
--- content is, the pass had its effect on them (this project's).
+-- Pass k + 1 ran from one content to another: if the first content is the file of pass k of a tree and its
+-- values, the pass had its effect on these, for every tree and all values (this project's).
 abbrev pub RunsPass : Version → Grammar → Passes → ℕ → (from to : List ℕ) → Type 0
 RunsPass version g m k from to = (t : Tree) (u : Valuation) → IsTreeOf g t → IsFileOfTree version g m k t u from
     → RanPass version g m k t u to
@@ -33,8 +33,8 @@ pub record HasRun (version : Version) (g : Grammar) (m : Passes) (t : Tree) (u :
   pub file : IsFileOfTree version g m last t values newest
   pub other : (k : ℕ) → first ≤ last → last ≡ suc k → IsFileOfTree version g m k t values previous
 
--- The passes after pass k ran, up to the last: for every tree and values whose file of pass k the start is,
--- they ran through it and left these two contents (this project's).
+-- The passes after pass k ran, up to the last: if `start` is the file of pass k of a tree and its values, they
+-- ran through this tree and left these two contents, for every tree and all values (this project's).
 abbrev pub RunsPasses : Version → Grammar → Passes → (k last : ℕ) → (start newest previous : List ℕ) → Type 0
 RunsPasses version g m k last start newest previous = (t : Tree) (u : Valuation) → IsTreeOf g t
     → IsFileOfTree version g m k t u start → HasRun version g m t u (suc k) last newest previous

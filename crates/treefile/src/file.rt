@@ -145,8 +145,8 @@ impl<F: Read + Write + Seek + OpenFile> FileDevice<F> {
         Ok(())
     }
 
-    /// Appends bytes to the buffer, without regard to its limit. Takes memory for them. Fails with
-    /// NoMemory if it is refused; nothing has changed then.
+    /// Appends bytes to the buffer, even beyond its limit. Fails with NoMemory if memory for them
+    /// is refused; nothing has changed then.
     fn buffer_bytes(&mut self, bytes: &[u8]) -> Result<(), DeviceFault>
         ensures ok { OnOk result (self.new
             ≡ record self.old { buffered = self.old.buffered ++ bytes.now }) }
@@ -159,7 +159,7 @@ impl<F: Read + Write + Seek + OpenFile> FileDevice<F> {
         }
     }
 
-    /// Appends the bytes of `parts` to the buffer, as `buffer_bytes` does with bytes. Requires that
+    /// Appends the bytes of `parts` to the buffer, and fails, as `buffer_bytes` does. Requires that
     /// the buffer then has fewer than 2^64 bytes.
     fn buffer_parts(&mut self, parts: &SharedBytes) -> Result<(), DeviceFault>
         requires { length self.old.buffered + length parts.now < 2 ^ 64 }
@@ -175,10 +175,10 @@ impl<F: Read + Write + Seek + OpenFile> FileDevice<F> {
     }
 
     /// Appends bytes in the cases that `append` leaves to this function: the access is not
-    /// `Writing`, or the bytes fill the buffer or do not fit in it. If they do not fit, it first
+    /// `Writing`, the bytes fill the buffer, or they do not fit in it. If they do not fit, first
     /// writes the buffered bytes to the file. Writes 65,536 bytes or more to the file without
-    /// buffering them. Fails with `Failed` if the file is only read, or if a write, now or earlier,
-    /// failed, and with `NoMemory` if memory is refused.
+    /// buffering them. Fails with `Failed` if the file is only read, or if this write or an earlier
+    /// one failed. Fails with `NoMemory` if memory is refused.
     #[cold]
     #[inline(never)]
     fn append_slowly(&mut self, bytes: &[u8]) -> Result<(), DeviceFault>
@@ -296,7 +296,7 @@ impl<F: Read + Write + Seek + OpenFile> Device for FileDevice<F> {
         }
         let room = MAX_BUFFERED_BYTES.saturating_sub(self.buffered.len());
         if parts.len() < room as u64 {
-            // saves a copy
+            // copies the bytes once; the lines below copy them twice
             return self.buffer_parts(parts);
         }
         buffer.clear();

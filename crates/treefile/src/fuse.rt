@@ -9,11 +9,11 @@ ghost use Rattle.treefile.specs.devices.Fuse.{FuseEffect, Fuse, FusePersists, fa
 use crate::device::{Device, DeviceFault};
 use std::marker::Model;
 
-/// A device that forwards the calls of `len`, `append`, `read_at` and `clear` to another one,
-/// `inner`, except one of them: that call fails and does nothing. Only these calls count.
-/// `append_parts` copies the parts and calls `append` of this device, and `lend_before` always
-/// returns `None`. The device is honest if `inner` is. `left` is the number of calls up to the
-/// failing one (1: the next; 0: there is none), and `failed` the number of failed calls that were
+/// A device that forwards the calls of `len`, `append`, `read_at` and `clear` to the device
+/// `inner`. One of these calls fails instead, and does nothing. Only these four methods count.
+/// `append_parts` copies the parts and calls `append` of this device. `lend_before` always returns
+/// `None`. The device is honest if `inner` is. `left` is the number of calls up to the failing one
+/// (1: the next call fails; 0: none will fail). `failed` is the number of failed calls that were
 /// not forwarded.
 #[derive(Drop)]
 pub struct FuseDevice<D> {
@@ -31,9 +31,9 @@ impl<D> Model for FuseDevice<D> {
 }
 
 impl<D: Device> FuseDevice<D> {
-    /// Makes a device whose k-th counted call from now on fails (1: the next). With 0 all calls are
-    /// forwarded. Content, honesty and the number of failures are those of `inner`. Takes no
-    /// memory.
+    /// Makes a device whose k-th counted call from now on fails. If k is 1, the next one fails; if
+    /// k is 0, none does. Content, honesty and the number of failures are those of `inner`. Takes
+    /// no memory.
     pub fn new(inner: D, k: u64) -> FuseDevice<D>
         ensures inner { result.inner ≡ inner }
         ensures left { result.left ≡ k }

@@ -1,5 +1,5 @@
-//! Laws about the definitions of tree files, in any version; some of them require a usable one
-//! (`IsUsable`). Each is the contract of a function with an empty body.
+//! Laws about the definitions of tree files. They hold of any version; some require that it is
+//! usable (`IsUsable`). Each law is the contract of a function with an empty body.
 
 ghost use Rattle.std.specs.Prelude.{◌≡◌, ◌≤◌, ◌<◌, ◌^◌, ◌++◌, ◌∷◌, ◌↔◌, ℕ, List, [], All};
 ghost use Rattle.std.specs.Prelude.{Ok, Err, length, reverse, take, true};
@@ -38,10 +38,11 @@ pub fn frames_are_read()
         body_before version content at ≡ Err (Damaged at) }
 {}
 
-/// States that a file with one more body has one more frame at its end. In a usable version the
-/// last body of a file is the one that was appended last, if the length of this body is within the
-/// limits of the version. A header alone has no last body: B2 Damaged at offset 6. In any version,
-/// if the last body of a content is B2 Damaged, the offset is the end of the content.
+/// States that a file with one more body has one more frame at its end (`grows`), and which body is
+/// read as the last one. `last`: in a usable version it is the body that was appended last, if its
+/// length is within the limits of the version. `none`: in a usable version a header alone has no
+/// last body; reading it gives B2 Damaged at offset 6. `damaged`: in any version, if reading the
+/// last body of a content gives B2 Damaged, the offset is the end of the content.
 pub fn last_is_read()
     ensures grows { (version : Version) (pass : ℕ) (bodies : List (List ℕ)) (body : List ℕ) →
         file version pass (bodies ++ body ∷ []) ≡ file version pass bodies ++ frame body }

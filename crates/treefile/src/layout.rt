@@ -33,9 +33,9 @@ const GREATEST_BODY: u64 = LEAST_BODY + MAX_VALUES as u64 * MAX_WEIGHT;
 pub enum FileVersion {
     /// Version 1: its files begin with `AGT1`, and the record of a node has only its own values.
     One,
-    /// Version 2: its files begin with `AGT2`, and the record of a node has, after its own values,
-    /// copies of its children's synthesized ones (of a token its `lex`). All files that are written
-    /// have this version.
+    /// Version 2: its files begin with `AGT2`, and the record of a node has copies of its
+    /// children's synthesized values after its own values. The copy of a child that is a token is
+    /// its `lex`. All files that are written have this version.
     Two,
 }
 

@@ -155,11 +155,11 @@ fn fill_from<D: Device>(
 ///
 /// Requires an offset within the device's content, if the device is honest.
 ///
-/// Fails with B2 Damaged and that offset if no frame ends there: if fewer than 4 bytes are between
-/// the header and the offset, or if the number in the last four of them is below 3, above
-/// 285,212,675 or greater than the number of bytes between the header and those four. Fails with D1
-/// Device if a call of the device failed, and with NoMemory if the body is longer than `body` has
-/// room for and memory is refused. After a failure `body` has arbitrary bytes.
+/// Fails with B2 Damaged and that offset if no frame ends there. That is so if fewer than 4 bytes
+/// are between the header and the offset. It is so too if the number in the four bytes before the
+/// offset is below 3, above 285,212,675, or greater than the number of bytes between the header and
+/// those four. Fails with D1 Device if a call of the device failed. Fails with NoMemory if `body`
+/// has no room for the body and memory is refused. After a failure `body` has arbitrary bytes.
 #[tactic(auto, unfolding(crate::specs::framing::Ending::body_before))]
 pub fn read_body<D: Device>(device: &mut D, at: u64, body: &mut Vec<u8>) -> Result<(), FrameFault>
     requires { WhenHonest (D.is_honest device.old) (at ≤ length (D.content device.old)) }
@@ -190,9 +190,8 @@ pub fn read_body<D: Device>(device: &mut D, at: u64, body: &mut Vec<u8>) -> Resu
 /// the file.
 ///
 /// Fails with B1 NotATreeFile if there are fewer than 6 bytes or the first four are not `AGT2`.
-/// Fails with B2 Damaged, and the number of bytes as its offset, if fewer than 4 bytes follow the
-/// header, or if the number in the last four is below 3, above 285,212,675 or greater than the
-/// number of bytes between the header and those four. Fails with D1 Device if a call of the device
+/// Fails with B2 Damaged if no frame ends at the end of the file, in the cases of `read_body`; the
+/// offset of B2 is the number of bytes of the file. Fails with D1 Device if a call of the device
 /// failed, and with NoMemory if memory for the body is refused.
 #[tactic(auto, unfolding(crate::specs::framing::Ending::last_body_of))]
 pub fn last_body<D: Device>(alloc: Global, device: &mut D) -> Result<Vec<u8>, FrameFault>

@@ -13,8 +13,8 @@ use std::alloc::Global;
 use std::marker::Model;
 
 /// A device in memory that becomes one more owner of each shared value that `append_parts` appends.
-/// If it has such values, it lends bodies without copying them. `append` and `read_at` copy bytes.
-/// Contracts see the bytes. The device is honest, and never fails with `Failed`.
+/// A device with shared values lends bodies without copying them. `append` and `read_at` copy
+/// bytes. Contracts see the bytes. The device is honest, and never fails with `Failed`.
 #[derive(Drop)]
 pub struct SharedDevice {
     bytes: SharedBytes,
@@ -106,12 +106,12 @@ impl Device for SharedDevice {
 /// Lends the body of the frame that ends at offset `at` of a content. Returns `None` if no frame
 /// ends there, or if the body or its length can't be cut from the shared bytes.
 ///
-/// The type `Body` is any borrowed part of shared bytes, and only the result is the body of a
-/// frame. `frame` has all bytes before offset `at`, also those before the frame. `last` has the
-/// last four of them, and `rest` the others. A *splice* is the encoding of a shared value. `cut`
-/// splits a part at an offset; its second argument is the number of splices before the offset. For
-/// the first two cuts, at the end and at the beginning of the four bytes of the length, this number
-/// is the same, since these bytes contain no splice.
+/// The type `Body` is any borrowed part of shared bytes; here only the result is the body of a
+/// frame. The variable `frame` has all bytes of the content before offset `at`. `last` has the last
+/// four of them, and `rest` the others. A *splice* is the encoding of a shared value. `cut` splits
+/// a part at an offset; its second argument is the number of splices before the offset. The first
+/// two cuts are at the end and at the beginning of the four bytes of the length. These bytes
+/// contain no splice, so the number is the same for both cuts.
 #[inline(never)]
 fn body_before(bytes: &SharedBytes, at: u64) -> Option<Body<'_>>
     ensures body { IfSome result (λ body. body_before version_two bytes.now at ≡ Ok body) }

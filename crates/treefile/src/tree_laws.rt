@@ -99,10 +99,11 @@ pub fn worked_files()
         file_of_tree version_two token_sample iffy_passes 0 token_tree values ≡ file_of_iffy_in_two }
 {}
 
-/// States that a record determines its node's production and values. A list begins with the records
-/// of at most one tree of an item (a member of a right side: a symbol, a class or a literal), and
-/// of one valuation of it (the values of its nodes) up to the pass, each node before its children;
-/// and it ends with those of at most one, each node after its children.
+/// States that a record determines its node's production and values (`node`). An item is a member
+/// of a right side: a symbol, a class or a literal. `leading`: a list begins with the records of at
+/// most one tree of an item, and of one valuation (the values of the tree's nodes) up to the pass,
+/// each node before its children. `end`: a list ends with the records of at most one tree of an
+/// item, and of one valuation up to the pass, each node after its children.
 pub fn records_determine_trees()
     ensures node { OneNode }
     ensures leading { OneTreeBefore }
@@ -120,10 +121,11 @@ pub fn files_have_one_tree()
     ensures two { FitsAccepted version_two }
 {}
 
-/// States that passes over files run one after the other. Before the first pass the file is
-/// unchanged, and each further pass reads the file that the previous one left. If that file encodes
-/// no tree of the grammar, neither does the first one. The same holds of trees within limits of
-/// depth and number of nodes. So a fault that a later pass finds is a fault of the first file.
+/// States that passes over files run one after the other. If no pass has run, the file is
+/// unchanged. Each further pass reads the file that the previous pass left. If that file is the
+/// file of no tree of the grammar, the first file is the file of no tree either. The same holds of
+/// trees within limits of depth and number of nodes. So a fault that a later pass finds is a fault
+/// of the first file.
 pub fn passes_follow_files()
     ensures begins { RunBegins }
     ensures goes { RunContinues }
@@ -165,20 +167,20 @@ pub fn records_are_read()
     ensures left { BytesAreLeft }
 {}
 
-/// States that the last record of a tree's file is the root's, and that in the file of the last
-/// pass a record has the value of each attribute of its symbol, at the index of the attribute's
-/// number.
+/// States that the last record of a tree's file is the root's. In the file of the last pass, a
+/// record has the value of each attribute of its symbol, at the index of the attribute's number.
 pub fn root_is_last()
     ensures last { RootIsLast }
     ensures values { ValuesAreWhole }
 {}
 
 /// Worked examples: a record can number the productions of the grammar of binary fractions. The
-/// tree of `1` with its values can be recorded, and so can that of `iffy if`, but not with an empty
-/// text for the token `iffy`. The file of pass 2 of `1` is that of no other tree, and its last
-/// record is that of N. Pass 1 ran from the file of pass 0 of `x x` in `sample` to that of pass 1,
-/// and so did the passes from 1 to 1. T's record in pass 1 has the number 65536, which is spelled
-/// in nine bytes. A following byte 9 begins no value, so these ten bytes do not spell two values.
+/// tree of `1` with its values can be recorded. The tree of `iffy if` can be recorded too, but not
+/// with an empty text for the token `iffy`. The file of pass 2 of `1` is the file of no other tree,
+/// and its last record is that of N. Pass 1 runs from the file of pass 0 of `x x` in `sample` to
+/// the file of pass 1, and so do all passes from 1 to 1. T's record in pass 1 has the value 65536,
+/// which is spelled in nine bytes. A byte 9 after them begins no value, so these ten bytes do not
+/// spell two values.
 pub fn worked_records()
     ensures numbered { IsNumbered binary }
     ensures recorded { IsRecorded binary binary_passes 2 (item.Symbol 0) tree_of_one values_of_one }
@@ -236,8 +238,8 @@ pub fn worked_reading()
     ensures other_pass { HasNoTree version_one binary binary_passes 1 pass_0_of_one }
 {}
 
-/// States that a tree of a grammar has exactly one file of pass 0 in each version, whatever passes,
-/// from 1 on, its attributes have.
+/// States that a tree of a grammar has exactly one file of pass 0 in each version. The file is the
+/// same for all assignments of passes in which each pass is 1 or a later one.
 pub fn first_files_are_one()
     ensures there { (version : Version) (grammar : Grammar) (tree : Tree) →
         IsTreeOf grammar tree → IsFirstFile version grammar tree (first_file version tree) }

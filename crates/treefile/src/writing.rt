@@ -1,9 +1,9 @@
 //! Writing a tree file: its header, and then the frames of its records. The private functions that
 //! fill a buffer or `parts`, or append to one of them, fail only if memory is refused, or if a
-//! shared value has 2^64 - 1 owners. The buffer or `parts` has arbitrary bytes then. Records
-//! without values, and those whose values are one, two or three numbers, have functions that need
-//! no buffer. The last four bytes of their frames are the length of the body: 3 bytes, and 9 more
-//! for each number.
+//! shared value has 2^64 - 1 owners. The buffer or `parts` has arbitrary bytes then. A record
+//! without values needs no buffer, nor does one whose values are one, two or three numbers. For
+//! these records there are functions that return the frame. The last four bytes of a frame are the
+//! length of its body: 3 bytes, and 9 more for each number.
 
 ghost use Rattle.std.specs.Prelude.{◌≡◌, ◌++◌, ◌∷◌, ◌+◌, ◌-◌, ◌<◌, ◌≤◌, ◌^◌, ◌⊎◌, [], length};
 ghost use Rattle.std.specs.Prelude.{true, false, All, IfOk, IfSome, IsErrOf, Ok, OnOk};
@@ -76,8 +76,8 @@ impl Writer {
     }
 
     /// Appends the frame of a record by one call of the device. Takes memory for a buffer with the
-    /// frame if there are more than three values, or one that is not a number; the device may take
-    /// some too.
+    /// frame, unless there are at most three values and all are numbers. The device may take memory
+    /// too.
     ///
     /// Requires at most 272 values, each of them well, and fewer than u64::MAX frames appended
     /// before.
@@ -146,9 +146,10 @@ impl Writer {
         self.finish_call(answer)
     }
 
-    /// Appends the frame of a record of carried values (values of `ag_carried`, some of which
-    /// several owners may share), as `put` does with values. The device may share the shared ones
-    /// too (`Device::append_parts`). Requires what `put` does, and fails as `put` does.
+    /// Appends the frame of a record of carried values, as `put` does with values. Carried values
+    /// are those of `ag_carried`: several owners may share one. The device may become one more
+    /// owner of such a value (`Device::append_parts`). Requires what `put` requires, and fails as
+    /// `put` does.
     #[inline(always)]
     pub fn put_carried<D: Device>(
         &mut self,
@@ -546,7 +547,7 @@ fn append_carried(buffer: &mut Vec<u8>, value: &Carried) -> Result<(), NoMemory>
 }
 
 /// Fills `parts` with the frame of a record of carried values. Shared values are not copied:
-/// `parts` becomes one more owner. `buffer` is used to spell the others.
+/// `parts` becomes one more owner of each. The other values are spelled in `buffer` first.
 fn fill_parts(
     parts: &mut SharedBytes,
     buffer: &mut Vec<u8>,
@@ -588,7 +589,7 @@ fn fill_parts_of_body(
     append_values_to_parts(parts, buffer, values)
 }
 
-/// Appends the spellings of carried values: shared ones without copying, as one more owner.
+/// Appends the spellings of carried values. Shared values are not copied, as in `fill_parts`.
 fn append_values_to_parts(
     parts: &mut SharedBytes,
     buffer: &mut Vec<u8>,
@@ -603,7 +604,7 @@ fn append_values_to_parts(
     Ok(())
 }
 
-/// Appends the spelling of a carried value: a shared one without copying, as one more owner.
+/// Appends the spelling of a carried value. A shared value is not copied, as in `fill_parts`.
 fn append_to_parts(
     parts: &mut SharedBytes,
     buffer: &mut Vec<u8>,

@@ -29,11 +29,11 @@ pub struct ErrorTranslation<'a> {
 }
 
 impl<'a> ErrorTranslation<'a> {
-    /// Returns the part of the message of O1 that follows the error's value: the rule in which it
-    /// arises, the rule's position, where the rule's node is in the sentence (without a sentence,
-    /// in the tree), the values of the rule's arguments, and the number of rules that passed the
-    /// error on. `device` contains the file of the last pass. The file was just written, so its
-    /// index is made without reading the values (`read_shape`).
+    /// Returns the part of the message of O1 that follows the error's value: the rule in which the
+    /// error arises, the rule's position, the place of the rule's node, the values of the rule's
+    /// arguments, and the number of rules that passed the error on. The place is in the sentence
+    /// or, if there is none, in the tree. `device` contains the file of the last pass. This file
+    /// was just written, so its index is made without reading values (`TreeIndex::read_shape`).
     ///
     /// Returns `None` if no cause is found (`find_cause`). Fails with R1 if the file is damaged,
     /// with P2 or P3 if its tree exceeds a limit, with D1 if a call of the device fails, and if

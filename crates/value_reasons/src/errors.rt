@@ -17,13 +17,13 @@ use tree_text::ShowFault;
 use treefile::Device;
 
 /// If the buffer has at least this number of bytes, it is written to the output. The buffer saves a
-/// write for each line, and the limit keeps it small.
+/// write for each line, and this limit keeps the buffer small.
 const BUFFER_BYTES: usize = 65_536;
 
 impl<'a> ExplainedTree<'a> {
-    /// Reads the body of the record that ends at the offset `end` in bytes. Fails with R1 if the
-    /// length there does not fit into the file, with D1 if a call of the device fails, and if
-    /// memory is refused.
+    /// Reads the body of the record that ends at the offset `end` in bytes. Fails with R1 if no
+    /// record can end there (`body_before`), with D1 if a call of the device fails, and if memory
+    /// is refused.
     fn read_body<D: Device>(&self, end: u64, device: &mut D) -> Result<Vec<u8>, TreeFault>
         ensures content { LeavesContent (D.is_honest device.new)
             (D.content device.old) (D.content device.new) }

@@ -99,10 +99,10 @@ impl<'a> ExplainedTree<'a> {
         }
     }
 
-    /// Writes the next item if it is a token. Writes a space first unless `before`, the number of
-    /// tokens already written, is 0. Returns whether the item counts as a token: a literal does,
-    /// and a token of a class whose record has its text; a symbol does not. Fails as `read_node`
-    /// does.
+    /// Writes the next item if it is a token. `before` is the number of tokens already written. If
+    /// it is not 0, writes a space first. Returns whether the item counts as a token: a literal
+    /// does, and a token of a class whose record has its text; a symbol does not. Fails as
+    /// `read_node` does.
     fn write_token<D: Device>(
         &self,
         out: &mut String,

@@ -3,8 +3,8 @@
 //!
 //! Control characters, white space other than the plain space, and some invisible characters are
 //! written as escapes, such as `\u{1b}`. In the text of a value, LF, tab and CR are `\n`, `\t` and
-//! `\r`. In a rule, a space replaces a line break and the white space around it. The functions that
-//! write to a `String` fail if memory is refused.
+//! `\r`. A rule is written in one line (`write_rule`). The functions that write to a `String` fail
+//! if memory is refused.
 #![tactic(auto)]
 
 mod attributes;

@@ -30,8 +30,8 @@ pub(crate) struct RuleAtNode<'a> {
 
 impl<'a> ExplainedTree<'a> {
     /// Reads the record of a node, and returns it with the rule of number `index` (from 0) of the
-    /// node's production. Returns `None` if the node is a token, and if the node or the rule does
-    /// not exist. Fails as `read_node` does.
+    /// node's production. Returns `None` if the node is a token, if the node doesn't exist, and if
+    /// the rule doesn't exist. Fails as `read_node` does.
     pub(crate) fn rule_at<D: Device>(
         &self,
         node: u32,
@@ -90,7 +90,7 @@ impl<'a> ExplainedTree<'a> {
 
     /// Writes a cause: the target of the rule in which the error arises, the rule's position, the
     /// text `place`, the values of the rule's arguments, and the number of rules that passed the
-    /// error on, unless this is 0. `place` says where the rule's node is, and begins with a space.
+    /// error on, if it is not 0. `place` says where the rule's node is, and begins with a space.
     /// Writes nothing if the node has no such rule. Fails with R1 if the node's record is damaged,
     /// with D1 if a call of the device fails, and if memory is refused.
     pub fn write_cause<D: Device>(

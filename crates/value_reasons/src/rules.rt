@@ -77,9 +77,9 @@ impl<'a> ExplainedTree<'a> {
         }
     }
 
-    /// Writes a rule as it is in the grammar's text, without its `;`. Writes it in one line: a
-    /// space replaces each line break and the white space around it. Writes nothing if the rule
-    /// does not exist.
+    /// Writes a rule as it is in the grammar's text, without its `;`. Writes the rule in one line:
+    /// leaves out the white space at both ends of each line of the text, and writes a space for
+    /// each line break. Writes nothing if the rule does not exist.
     pub(crate) fn write_rule(
         &self,
         out: &mut String,

@@ -8,7 +8,7 @@ ghost use Rattle.ag_eval.specs.Operands.{ref_value};
 use crate::value_ref::ValueRef;
 use ag_value::{ErrorCode, Value};
 
-/// Returns the error that a value is, if it is one.
+/// Returns the code of a value if the value is an error, else `None`.
 #[inline(always)]
 pub fn fault_of(value: ValueRef<'_>) -> Option<ErrorCode>
     ensures { result ≡ fault_of (ref_value value.entry) }
@@ -19,7 +19,7 @@ pub fn fault_of(value: ValueRef<'_>) -> Option<ErrorCode>
     }
 }
 
-/// Returns the leftmost error of two arguments, if one is an error.
+/// Returns the code of the leftmost error among two arguments, if one is an error.
 #[tactic(auto, unfolding(ag_value::specs::operations::Arguments::leftmost))]
 pub fn fault_of_two(first: ValueRef<'_>, second: ValueRef<'_>) -> Option<ErrorCode>
     ensures { result ≡ leftmost (ref_value first.entry ∷ ref_value second.entry ∷ []) }
@@ -30,7 +30,7 @@ pub fn fault_of_two(first: ValueRef<'_>, second: ValueRef<'_>) -> Option<ErrorCo
     }
 }
 
-/// Returns the leftmost error of three arguments, if one is an error.
+/// Returns the code of the leftmost error among three arguments, if one is an error.
 #[tactic(auto, unfolding(ag_value::specs::operations::Arguments::leftmost))]
 pub fn fault_of_three(
     first: ValueRef<'_>,

@@ -52,8 +52,8 @@ fn item_at(list: &ListTree, index: i64) -> Option<&Value>
     list.get(index as usize)
 }
 
-/// Computes `a ++ b`: a tree that shares nodes with both. Takes memory for new nodes, whose number
-/// grows with the difference of the heights of the trees.
+/// Computes `a ++ b`: a tree that shares nodes with a and b. Takes memory for new nodes, whose
+/// number grows with the difference of the heights of a and b.
 #[tactic(auto, using(crate::proofs::Lists::limits))]
 pub fn concatenate<'a>(
     alloc: Global,
@@ -70,8 +70,8 @@ pub fn concatenate<'a>(
     }
 }
 
-/// Computes `append(l, v)`: a tree that shares nodes with this one. Takes memory for the item, and
-/// for the nodes on the way to the end.
+/// Computes `append(l, v)`: a tree that shares nodes with l. Takes memory for the item, and for the
+/// nodes on the way from the root to the last item.
 #[tactic(auto, using(crate::proofs::Lists::limits))]
 pub fn append<'a>(alloc: Global, list: &ListTree, item: Measured) -> Result<Held<'a>, NoMemory>
     requires { fault_of item ≡ None }

@@ -40,8 +40,8 @@ pub fn count(length: usize) -> Value
 }
 
 /// Computes `a ++ b` for two values that are not both texts: the left list is extended by the items
-/// of the right one. The value is the error `kind` unless both are lists. Takes memory for the
-/// growth.
+/// of the right one. The value is the error `kind` if one of them is not a list. Takes memory for
+/// the growth.
 pub fn extend_list(left: Measured, right: Measured) -> Result<Measured, NoMemory>
     requires { is_text left ≡ true → is_text right ≡ false }
     ensures { IfOk result (λ m. m ≡ concatenation left right) }

@@ -65,7 +65,7 @@ pub fn remainder_of(dividend: i64, divisor: i64) -> Scalar
     if divisor == 0 {
         return Scalar::Fault(ErrorCode::Divide);
     }
-    // the remainder of the least number by -1 is 0, for which `%` would overflow
+    // `%` would overflow for the least number and -1, whose remainder is 0
     Scalar::Number(dividend.wrapping_rem(divisor))
 }
 

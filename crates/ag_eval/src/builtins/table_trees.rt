@@ -62,8 +62,8 @@ pub fn keys(alloc: Global, table: &TableTree) -> Result<Value, NoMemory>
     Ok(Value::List(table.keys(alloc)?))
 }
 
-/// Computes `put(t, k, v)`: a tree that shares nodes with this one. Takes memory for the nodes on
-/// the way to the key.
+/// Computes `put(t, k, v)`: a tree that shares nodes with t. Takes memory for the nodes on the way
+/// from the root to the key.
 #[tactic(auto, using(ag_value::proofs::operations::Wells::short, ag_value::proofs::operations::Growing::item_of))]
 pub fn put<'a>(
     alloc: Global,

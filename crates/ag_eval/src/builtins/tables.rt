@@ -77,8 +77,8 @@ pub fn has(table: &Value, key: &Value) -> Value
 }
 
 /// Computes `put(t, k, v)`: adds the pair, or replaces the value of the key. A table that has more
-/// than `MAX_FLAT_TABLE` pairs before this becomes a tree. Takes memory for the growth, or for the
-/// tree.
+/// than `MAX_FLAT_TABLE` pairs before the call becomes a tree. Takes memory for the growth, or for
+/// the tree.
 pub fn put<'a>(
     alloc: Global,
     table: Measured,

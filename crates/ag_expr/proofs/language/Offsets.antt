@@ -423,7 +423,7 @@ abbrev NotDeep : Outcome Node → Type 0
 NotDeep (Ok x) = Unit {0}
 NotDeep (Err f) = (at : ℕ) → f ≡ fault.TooDeep at → ⊥
 
--- If the parser succeeds with some number of levels, it returns the same with any other number, unless it
+-- If the parser succeeds with some number of levels, then with any other number it returns the same or
 -- fails with `TooDeep`.
 one_outcome : (listed : List Occ) (m n : ℕ) (i j : Input) (e : Node) → expr_from listed m i ≡ Ok (e, j) → (o : Outcome Node)
     → expr_from listed n i ≡ o → NotDeep o → o ≡ Ok (e, j)
@@ -452,7 +452,7 @@ not_deep : (e : Ending) (ps : List PlacedToken) (at : ℕ) → refusal_of e ps �
 not_deep e ps at h = let bad : ⊥ = grind arith in bad
 
 module _ (listed : List Occ) (n : ℕ) (us : List PlacedToken) where
-  -- if all tokens are an expression, the parser returns it, unless it fails with `TooDeep`
+  -- if all tokens are an expression, the parser returns it or fails with `TooDeep`
   settled : (m : ℕ) (k : Input) (e : Node) → IsExpr listed m (tokens us ++ tokens k.left) e → (o : Outcome Node)
       → expr_from listed n (before us k) ≡ o → NotDeep o → o ≡ Ok (e, record { left = []; ending = k.ending })
   settled m k e is o read sure =

@@ -89,7 +89,7 @@ module _ (s : State) (t : GrammarToken) (h : next_token (input s) ≡ Some t) wh
       none : (t : GrammarToken) → is_occurrence (Some t) ≡ false → occurrence_in t (offset s.tokens) ≡ []
       none t h = grind arith
 
-  -- whether an expression begins with the token is the same with all occurrences as in `begins_here`
+  -- `begins` with the complete list of occurrences has the same result as `begins_here`
   begins_same : begins (complete_list s) s.scope t ≡ begins_here s.scope t
   begins_same = go t all_is
     where

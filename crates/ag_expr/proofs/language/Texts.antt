@@ -250,7 +250,7 @@ module _ (from : ℕ) (cs : List ℕ) (i : Input) (lexes : Lexes from cs i) wher
             t.large,
           )
 
-  -- A fault for a prefix of the tokens is right about the text, if that for the ending of the prefix is.
+  -- A fault for a prefix of the tokens is right about the text if the fault for the prefix's ending is right.
   pub reported_before : (part : Input) (following : List PlacedToken) → i.left ≡ part.left ++ following
       → IsFaultFrom from cs (ending_fault part.ending) → (listed : List Occ) (levels : ℕ) (f : ExprFault)
       → IsReportedFirst listed levels part f → IsFaultFrom from cs f

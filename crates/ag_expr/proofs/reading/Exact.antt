@@ -13,8 +13,8 @@ use Rattle.ag_tokens.specs.Languages as languages
 use Rattle.ag_tokens.specs.Languages.{gives, one, Many, none, more, further}
 
 -- What the theory needs to know about languages and faults. A word is a list of items of type T: `item` is the one for a token
--- with its offset. `wrong` is the fault for an input whose next token cannot be accepted. Two tests: `is_reported` is true of the
--- faults of which the lemmas claim something, and `is_deep` of a fault and a token if the token needs more levels by the fault.
+-- with its offset. `wrong` is the fault for an input whose next token cannot be accepted. `is_reported` is true of the faults of
+-- which the lemmas claim something. `is_deep` is true of a fault and a token if the fault says that the token needs more levels.
 pub record Manner (T Fault : Type 0) : Type 0 where
   pub item : PlacedToken → T
   pub wrong : Input → Fault
@@ -33,7 +33,7 @@ first_is test ps = parsing.next_satisfies test (first_token ps)
 pub record Starts {T Fault A : Type 0} (m : Manner T Fault) (test : GrammarToken → Bool) (L : List T → A → Type 0) : Type 0 where
   pub leads : (us : List PlacedToken) (a : A) → L (map m.item us) a → first_is test us ≡ true
 
--- the parser is sound for the language, and complete if no token of `stops` follows
+-- the tokens that the parser accepts are a word of the language; each word is accepted if no token of `stops` follows
 pub record Exact {T Fault A : Type 0} (m : Manner T Fault) (stops : GrammarToken → Bool) (L : List T → A → Type 0)
     (r : Parser Fault A) : Type 0 where
   pub sound : (i j : Input) (a : A) → r i ≡ Ok (a, j) → (us : List PlacedToken) × (i ≡ before us j) × L (map m.item us) a
@@ -52,7 +52,7 @@ split item us [] ws e = ([], us, refl, refl, e)
 split item [] (v ∷ vs) ws e = let bad : ⊥ = cc in absurd bad
 split item (u ∷ us) (v ∷ vs) ws e = let cut = split item us vs ws (cc) in (u ∷ cut.0, cut.1, ap (λ ys. u ∷ ys) cut.2, cc, cut.4)
 
--- a word of two parts over tokens with offsets, and a list of words with one more at its head
+-- tokens with offsets are split as their items: a word of two parts, and a list of words at its first word
 module _ {T A : Type 0} (item : PlacedToken → T) (us : List PlacedToken) where
   pub parts : {B : Type 0} (R : List T → A → Type 0) (S : A → List T → B → Type 0) (b : B) → languages.◌>>=◌ R S (map item us) b
       → (xs : List PlacedToken) × (ys : List PlacedToken) × (a : A) × (us ≡ xs ++ ys) × R (map item xs) a × S a (map item ys) b

@@ -77,7 +77,7 @@ heads-append : {T : Type 0} (t : T) (us vs : List T) → Heads t us → Heads t 
 heads-append t us vs h = grind arith
 
 module _ {T Fault : Type 0} {m : Manner T Fault} where
-  -- from a part to the whole, after the tokens read before
+  -- if a part is refused after the tokens vs, the whole is refused there too
   lift : {A B : Type 0} {L : List T → A → Type 0} {M : List T → B → Type 0} {r q : Parser Fault A} {s t : Parser Fault B}
       (vs : List PlacedToken) (i j : Input) (f : Fault) → i ≡ before vs j → Refused m L r q j f
       → ((ts : List T) (a : A) → L ts a → (w : List T) × (b : B) × M (map m.item vs ++ (ts ++ w)) b)

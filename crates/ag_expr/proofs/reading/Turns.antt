@@ -6,8 +6,8 @@ use Rattle.ag_tokens.specs.Parsing.{Outcome, Parser, sees, item_bound, many_from
 use Rattle.ag_tokens.specs.GrammarToken.{GrammarToken}
 use Rattle.ag_expr.proofs.reading.Steady.{Shortens, many_turn}
 
--- A loop invariant: the parts found so far, with the further ones, are the whole; and each part takes a
--- token.
+-- A loop invariant: the parts found so far, with the further ones, are the whole. Each part has at least
+-- one token.
 pub record Going {Fault A : Type 0} (single : Bool) (begins : GrammarToken → Bool) (item : Parser Fault A) (found : List A)
     (i : Input) (whole : Outcome Fault (List A)) : Type 0 where
   pub same : further_from single begins item found i ≡ whole

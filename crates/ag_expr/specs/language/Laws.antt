@@ -17,7 +17,7 @@ ReadingAgrees = (listed : List Occ) (levels at : ℕ) (placed : List PlacedToken
     → (expr_of listed levels (record { left = placed; ending = ending.EndsAt at }) ≡ Ok
     (tree, record { left = []; ending = ending.EndsAt at })) ↔ IsExpr listed levels (tokens placed) tree
 
--- The reading function of expressions rejects tokens that are not an expression at the first one that cannot be accepted.
+-- If the reading function of expressions fails, its fault is at the first token that cannot be accepted.
 abbrev pub RefusesAtTheFirst : Type 0
 RefusesAtTheFirst = (listed : List Occ) (levels : ℕ) (i : Input) (f : ExprFault) → expr_of listed levels i ≡ Err f
     → IsReportedFirst listed levels i f

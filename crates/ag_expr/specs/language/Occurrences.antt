@@ -29,7 +29,7 @@ abbrev pub distinct_occurrences : List Occ → List Occ
 distinct_occurrences [] = []
 distinct_occurrences (x ∷ xs) = x ∷ filter (λ y. not (is_of y.place y.attr x)) (distinct_occurrences xs)
 
--- the list with one more occurrence, unless its place and name are listed already
+-- the list with one more occurrence; the list itself if the occurrence's place and name are listed already
 abbrev pub listed_with : List Occ → Occ → List Occ
 listed_with so_far x = cond (list_any (is_of x.place x.attr) so_far) so_far (so_far ++ x ∷ [])
 

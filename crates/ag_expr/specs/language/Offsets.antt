@@ -34,8 +34,8 @@ pub record IsFirstWrong (listed : List Occ) (i : Input) (f : ExprFault) : Type 0
   pub says : f ≡ refusal_of i.ending rest
   pub none : NoneGoesOn listed (tokens before) i.ending rest
 
--- The fault is at a token with which an expression can begin. The tokens up to it are a prefix of some expression, but of none
--- of at most this number of levels.
+-- The fault is at a token with which an expression can begin. The tokens up to and including this token are a prefix of some
+-- expression, but not of an expression of at most `levels` levels.
 pub record IsTooDeep (listed : List Occ) (levels : ℕ) (i : Input) (f : ExprFault) : Type 0 where
   pub before : List PlacedToken
   pub first : PlacedToken

@@ -53,7 +53,7 @@ Outcome = parsing.Outcome ExprFault
 abbrev pub Parser : Type 0 → Type 0
 Parser = parsing.Parser ExprFault
 
--- reads one token, and returns its meaning; fails with `refusal` without a token, or if it has no meaning
+-- reads one token, and returns its meaning; fails with `refusal` if there is no token, or if the token has no meaning
 abbrev pub token_as : {A : Type 0} → (GrammarToken → Option A) → Parser A
 token_as meaning = one_from refusal (λ at. meaning)
 
@@ -84,7 +84,7 @@ chain_from k operand = do
   others ← further_from (takes_one k) (is_operator_of k) (other_from k operand) []
   pure (chain_of first others)
 
--- a chain of the first precedence, whose operands are chains of the others, the strongest last
+-- a chain of the first precedence; its operands are chains of the next one, and so on; those of the last one are atoms
 unfoldable pub ranked_from : Parser Node → List Precedence → Parser Node
 ranked_from atom [] = atom
 ranked_from atom (k ∷ ks) = chain_from k (ranked_from atom ks)
@@ -124,8 +124,8 @@ atom_of (token.Punctuation m) = marked_atom m
 atom_of (token.Name name) = cond (is_call (token.Name name)) atom.Call atom.Operand
 atom_of _ = atom.Operand
 
--- The next token begins an atom of this form, and of no form in the cases above it. For `Operand`: it begins none of the other
--- forms. It may begin no atom at all then, and there may be no next token.
+-- The next token begins an atom of this form, and of none of the forms above in this list. For `Operand`, this means only: the
+-- next token begins an atom of no other form. Then it may begin no atom at all, or there may be no next token.
 abbrev pub BeginsAtom : Atom → Input → Type 0
 BeginsAtom atom.Parenthesized i = sees (is_sign (mark punctuation.Open)) i ≡ true
 BeginsAtom atom.List i =
@@ -153,7 +153,7 @@ table_from = do
   expect (mark punctuation.CloseTable)
   pure node.EmptyTable
 
--- The parsers of the forms of an expression. Each but `items_from` parses the language of `Syntax.antt` with the same name:
+-- The parsers of the forms of an expression. Each but `items_from` parses the language of `Syntax.antt` with the like name:
 -- `list_from` parses `IsList`, and `some_from` parses `AreSome`. `inner` maps the names in scope to the parser of expressions of
 -- one level less, and `scope` are the names in scope.
 module _ (inner : Names → Parser Node) (scope : Names) where

@@ -37,7 +37,7 @@ abbrev pub from_end : Bool → Input → Input
 from_end false i = record i { left = [] }
 from_end true i = record i { left = from_semicolon i.left }
 
--- the next token, unless it is a `;` that ends a statement
+-- the next token, or `None` if it is a `;` that ends a statement
 abbrev pub before_end : Bool → Option GrammarToken → Option GrammarToken
 before_end false o = o
 before_end true None = None
@@ -106,9 +106,9 @@ abbrev pub begins_here : Names → GrammarToken → Bool
 begins_here scope (token.Occurrence place attr) = true
 begins_here scope t = begins [] scope t
 
--- The contract of a function that parses: its result, converted by `view`, is that of the specification's parser `read`, and the
--- reader has advanced over the same tokens and keeps the rest of its state; or the function fails with the fault of `read`,
--- unless memory ran out.
+-- The contract of a function that parses as the specification's parser `read`. After Ok, the result, converted by `view`, is that
+-- of `read`. The reader has advanced over the same tokens, and the rest of its state is unchanged. After a failure other than
+-- `NoMemory`, the fault is that of `read`.
 abbrev pub ReadsAs : {X Y : Type 0} → (X → Y) → (List Occ → Names → Parser Y) → State → Result X ExprFault → State → Type 0
 ReadsAs view read old (Ok x) new =
     (read (complete_list old) old.scope (input old) ≡ Ok (view x, input new)) × KeepsContext old new
@@ -123,8 +123,8 @@ abbrev pub IsReadToEnd : State → Result (Node × List Occ) ExprFault → Type 
 IsReadToEnd s answer = answer ≢ Err fault.NoMemory
     → answer_of (complete_list s) (expr_of (complete_list s) max_levels (input s)) ≡ answer
 
--- The result of parsing the tokens up to the first `;`, with the input after the `;`; or the fault of the
--- specification's parser, unless memory ran out.
+-- After Ok, the result is that of the specification's parser for the tokens up to the first `;`, and the new input is that after
+-- the `;`. After a failure other than `NoMemory`, the fault is that of the specification's parser.
 abbrev pub IsReadEnded : Input → Result Ended ExprFault → Input → Type 0
 IsReadEnded old (Ok x) new = (read_until_from old ≡ Ok x) × (new ≡ record old { left = after_semicolon old.left })
 IsReadEnded old (Err e) new = e ≢ fault.NoMemory → read_until_from old ≡ Err e

@@ -128,8 +128,8 @@ IsChain k operand = do
   others ← further (takes_one k) [] (IsOther k operand)
   gives (chain_of first others)
 
--- A chain of the first precedence, whose operands are chains of the others, the strongest last. The operands of the strongest are
--- of the language `atom`.
+-- A chain of the first precedence in the list. Its operands are chains of the next precedence, and so on. The operands of chains
+-- of the last precedence, which binds most strongly, are of the language `atom`.
 abbrev pub IsRanked : (List GrammarToken → Node → Type 0) → List Precedence → List GrammarToken → Node → Type 0
 IsRanked atom [] = atom
 IsRanked atom (k ∷ ks) = IsChain k (IsRanked atom ks)

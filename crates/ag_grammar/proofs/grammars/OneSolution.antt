@@ -111,8 +111,8 @@ ranked : (d : Direction) (n i j b : ℕ) → IsBefore d (suc j) (suc i) → j < 
 ranked LeftToRight n i j b h l r = omega arith
 ranked RightToLeft n i j b h l r = omega arith
 
--- two solutions on a tree have the same values in pass k, if they have the same values in the earlier passes, and
--- in the inherited attributes at the root
+-- two solutions on a tree have the same values in pass k, if they have the same values in the earlier passes, and in those
+-- inherited attributes at the root that belong to passes up to k
 abbrev Agrees : Grammar → Passes → ℕ → Tree → Type 0
 Agrees g m k t = (x : Item) (v w : Valuation) → Fits g x t → Solves AnyRule g t v → Solves AnyRule g t w
     → Same (λ p. p < k) g m t v w → InheritedSame g m k (Some x) (v []) (w []) → Same (λ p. p ≤ k) g m t v w

@@ -10,7 +10,7 @@ use Rattle.ag_grammar.specs.grammars.Accepted.{IsProductive, AreProductive, by_p
 use Rattle.ag_grammar.specs.grammars.Tree.{Tree, Forest, leaf, node, none, more, Fits, FitsAll}
 use Rattle.ag_grammar.proofs.grammars.Children.{child, tree_ind}
 
--- trees of a terminal and of the items after it: the text of a token may be empty
+-- trees of a terminal and of the items after it; the tree of a token class is a leaf with the empty text
 with_terminal : (g : Grammar) (a : Terminal) (xs : List Item) → (ts : Forest) × FitsAll g (stored_items xs) ts
     → (ts : Forest) × FitsAll g (stored_items (item.Terminal a ∷ xs)) ts
 with_terminal g (Literal l) xs f = f

@@ -42,7 +42,7 @@ PassesSolve = (g : Grammar) (m : Passes) (t : Tree) (v : Valuation)
     → Each (λ q. Each (λ r. (k : ℕ) × HasPass m q r.target k) q.rules) g.productions → ((k : ℕ) → Solves (OfPass m k) g t v)
     → Solves AnyRule g t v
 
--- Before any pass has run, the values are those at the beginning, which are any that give each leaf its text.
+-- Before any pass has run, the values are those at the beginning: any values u that give each leaf its text.
 abbrev pub RunBegins : Type 0
 RunBegins = (g : Grammar) (m : Passes) (t : Tree) (u : Valuation) (first : ℕ) → Solves NoRule g t u
     → RanThrough g m t u first first u
@@ -54,7 +54,7 @@ RunGoesOn = (g : Grammar) (m : Passes) (x : Item) (t : Tree) (u w v : Valuation)
     → first ≤ next → RanThrough g m t u first next w → Same (λ p. p < next) g m t w v → Solves (OfPass m next) g t v
     → RanThrough g m t u first (suc next) v
 
--- After the last pass, each equation whose target belongs to a pass from the first one on is satisfied.
+-- After the last pass, each equation is satisfied whose target belongs to pass `first` or to a later one.
 abbrev pub RunSolvesRest : Type 0
 RunSolvesRest = (g : Grammar) (m : Passes) (t : Tree) (u w : Valuation) (first last : ℕ) → IsLastPass last m
     → RanThrough g m t u first (suc last) w → Solves (FromPass m first) g t w

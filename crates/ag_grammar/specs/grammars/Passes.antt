@@ -64,7 +64,7 @@ MayUse k zero i p = p ≤ k
 MayUse k (suc j) i p = ((i ≡ 0) × (p ≤ k)) ⊎ (IsBefore (direction_of k) i (suc j) × (p ≤ k)) ⊎ (p < k)
 
 -- If the target of a rule of the production has a pass, each argument of the rule has one too, and `MayUse` allows its use. The
--- relation P assigns passes to attributes at places, but perhaps not to all: so attributes with a pass depend only on
+-- relation P assigns passes to attributes at places. If P assigns no pass to some attributes, those with a pass depend only on
 -- attributes with a pass.
 abbrev pub IsLegalFor : (Production → Target → ℕ → Type 0) → Production → Type 0
 IsLegalFor P q = (r : Rule) (o : Target) (k : ℕ) → IsRule q r → IsArgument r o → P q r.target k

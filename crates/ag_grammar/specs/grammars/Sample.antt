@@ -45,7 +45,7 @@ symbol_r = record { name = 82 ∷ []; syn = out_name ∷ []; inh = [] }
 abbrev pub symbol_a : Symbol
 symbol_a = record { name = 65 ∷ []; syn = s_name ∷ []; inh = i_name ∷ [] }
 
--- a rule that copies to its target the attribute of this name and number a at place j
+-- a rule whose target gets the value of the attribute at place j with this name and the number a
 abbrev pub copy_rule : Target → ℕ → List ℕ → ℕ → Rule
 copy_rule target j name a =
     record { target = target; expr = (node_of.Occurrence 0, named j name ∷ []); args = attribute j a ∷ [] }

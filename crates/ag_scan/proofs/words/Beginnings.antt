@@ -11,7 +11,7 @@ use Rattle.ag_scan.specs.declared.starts.StartingLiterals.TheVariants.{Sole}
 use Rattle.ag_scan.specs.Table.{IsPrefix, IsTable, IsLongestPrefix, HasNoPrefix, AreCovered, Covers, with_one}
 use Rattle.ag_scan.proofs.words.Tables.{compared, same_there}
 
--- what is stored for a byte still includes an entry after one more that begins with the byte
+-- if what is stored for a byte covers an entry, it still covers that entry after another one was added
 still_covered : (k : ℕ) (s : StartingLiterals) (index : ℕ) → Covers k s → Covers k (with_one s index)
 still_covered k s index h = grind arith
 
@@ -47,7 +47,7 @@ module _ (entries : List LiteralEntry) (starts : List StartingLiterals) (index b
   pub one_covered : AreCovered entries (set starts b (with_one s index)) (index + 1)
   one_covered = record { whole = length-set starts b (with_one s index) ∙ exact.whole; each = by }
 
--- The result for a text for whose first byte only one entry is stored (`Sole`).
+-- The result for a text with the first byte b, if only one entry is stored for b (`Sole`).
 module _ (literals : List (List ℕ)) (entries : List LiteralEntry) (shorter : List (Option ℕ))
     (table : IsTable literals entries shorter) (starts : List StartingLiterals)
     (exact : AreCovered entries starts (length entries)) (text : List ℕ) (b : ℕ) (rest : List ℕ) (e : text ≡ b ∷ rest)

@@ -18,7 +18,7 @@ no_wider [] ys us vs e h = omega arith
 no_wider (x ∷ xs) [] us vs e h = absurd (omega arith)
 no_wider (x ∷ xs) (y ∷ ys) us vs e h = let more = no_wider xs ys us vs in grind arith
 
--- and the narrower one is not longer
+-- of two prefixes of a text, the narrower one is not longer
 pub no_longer : (xs ys us vs : List ℕ) → xs ++ us ≡ ys ++ vs → width xs ≤ width ys → length xs ≤ length ys
 no_longer [] ys us vs e h = omega arith
 no_longer (x ∷ xs) [] us vs e h = let some = (len_utf8_bounds x).0 in absurd (omega arith)
@@ -33,7 +33,7 @@ module _ (v : Vocabulary) (cs : List ℕ) where
   no_word none no_class word more split (Literal l, lex, is) = none word more split (l, is.0)
   no_word none no_class word more split (Class c, lex, is) = no_class word more split (c, lex, is.0, is.1)
 
-  -- a word of a class is the token if each literal at the beginning is shorter,
+  -- a word of a class is the token if each literal at the beginning is shorter
   class_token : (f : LeadingWord) → (cut : IsLeadingClassWord v.classes cs f)
       → ((word more : List ℕ) → cs ≡ word ++ more → IsLiteral v.literals word → length word < length cut.word)
       → IsLeadingToken v cs f
@@ -51,7 +51,7 @@ module _ (v : Vocabulary) (cs : List ℕ) where
       tie : IsLiteral v.literals cut.word → ⊥
       tie is = let k = less cut.word f.rest cut.split is in omega arith
 
-  -- and a literal is the token if no word of a class at the beginning is longer
+  -- a literal is the token if no word of a class at the beginning is longer
   literal_token : (f : LeadingWord) → (cut : IsLeadingLiteral v.literals cs f)
       → ((word more : List ℕ) → cs ≡ word ++ more → IsClassWord v.classes word → length word ≤ length cut.word)
       → IsLeadingToken v cs f

@@ -29,7 +29,7 @@ same_there xs i j x y ex ey e = grind arith
 pub prefix_fits : (p text : List ℕ) → IsPrefix p text → length p ≤ length text
 prefix_fits p text (rest, e) = omega (arith, ap length e, length-append p rest)
 
--- no entry after the last one that is a prefix of the text is a prefix of it
+-- no entry after the last prefix of the text is a prefix of the text
 pub last_after : (entries : List LiteralEntry) (bound : ℕ) (text : List ℕ) (o : Option ℕ) → IsLastPrefixIfAny entries bound text o
     → NoPrefix entries (after_last o) bound text
 last_after entries bound text o h = grind arith
@@ -52,7 +52,7 @@ split i k less others = compared i k less (λ same. others (omega arith)) (λ mo
 
 module _ (entries : List LiteralEntry) (shorter : List (Option ℕ)) (bound : ℕ) (text : List ℕ) (ordered : AreOrdered entries)
     (linked : AreLinked entries shorter) (up : AreNotAfter entries bound text) where
-  -- if the entry at `last` is not a prefix of the text, no entry after the one that it links to is
+  -- if the entry at `last` is not a prefix of the text, then no entry after the one to which it links is a prefix of the text
   pub goes_on : (limit last : ℕ) (w : LiteralEntry) (o : Option ℕ) → limit ≤ bound → limit ≡ last + 1
       → NoPrefix entries limit bound text → slice_get entries last ≡ Some w → slice_get shorter last ≡ Some o
       → (IsPrefix w.text.now text → ⊥)

@@ -52,7 +52,7 @@ well_text text utf8 short = record {
 pub decimal_short : (z : ℤ) → mag z < 2 ^ 63 → length (signed_decimal z) ≤ 1048571
 decimal_short z within = let e = length_signed_le 19 z (omega arith) within in omega (arith, e)
 
--- an i64 is z or -z - 1 for a number z below 2^63 (`mag`)
+-- an i64 is n or -n - 1 for a number n below 2^63; this n is its `mag`
 pub within_width : (z : ℤ) → mag (to_z w64 (of_z w64 z)) < 2 ^ 63
 within_width z = first_of (search rules, omega (arith, ints), grind (arith, ints))
 

@@ -13,7 +13,7 @@ fit v =
     if nat_lt max_value_depth (depth_of v) then value.Fault Deep
     else (if nat_lt max_weight (weight_of v) then value.Fault Big else v)
 
--- The value v is well, and has this weight and this depth. `Measured` of `ag_eval` has such values.
+-- The value v is well, and has this weight and this depth. This is the invariant of `Measured` of `ag_eval`.
 pub record IsMeasured (v : Value) (weight depth : ℕ) : Type 0 where
   pub well : IsWell v
   pub weight_is : weight ≡ weight_of v

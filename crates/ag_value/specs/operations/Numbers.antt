@@ -44,8 +44,8 @@ of_numbers f left right = from_numbers f (out-Value left) (out-Value right)
 abbrev pub is_digits : List ℕ → Bool
 is_digits digits = nat_lt 0 (length digits) && list_all is_ascii_digit digits
 
--- The number that these bytes denote, if there is at least one, all are digits, and the number is in the range of i64. `sign`
--- negates the number that the digits denote, or leaves it as it is.
+-- The number that digits denote, after `sign`, which negates it or leaves it as it is. `None` if there is no digit, if another
+-- byte is among them, or if the number after `sign` is not in the range of i64.
 abbrev pub signed_number : (ℤ → ℤ) → List ℕ → Option ℤ
 signed_number sign digits =
     if is_digits digits && is_i64 (sign (pos (digits_value 10 digits))) then Some (sign (pos (digits_value 10 digits))) else None

@@ -15,7 +15,7 @@ use Rattle.ag_value.specs.operations.Fitting.{fit}
 abbrev pub pair_with : List ℕ → List (List ℕ × Value) → Option (List ℕ × Value)
 pair_with key pairs = find (λ p. bytes_eq p.0 key) pairs
 
--- for pairs whose keys ascend: the pairs with this one added, or put in the place of the one with this key; the keys ascend too
+-- pairs whose keys ascend, with v as the value of `key`: a pair is added, or replaces the one with this key; keys still ascend
 abbrev pub with_pair : List ℕ → Value → List (List ℕ × Value) → List (List ℕ × Value)
 with_pair key v pairs = filter (λ p. is_before p.0 key) pairs ++ (key, v) ∷ filter (λ p. is_before key p.0) pairs
 

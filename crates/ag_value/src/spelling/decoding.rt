@@ -19,8 +19,8 @@ use crate::walks::wellness::has_ascending_keys;
 use std::alloc::Global;
 use std::str::from_utf8;
 
-/// The length of the shortest spelling of an item (an empty text, list or table), in bytes. An
-/// error is shorter, but is never an item. The spelling of a pair has at least 9 bytes.
+/// The length of the shortest spelling of an item (an empty text, list or table), in bytes. The
+/// spelling of an error is shorter, but an error is never an item. Spellings of pairs are longer.
 const MIN_ITEM_LENGTH: usize = 5;
 
 /// The greatest number of items or pairs for which room is reserved before the first of them is
@@ -53,11 +53,12 @@ pub fn decode(alloc: Global, input: &[u8]) -> Result<(Value, usize), ValueFault>
     Ok((value, len))
 }
 
-/// Reads the value, of a depth of at most `levels`, at the beginning of the bytes. Returns it and
-/// the bytes after it. Fails with V1 if the bytes begin with no spelling of such a value, if a list
-/// or table contains an error, or if the keys of a table are not strictly ascending. Can also fail
-/// with NoMemory. Errors are read here, since `item_of` rejects them. Numbers are read here to save
-/// a call.
+/// Reads a value at the beginning of the bytes. Returns the value and the bytes after it. Fails
+/// with V1 if the bytes don't begin with the spelling of a value, if the value is deeper than
+/// `levels`, if a list or table contains an error, or if the keys of a table are not strictly
+/// ascending. Can also fail with NoMemory.
+///
+/// Errors are read here, since `item_of` rejects them. Numbers are read here to save a call.
 #[inline(always)]
 #[tactic(auto, unfolding(crate::specs::Reading::value_at, crate::specs::Reading::item_at))]
 fn leading_value(alloc: Global, levels: usize, bytes: &[u8]) -> Result<(Value, &[u8]), ValueFault>
@@ -73,10 +74,10 @@ fn leading_value(alloc: Global, levels: usize, bytes: &[u8]) -> Result<(Value, &
     }
 }
 
-/// Reads the value, of a depth of at most `levels`, at the beginning of the bytes. Returns it and
-/// the bytes after it. Fails with V1 if the bytes begin with no spelling of such a value, if the
-/// value is an error or contains one, or if the keys of a table are not strictly ascending. Can
-/// also fail with NoMemory.
+/// Reads a value at the beginning of the bytes. Returns the value and the bytes after it. Fails
+/// with V1 if the bytes don't begin with the spelling of a value, if the value is deeper than
+/// `levels`, if it is an error or contains an error, or if the keys of a table are not strictly
+/// ascending. Can also fail with NoMemory.
 #[cycle(reading)]
 #[tactic(auto, unfolding(crate::specs::Reading::item_at))]
 fn item_of(alloc: Global, levels: usize, bytes: &[u8]) -> Result<(Value, &[u8]), ValueFault>
@@ -171,8 +172,9 @@ fn pair_of(alloc: Global, levels: usize, bytes: &[u8]) -> Result<((Text, Value),
     Ok(((key, value), rest))
 }
 
-/// Returns the number of items or pairs to reserve room for: `count`, but at most [`MAX_RESERVED`],
-/// and at most one for every [`MIN_ITEM_LENGTH`] bytes. So a wrong count takes little memory.
+/// Returns the number of items or pairs to reserve room for: the least of `count`,
+/// [`MAX_RESERVED`], and the number of bytes divided by [`MIN_ITEM_LENGTH`]. So a wrong count takes
+/// little memory.
 fn room_for(count: u32, bytes: &[u8]) -> usize {
     (count as usize)
         .min(bytes.len() / MIN_ITEM_LENGTH)
@@ -211,8 +213,9 @@ fn code_of(number: u8) -> Option<ErrorCode>
     }
 }
 
-/// Reads a length in four bytes, and a text of that many bytes. Fails with V1 if there are fewer
-/// bytes or the text is not UTF-8. Can also fail with NoMemory.
+/// Reads a length in four bytes, and a text of that length in bytes. Returns the text and the bytes
+/// after it. Fails with V1 if the bytes end before the text does, or if the text is not UTF-8. Can
+/// also fail with NoMemory.
 #[tactic(auto, unfolding(crate::specs::Reading::text_at))]
 fn text_of(alloc: Global, bytes: &[u8]) -> Result<(Text, &[u8]), ValueFault>
     ensures { Agrees (λ x. (x.0, x.1.now)) result (text_at bytes.now) }
@@ -243,7 +246,7 @@ fn utf8_of(bytes: &[u8]) -> Option<&str>
 }
 
 /// Reads a big-endian number of four bytes. Returns it and the bytes after it. Fails with V1 if
-/// there are fewer.
+/// there are fewer than four bytes.
 fn u32_of(bytes: &[u8]) -> Result<(u32, &[u8]), ValueFault>
     ensures { Agrees (λ x. (x.0, x.1.now)) result (number_at w32 bytes.now) }
 {
@@ -256,7 +259,7 @@ fn u32_of(bytes: &[u8]) -> Result<(u32, &[u8]), ValueFault>
 }
 
 /// Reads a big-endian number of eight bytes. Returns it and the bytes after it. Fails with V1 if
-/// there are fewer.
+/// there are fewer than eight bytes.
 #[inline(always)]
 fn u64_of(bytes: &[u8]) -> Result<(u64, &[u8]), ValueFault>
     ensures { Agrees (λ x. (x.0, x.1.now)) result (number_at w64 bytes.now) }

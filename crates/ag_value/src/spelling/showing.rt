@@ -1,4 +1,4 @@
-//! The text of a value for a reader.
+//! The text of a value, as `aggen value` prints it.
 ghost use Rattle.std.specs.Prelude.{◌≡◌, ◌++◌, codes, string_bytes, map, IfOk, OnOk};
 ghost use Rattle.std.specs.Fmt.{signed_decimal};
 ghost use Rattle.std.specs.List.{flat_map};
@@ -12,10 +12,16 @@ use crate::value::{ErrorCode, Value};
 use itoa::Buffer;
 use std::alloc::Global;
 
-/// Returns the text of a value: a number in decimal; a text in double quotes, with a backslash
-/// before a double quote and a backslash, and `\n`, `\t`, `\r` for line feed, tab and carriage
-/// return; a list as `[a, b]`; a table as `{"k": v, "l": w}`; an error as `error` and its name,
-/// such as `error overflow`. Fails with NoMemory.
+/// Returns the text of a value:
+///
+/// - of a number: its decimal digits, after a `-` if it is negative;
+/// - of a text: its characters in double quotes. `"` and `\` have a backslash before them, and line
+///   feed, tab and carriage return are written as `\n`, `\t` and `\r`;
+/// - of a list: `[a, b]`;
+/// - of a table: `{"k": v, "l": w}`;
+/// - of an error: `error` and its name, such as `error overflow`.
+///
+/// Fails with NoMemory.
 pub fn show(alloc: Global, value: &Value) -> Result<String, NoMemory>
     ensures { IfOk result (λ text. string_bytes text ≡ shown_of value.now) }
 {

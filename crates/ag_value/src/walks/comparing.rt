@@ -20,7 +20,7 @@ pub fn same(a: &Value, b: &Value) -> bool
     }
 }
 
-/// Returns whether two lists have equally many items, and the same ones in the same order.
+/// Returns whether two lists have the same items in the same order.
 #[cycle(same)]
 fn same_items(xs: &[Value], ys: &[Value]) -> bool
     ensures { IsTrue result ↔ (xs.now ≡ ys.now) }
@@ -36,7 +36,7 @@ fn same_items(xs: &[Value], ys: &[Value]) -> bool
     true
 }
 
-/// Returns whether two tables have equally many pairs, and the same ones in the same order.
+/// Returns whether two tables have the same pairs in the same order.
 #[cycle(same)]
 fn same_pairs(xs: &[(Text, Value)], ys: &[(Text, Value)]) -> bool
     ensures { IsTrue result ↔ (xs.now ≡ ys.now) }

@@ -15,8 +15,8 @@ pub fn is_well(value: &Value) -> bool
     ensures { IsTrue result ↔ IsWell value.now }
 {
     match value {
-        // A short way for numbers, since most values are numbers. `_in_range` is for the proof: of
-        // a number that is read, the prover knows that it is in the range of i64.
+        // Numbers come first, since most values are numbers. `_in_range` is for the proof: the
+        // prover knows that a number is in the range of i64 once the code has read the number.
         Value::Num(n) => {
             let _in_range = *n;
             true
@@ -27,7 +27,7 @@ pub fn is_well(value: &Value) -> bool
 }
 
 /// Returns whether a list or table may contain this value: at every level, keys rise strictly and
-/// no value is an error. Its weight and depth are not tested.
+/// no value is an error. Doesn't test the weight and the depth.
 #[cycle(items)]
 #[tactic(auto, using(crate::proofs::Layers::items, crate::proofs::Utf8::utf8))]
 fn is_item(value: &Value) -> bool

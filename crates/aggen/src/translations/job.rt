@@ -27,7 +27,8 @@ use treefile::Device;
 /// if no line is `%%`. Then fails as `Translator::build` does for the grammar, before a device is
 /// used, and as `Translator::translate` does for the sentence. Fails with NoMemory if memory is
 /// refused. After every fault except O2 `out` is unchanged. A fault before the translation leaves
-/// the devices unchanged. After a later one the devices have what `Translator::translate` leaves.
+/// the devices unchanged. After a fault of the translation the devices have what
+/// `Translator::translate` leaves.
 #[tactic(auto, using(crate::proofs::Begun::begun))]
 pub fn run_job<R: Read + Drop, D: Device, W: Write>(
     alloc: Global,

@@ -125,8 +125,8 @@ fn first_occurrence(expr: &Expr) -> Option<usize>
     }
 }
 
-/// The environment of an expression without occurrences. `lend` has to return a value, so there is
-/// one, 0, for each number of an occurrence. No evaluation reads it. (`count` may be any number.)
+/// The environment of an expression without occurrences. `lend` has to return a value, and returns
+/// the number 0. No evaluation uses this value. (`count` may be any number.)
 #[derive(Drop)]
 struct NoOccurrences {
     number: Value,

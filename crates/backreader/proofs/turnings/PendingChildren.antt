@@ -9,7 +9,7 @@ use Rattle.backreader.specs.turning.Taking.{levels_before, pending_levels, pendi
 use Rattle.treefile.specs.records.Orders.{AllMatchArity, BodyForest, BodyTree, MatchesArity, branch, deepest, depth_of, more}
 use Rattle.treefile.specs.records.Orders.{none, prefix, prefix_all, tree_count}
 
--- a list with a level `count` times and once more is the one with the level once and `count` times more
+-- a level that is added `count` times after one such level may as well be added `count` times before it
 levels_swap : (count level : ℕ) (levels : List ℕ)
     → levels_before count level (level ∷ levels) ≡ level ∷ levels_before count level levels
 levels_swap zero level levels = refl

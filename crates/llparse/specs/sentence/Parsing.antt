@@ -178,7 +178,7 @@ IsRefused k offset fault.TooManyNodes = IsTooLarge k
 IsRefused k offset fault.Device = Unit {0}
 IsRefused k offset fault.NoMemory = Unit {0}
 
--- the sum of the lengths of the right sides, which is at least each of them
+-- the sum of the lengths of the right sides, so no right side is longer than this sum
 abbrev pub total_length : List Production → ℕ
 total_length [] = 0
 total_length (q ∷ qs) = length q.items + total_length qs
@@ -189,7 +189,7 @@ abbrev pub own_steps : Grammar → List OpenProduction → ℕ
 own_steps g [] = 0
 own_steps g (f ∷ fs) = suc (length (drop f.passed (right_side g f.production))) + own_steps g fs
 
--- A bound of the number of steps that remain (`left` is not a left side here). A node that is opened adds at most
+-- A bound of the number of steps that remain (`left` means remaining, not a left side). A node that is opened adds at most
 -- `total_length g.productions + 1` steps to `own_steps`; the factor is greater by one, so that opening makes the bound smaller.
 abbrev pub steps_left : Grammar → ℕ → List OpenProduction → ℕ → ℕ
 steps_left g nodes fs count = (total_length g.productions + 2) * (nodes - count) + own_steps g fs

@@ -17,9 +17,9 @@ pub record IsTreeWith (g : Grammar) (words : List Lexeme) (t : Tree) : Type 0 wh
   pub tree : IsTreeOf g t
   pub yields : yield_of g t ≡ words
 
--- The token at an index can't be taken, or, if the index is the number of words, the sentence can't end there. The words before
--- the index are a prefix of some sentence. No sentence continues them with a word of the token's terminal; if the index is the
--- number of words, no sentence consists of them.
+-- The token at an index can't be taken. (If the index is the number of words: the sentence can't end there.) The words before the
+-- index are a prefix of some sentence. No sentence continues these words with a word of the token's terminal. If the index is the
+-- number of words, these words are not a sentence.
 pub record IsStuckAt (g : Grammar) (words : List Lexeme) (index : ℕ) : Type 0 where
   pub within : index ≤ length words
   pub begins : (rest : List Lexeme) × (t : Tree) × IsTreeWith g (take index words ++ rest) t
@@ -30,7 +30,7 @@ pub record IsStuckAt (g : Grammar) (words : List Lexeme) (index : ℕ) : Type 0 
 -- the open nodes (P2), or the nodes that are open or done (P3). At some index the limit is reached: some tree begins with the
 -- words before the index, is cut at that index (`IsCutAt`), and `begun` of the open nodes above the cut is at least the limit.
 -- Each tree that begins with the words before the index, and continues with any words whose look-ahead is that of the given words
--- at the index, is beyond the limit. So each tree of the given words is beyond the limit (a law). There may be no such tree.
+-- at the index, is beyond the limit. By the law `left_trees_are_beyond_the_limit`, so is each tree of the words, if there is one.
 pub record LeavesOnly (g : Grammar) (words : List Lexeme) (size : Tree → ℕ) (begun : List Open → ℕ) (limit : ℕ) : Type 0 where
   pub index : ℕ
   pub within : index ≤ length words
@@ -51,6 +51,6 @@ LeavesOnlyDeeper limit g words = LeavesOnly g words depth_of (λ above. length a
 abbrev pub LeavesOnlyLarger : ℕ → Grammar → List Lexeme → Type 0
 LeavesOnlyLarger limit g words = LeavesOnly g words node_count opened limit
 
--- an offset is that of the token that can't be taken, or of the last one (0 if there is none) if the sentence can't end
+-- an offset is that of the token that can't be taken; if the sentence can't end, that of the last token, or 0 if there is none
 abbrev pub IsUnexpectedAt : Grammar → List Token → ℕ → Type 0
 IsUnexpectedAt g ts at = (i : ℕ) × IsStuckAt g (words_of ts) i × (at ≡ offset_at ts i)

@@ -60,7 +60,7 @@ IsFull p fault.TooDeep = max_depth ≤ length p.waiting.items + 1
 IsFull p fault.TooManyNodes = max_nodes ≤ p.count
 IsFull p fault = ⊥
 
--- a bound of the number of steps that remain (`left` is not a left side here)
+-- a bound of the number of steps that remain (`left` means remaining, not a left side)
 abbrev pub left_of : Grammar → OpenProduction → Parser → ℕ
 left_of g node p = steps_left g max_nodes (node ∷ reverse p.waiting.items) p.count
 

@@ -34,8 +34,8 @@ fn take_unwritten(parser: &mut Parser<'_>, terminal: Terminal) -> Result<(), Par
 }
 
 /// Returns the next item of an open node, and moves the node past it. Returns `None` at the node's
-/// end, and if the grammar doesn't have the node's production, as tables of another grammar may
-/// choose it.
+/// end. Also returns `None` if the grammar doesn't have the node's production: tables of another
+/// grammar can choose such a production.
 fn next_if_any(grammar: &Grammar, node: &mut OpenProduction) -> Option<Item>
     ensures { Advances (right_side grammar.now node.old.production) node.old result node.new }
 {
@@ -134,9 +134,9 @@ fn can_accept(
 }
 
 /// A parser that has taken the first tokens of a sentence, possibly none, and its innermost open
-/// node. The node is `None` only if no token is taken, since the first token chooses the root's
-/// production. Otherwise it is the node that has the last token taken on its right side; it may be
-/// at its end.
+/// node. If no token is taken, the node is `None`: only the next look-ahead will choose the root's
+/// production. Otherwise the node is the one that has the last token taken on its right side. This
+/// node may be at its end.
 #[derive(Drop)]
 struct Position<'t> {
     parser: Parser<'t>,
@@ -191,8 +191,8 @@ fn expected_after(
     Ok(expected)
 }
 
-/// The place where `parse` fails with P1. If `parse` doesn't fail with P1, `index` and `found` are
-/// those of the token where the parser stopped, or of the end, and `expected` is empty.
+/// The place where `parse` fails with P1. If `parse` doesn't fail with P1, this is the place where
+/// the parser stopped (a token, or the end of the sentence), and `expected` is empty.
 #[derive(Drop)]
 pub struct StuckPlace<'t> {
     /// The number of tokens before the one that can't be taken; the number of all tokens, if the
@@ -245,12 +245,15 @@ fn position_after<'t>(
 }
 
 /// Returns the place where `parse` refuses this sentence with P1, and the look-aheads expected
-/// there. Each look-ahead is tried after the tokens before that place, with all nodes that are open
-/// there. So a look-ahead that the tables allow only in other contexts is not returned. If `parse`
-/// doesn't fail with P1, no look-ahead is returned, and the place is only where the parser stopped:
-/// at the end, or where it reached a limit. (`parse` stands for a call that doesn't fail with D1 or
-/// NoMemory.) The contract says only that the look-aheads are literals of the grammar, classes or
-/// the end; the rest is tested.
+/// there. (`parse` means here a call that doesn't fail with D1 or NoMemory.) Each look-ahead is
+/// tried after the tokens before that place, with all nodes that are open there. So a look-ahead
+/// that the tables allow only in other contexts is not returned.
+///
+/// If `parse` doesn't fail with P1, no look-ahead is returned. The place is then where the parser
+/// stopped: at the end, or where it reached a limit.
+///
+/// The contract says only that the look-aheads are literals of the grammar, classes or the end. The
+/// rest is tested.
 ///
 /// If the tables are not the grammar's, the result is the place where a parse by them is stuck, and
 /// what they allow there. Reads the tokens before the place twice, and copies the stack of open

@@ -1,4 +1,4 @@
-//! The reasons why a sentence is refused.
+//! The reasons why a parse fails.
 ghost use Rattle.std.specs.Prelude.{◌≡◌};
 ghost use Rattle.llparse.specs.sentence.Refusals.{parse_fault_of};
 ghost use Rattle.llparse.specs.declared.sentence.parse_fault.ParseFault.TheVariants as parse_fault;
@@ -6,13 +6,13 @@ ghost use Rattle.llparse.specs.declared.sentence.parse_fault.ParseFault.TheVaria
 use ag_value::NoMemory;
 use treefile::DeviceFault;
 
-/// The reasons why a sentence is refused.
+/// The reasons why a parse fails.
 #[derive(Clone, Copy, Debug, PartialEq, Eq)]
 pub enum ParseFault {
     /// P1: no tree has these tokens. Carries the offset, in bytes from the beginning of the
-    /// sentence, of the token that can't be taken. If the sentence ends too early, it is the offset
-    /// of the last token, or 0 if there is none. P2 or P3 comes instead if the parser reaches a
-    /// limit first.
+    /// sentence, of the token that can't be taken. If the sentence ends too early, the offset is
+    /// that of the last token, or 0 if there is none. P2 or P3 comes instead if the parser reaches
+    /// a limit first.
     Unexpected(u32),
     /// P2: each tree with these tokens is deeper than the limit. There may be no such tree (see
     /// P1).

@@ -99,7 +99,7 @@ fn run<D: Device>(
 /// After a fault an honest device has a prefix, possibly all, of a header of pass 0 followed by
 /// frames. Each body has 3 to 285,212,675 bytes, the lengths that a tree file allows
 /// (`docs/FORMATS.md`). The contract does not say that the bodies are records of a tree: after P1
-/// there is none. The writer is broken after D1, and after no other fault.
+/// there is no tree. The writer is broken after D1, and after no other fault.
 pub fn parse<D: Device>(
     alloc: Global,
     grammar: &Grammar,

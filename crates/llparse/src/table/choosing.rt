@@ -26,8 +26,8 @@ pub(crate) struct Column {
     pub(crate) conflict: Option<Pair>,
 }
 
-/// Returns the least conflict after one more production. Productions are handled from the last to
-/// the first, so `production` is less than the numbers of those handled so far. `chosen` is the
+/// Returns the least conflict after one more marked production. Productions are handled from the
+/// last to the first, so `production` is less than the numbers handled so far. `chosen` is the
 /// choice so far for the symbol of `production`, and `conflict` is the least conflict so far. If
 /// there is a choice, it conflicts with `production`, and this pair is the least conflict: each
 /// other pair has a greater first production, or the same and a greater second one. Otherwise the

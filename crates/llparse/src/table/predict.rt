@@ -15,8 +15,8 @@ use closure::{Clauses, Edge};
 use std::alloc::Global;
 
 /// Returns whether items can start with the look-ahead whose FIRST marks are `in_first`: an item
-/// has it in FIRST and all before that item are nullable, or all items are nullable and
-/// `following` is true.
+/// has it in FIRST and all items before that item are nullable, or all items are nullable and the
+/// look-ahead can come after them (`following`).
 fn items_can_start(
     sizes: Sizes,
     nullable: &[bool],

@@ -133,7 +133,7 @@ fn write_repetition(out: &mut String, left: &str) -> Result<(), AllocError> {
 }
 
 /// Writes that the look-ahead can also follow the symbol `left`, which can be empty, and that a
-/// token of its own has to come after this symbol.
+/// separate token, such as `;`, has to come after this symbol.
 fn write_separation(
     out: &mut String,
     left: &str,

@@ -139,8 +139,8 @@ fn occurrence_in(rule: &RawRule, at: usize) -> Option<&Occ> {
     None
 }
 
-/// Returns the symbol or class at a place of a production. None if there is none, or it is not
-/// declared.
+/// Returns the symbol or class at a place of a production. None if the production has no such
+/// place, or if the symbol is not declared.
 pub fn at_place<'a>(
     raw: &'a RawGrammar,
     production: &RawProduction,

@@ -504,9 +504,9 @@ fn write_at_place(
     Ok(shown)
 }
 
-/// Appends an occurrence to a list of `before` occurrences. Only the first `MAX_NAMED` are written:
-/// in place of the next one ` and more`, and nothing in place of the later ones. Returns the number
-/// of occurrences in the list.
+/// Appends an occurrence to a list of `before` occurrences. Writes only the first `MAX_NAMED`
+/// occurrences of a list. In place of the next one it writes ` and more`, and nothing in place of
+/// the later ones. Returns the number of occurrences in the list.
 fn write_occurrence(
     out: &mut String,
     before: usize,

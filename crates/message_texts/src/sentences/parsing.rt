@@ -13,9 +13,8 @@ use std::alloc::{AllocError, Global};
 /// The subject of the messages of P2 and P3: what has no tree within the limit.
 const SENTENCE: &str = "the sentence";
 
-/// Returns the location of P1: that of the token at which the parser stops or, if the sentence ends
-/// too early, that of the last token (offset 0 if there is none). Returns `Whole` for any other
-/// fault.
+/// Returns the location of P1: the token at which the parser stops. If the sentence ends too early,
+/// this is the last token, or offset 0 if there is none. Returns `Whole` for any other fault.
 pub fn locate_in_sentence(fault: ParseFault, sentence: &Source<'_>) -> Location {
     match fault {
         ParseFault::Unexpected(at) => Location::At(sentence.position(at as usize)),

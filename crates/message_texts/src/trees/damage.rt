@@ -100,7 +100,8 @@ impl TreeFormat<'_> {
         parts.add(ANOTHER_FILE, help)
     }
 
-    /// Describes the record that ends at the offset `at`, if one does, and the one that should.
+    /// Describes the record that ends at the offset `at`, if there is one, and the record that is
+    /// expected there.
     /// `expected` is the result of `expected_before`.
     fn describe_record(
         &self,

@@ -129,7 +129,7 @@ found_there raw q o occurs =
       sym (ap (λ ns. slice_get ns (number_in names o.attr)) (names_of raw q o.place)) ∙ occurs.name,
     )
 
--- and the names of a named rule are known
+-- the names of a named rule are known
 named_rule : (raw : RawGrammar) (q : RawProduction) (r : RawRule)
     → IsNamedRule (numbered raw) (produces raw q) (rule_of (symbols raw) (placed (symbols raw) q) r)
     → first_wrong (rule_checks (symbols raw) (placed (symbols raw) q) r) ≡ None

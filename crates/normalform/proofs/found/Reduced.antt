@@ -44,7 +44,7 @@ symbols_of [] = []
 symbols_of (item.Symbol s ∷ xs) = s ∷ symbols_of xs
 symbols_of (item.Terminal a ∷ xs) = symbols_of xs
 
--- Induction: a property that a left side has if all symbols of its right side have it holds of all productive symbols.
+-- Induction: P holds of all productive symbols if each left side has P whenever all symbols of its right side have P.
 mutual
   productive_in : (g : Grammar) (P : ℕ → Type 0)
       → ((p : ℕ) (q : Production) → slice_get g.productions p ≡ Some q → All P (symbols_of q.items) → P q.left) → (s : ℕ)
@@ -59,8 +59,8 @@ mutual
       All-cons P s (symbols_of xs) (productive_in g P closed s h) (items_in g P closed xs k)
   items_in g P closed (item.Terminal a ∷ xs) (a_terminal k) = items_in g P closed xs k
 
--- Induction: a property that the start symbol has, and each symbol of a right side if its left side has it, holds of all reached
--- symbols.
+-- Induction: P holds of all reached symbols if the start symbol has P, and if each symbol of a right side has P whenever the left
+-- side has P.
 symbols_in : (g : Grammar) (P : ℕ → Type 0) → P g.start
     → ((p : ℕ) (q : Production) (s : ℕ) → slice_get g.productions p ≡ Some q → P q.left → Has q.items (item.Symbol s) → P s)
     → (s : ℕ) → IsReached g s → P s
@@ -203,7 +203,7 @@ known texts text h = go (nat_lt (number_in texts text) (length texts)) refl (fou
     go true e h = ltb-true (number_in texts text) (length texts) e
     go false e h = absurd (cc)
 
--- and a name with the number of a symbol is known
+-- a name with the number of a symbol is known
 pub below_known : (texts : List (List ℕ)) (text : List ℕ) → number_in texts text < length texts
     → list_any (bytes_eq text) texts ≡ true
 below_known texts text lt = let e = lt-ltb (number_in texts text) (length texts) lt in

@@ -28,7 +28,7 @@ wrong-append xs ys =
 pub first_of : (xs ys : List Check) (fault : NormalFault) → Some fault ≡ first_wrong xs → Some fault ≡ first_wrong (xs ++ ys)
 first_of xs ys fault e = rw (wrong-append xs ys, ← e) refl
 
--- and if it has none, that of the checks after it
+-- if a list has no fault, the first fault is that of the checks after it
 pub rest_of : (xs ys : List Check) → None ≡ first_wrong xs → first_wrong ys ≡ first_wrong (xs ++ ys)
 rest_of xs ys e = rw (wrong-append xs ys, ← e) refl
 
@@ -112,7 +112,7 @@ map_more : {X : Type 0} (f : X → Check) (xs : List X) (i : ℕ) (d : X) → i 
 map_more f xs i d lt =
     ap (λ ys. first_wrong (map f ys)) (drop_more xs i d lt) ∙ wrong-append (f (get_or xs i d) ∷ []) (map f (drop (i + 1) xs))
 
--- the same along a list with one check for each element
+-- `wrong_here` for a list with one check for each element
 pub map_here : {X : Type 0} (f : X → Check) (xs : List X) (i : ℕ) (x : X) (fault : NormalFault) (all : Option NormalFault)
     → i < length xs → x ≡ get_or xs i x → Some fault ≡ first_wrong (f x ∷ []) → first_wrong (map f (drop i xs)) ≡ all
     → Some fault ≡ all

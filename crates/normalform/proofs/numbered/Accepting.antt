@@ -410,7 +410,7 @@ pub made : (raw : RawGrammar) → IsReadable raw → HasNoFault raw
 made raw readable none ss ps ls cs st e f listed g h k =
     rw (e, f, g, h, k) (accepted raw readable (listed_each (numbered raw).productions (rw f at listed)) none)
 
--- a grammar with a first fault is not without fault
+-- a grammar that has a first fault has a fault
 pub first_excludes : (raw : RawGrammar) (f : NormalFault) → IsFirstFault raw f → HasNoFault raw → ⊥
 first_excludes raw f (in_names e) none = absurd (cc (e, none.names))
 first_excludes raw f (in_productive n first) none =

@@ -70,7 +70,7 @@ first_more keys key numbered none = record {
   below = below_more keys key numbered (inl none);
 }
 
--- and if a text that is there is appended with the key's index
+-- keys stay numbered if a text that is there is appended with the new key's index
 pub again_more : (keys : List Key) (key : Key) → AreNumbered keys
     → is_some (position (bytes_eq key.0.now) (texts_of_keys keys)) ≡ true
     → key.1 ≡ length keys → 0 < length keys → AreNumbered (keys ++ key ∷ [])

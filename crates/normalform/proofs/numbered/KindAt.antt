@@ -39,8 +39,8 @@ inherited_at [] inh a = some_inherited inh a ∙ grind (arith, nat_tests)
 inherited_at (x ∷ xs) inh zero = grind (arith, nat_tests)
 inherited_at (x ∷ xs) inh (suc a) = inherited_at xs inh a ∙ grind (arith, nat_tests)
 
--- attribute a of a declared symbol is synthesized exactly if a is below the number of synthesized attributes; and below it, when
--- it is inherited
+-- Attribute a of a declared symbol is synthesized exactly if a is below the number of synthesized attributes. The next lemma
+-- says when it is inherited.
 pub synthesizes_is : (o : Option Symbol) (s : RawSymbol) (syn : List Named) (a : ℕ) → o ≡ Some (symbol_of s) → syn ≡ s.syn
     → nat_lt a (length syn) ≡ is_kind Synthesized (slice_get (symbol_kinds o) a)
 synthesizes_is o s syn a e f =

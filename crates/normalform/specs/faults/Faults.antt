@@ -1,7 +1,7 @@
--- The faults of a raw grammar, kind by kind, and their order (this project's). Without N4 and N5 each symbol is productive and
--- reached (the textbook), without N6 to N8 the productions are complete (Knuth, 1968), and without N9 they are normal (Bochmann,
--- 1976). Each kind but N4 and N5 is a list of checks. The checks of N6 are ordered by production, place and attribute, those of
--- N10 as the variants of `LimitKind`, and those of other kinds as the raw grammar's lists. N4 and N5 name the first wrong symbol.
+-- The faults of a raw grammar, kind by kind, and their order (this project's). In a grammar without N4 and N5 each symbol is
+-- productive and reached (the textbook). A grammar without N6 to N8 is complete (Knuth, 1968), and one without N9 is normal
+-- (Bochmann, 1976). Each kind but N4 and N5 is a list of checks. The checks of N6 are ordered by production, place and attribute,
+-- those of N10 as in `LimitKind`, and other checks as the raw grammar's lists. N4 and N5 name the first wrong symbol.
 -- In this file, `ss` are the declared symbols, `names` the names of symbols (in `doubled_names` also those of attributes), `qs`
 -- productions, `q` one of them and `p` its number, `items` the items at its places, `r` a rule, `o` an occurrence, and `ts`
 -- targets of rules.
@@ -82,7 +82,7 @@ unknown_checks ss qs = flat_map (unknown_in ss) qs
 abbrev pub new_check : List (List ℕ) → Named → List Check
 new_check seen name = (fault.DoubledName name.at, not (list_any (bytes_eq name.name) seen)) ∷ []
 
--- the seen names, and this one
+-- the seen names, and this name
 abbrev pub with_name : List (List ℕ) → Named → List (List ℕ)
 with_name seen name = with_text seen name.name
 
@@ -155,7 +155,7 @@ missing_check ts p place a = (fault.RuleMissing p place a, list_any (same_target
 abbrev pub missing_at : List Symbol → List Target → ℕ → ℕ → Item → List Check
 missing_at ss ts p place x = map (missing_check ts p place) (defined_at ss place x)
 
--- the argument g of `checks_along` if the state is the index of the element: the next index
+-- for `checks_along`, if the state is the index of an element: the index of the next element
 abbrev pub next_index : {X : Type 0} → ℕ → X → ℕ
 next_index n x = n + 1
 
@@ -167,7 +167,7 @@ missing_in ss p q = checks_along (missing_at ss (targets_of ss (placed ss q) q.r
 abbrev pub missing_checks : List Symbol → List RawProduction → List Check
 missing_checks ss qs = checks_along (missing_in ss) next_index 0 qs
 
--- N7. The check of a rule's target: it is not one of those of the earlier rules of the production.
+-- N7. The check of a rule's target: no earlier rule of the production has the same target.
 abbrev pub new_target : List Symbol → List Item → List Target → RawRule → List Check
 new_target ss items ts r = (fault.RuleDoubled r.target.at, not (list_any (same_target (target_of ss items r.target)) ts)) ∷ []
 

@@ -74,7 +74,8 @@ fn push_edges(edges: &mut Vec<Edge>, clause: &Clause) -> Result<(), NoMemory>
     Ok(())
 }
 
-/// Returns the edges by which symbols are reached: from each head to each number of its body.
+/// Returns the edges by which symbols are reached: for each clause, the edges from its head to each
+/// number of its body.
 pub fn reach_edges(alloc: Global, clauses: &[Clause]) -> Result<Vec<Edge>, NoMemory>
     ensures { IfOk result (λ edges. edges.items ≡ spec.reach_edges clauses.now) }
 {

@@ -19,7 +19,7 @@ use ag_grammar::{RawItem, RawProduction, RawSymbol};
 use ag_value::NoMemory;
 use std::alloc::Global;
 
-/// Appends to `texts` each literal of a right side that is not there yet.
+/// Appends to `texts` each literal of a right side that `texts` does not have yet.
 fn list_literals<'t>(texts: &mut Names<'t>, items: &'t [RawItem]) -> Result<(), NoMemory>
     ensures { OnOk result (texts.new ≡ fold with_item texts.old items.now) }
 {

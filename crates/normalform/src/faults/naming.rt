@@ -97,7 +97,7 @@ fn doubled_name<'t>(seen: &mut Names<'t>, name: &'t Named) -> Result<Option<Norm
 }
 
 /// Returns N2 for the first name of `names` that is in `seen` or repeats an earlier name of
-/// `names`. Adds the names before that one to `seen`, or all of them if there is none.
+/// `names`. Adds the names before this name to `seen`. Adds all names if there is no such name.
 fn doubled_names<'t>(
     seen: &mut Names<'t>,
     names: &'t [Named],

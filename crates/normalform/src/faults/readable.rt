@@ -1,5 +1,5 @@
-//! Tests whether a raw grammar is readable: no literal is empty or has a separator, and each class
-//! is NAME, NUMBER or TEXT.
+//! Tests whether a raw grammar is readable: each literal has at least one byte and contains no
+//! separator, and each class is NAME, NUMBER or TEXT.
 ghost use Rattle.std.specs.Prelude.{◌≡◌, ◌↔◌, IsTrue};
 ghost use Rattle.std.specs.List.{list_all};
 ghost use Rattle.normalform.specs.faults.Faults.{IsReadable};
@@ -31,8 +31,8 @@ fn is_readable_text(text: &[u8]) -> bool
     true
 }
 
-/// Returns whether an item is readable: a literal is not empty and has no separator, and a class is
-/// one of the three. The name of a symbol is always readable.
+/// Returns whether an item is readable: it is the name of a symbol, or a literal that has at least
+/// one byte and contains no separator, or one of the classes NAME, NUMBER and TEXT.
 fn is_readable_item(item: &RawItem) -> bool
     ensures { result ≡ readable_item item.now }
 {
@@ -67,10 +67,10 @@ fn are_readable(productions: &[RawProduction]) -> bool
     true
 }
 
-/// Returns whether each class of a raw grammar is NAME, NUMBER or TEXT (0 to 2), and no literal is
-/// empty or has a space, tab, CR or LF. This holds for every grammar that is parsed from a text. If
-/// a program makes a raw grammar in another way, this function tests what `check` requires. Takes
-/// no memory.
+/// Returns whether a raw grammar is readable: each class is NAME, NUMBER or TEXT (0 to 2), and each
+/// literal has at least one byte and contains no space, tab, CR or LF. Every raw grammar that is
+/// parsed from a text is readable. If a program makes a raw grammar in another way, this function
+/// tests what `check` requires. Takes no memory.
 pub fn is_readable(raw: &RawGrammar) -> bool
     ensures { IsTrue result ↔ IsReadable raw.now }
 {

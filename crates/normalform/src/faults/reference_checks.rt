@@ -1,4 +1,4 @@
-//! A walk along the rules of productions, with a check of the attributes that they name.
+//! Checks the attributes that the rules of productions name.
 ghost use Rattle.std.specs.Prelude.{◌≡◌, ◌∷◌, [], map, IfOk};
 ghost use Rattle.normalform.specs.faults.ReferenceChecks.{check_of_occurrence, checks_of_rule, checks_of_production, checks_of};
 ghost use Rattle.normalform.specs.faults.Faults.{first_wrong};
@@ -25,7 +25,7 @@ pub enum RuleCheck {
     Used,
 }
 
-/// Returns the fault, unless `holds`.
+/// Returns the fault if `holds` is false.
 fn fault_unless(holds: bool, fault: NormalFault) -> Option<NormalFault>
     ensures { result ≡ first_wrong ((fault, holds) ∷ []) }
 {

@@ -51,9 +51,9 @@ fn targets_of(
     Ok(targets)
 }
 
-/// Returns N6 for the first attribute, at one place of a production, that needs a rule and has
-/// none. `production` is the production's number, `item` the item at the place, and `targets` has
-/// the targets of all rules of the production. The attribute of a token needs no rule.
+/// Returns N6 for the first attribute at `place` that needs a rule and has none. `production` is
+/// the number of a production, `item` the item at the place, and `targets` has the targets of all
+/// rules of the production. The attribute of a token needs no rule.
 fn missing_at(
     declared: &Declared<'_>,
     targets: &Targets,
@@ -153,7 +153,7 @@ fn doubled_rule(
     }
 }
 
-/// Returns N7 for the first rule with the target of an earlier one.
+/// Returns N7 for the first rule with the same target as an earlier rule.
 fn doubled_among(
     alloc: Global,
     declared: &Declared<'_>,
@@ -173,7 +173,7 @@ fn doubled_among(
     Ok(None)
 }
 
-/// Returns N7 for the first rule of a production with the target of an earlier one.
+/// Returns N7 for the first rule of a production with the same target as an earlier rule.
 fn doubled_in_production(
     alloc: Global,
     declared: &Declared<'_>,

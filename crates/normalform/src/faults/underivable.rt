@@ -1,7 +1,7 @@
-//! Finds the first symbol, by number, that is not productive or not reached: the first number that
-//! does not follow from clauses and seeds. Each seed follows, and the head of a clause follows if
-//! each number of its body does (`Follows` of the crate `closure`). The search for N4 has no seeds,
-//! and that for N5 has one, the start symbol.
+//! Finds the first symbol that is not productive (N4), or the first one that is not reached (N5).
+//! This is the least number that does not follow from clauses and seeds. Each seed follows, and the
+//! head of a clause follows if each number of its body follows (`Follows` of the crate `closure`).
+//! The search for N4 has no seeds. The search for N5 has one seed, the start symbol.
 ghost use Rattle.std.specs.Prelude.{◌≡◌, ◌<◌, ℕ, true, length, All, None, IfOk, IfSome};
 ghost use Rattle.closure.specs.Following.{is_marked, Follows};
 ghost use Rattle.normalform.specs.faults.Underivable.{IsFirstUnmarked, IsFirstUnderivable};
@@ -25,8 +25,8 @@ fn first_false(marks: &[bool]) -> Option<usize>
 }
 
 /// Returns the least number that does not follow from clauses and seeds, if there is one below the
-/// count with which `clauses` was made. This is the number of symbols. Fails with `NoMemory` if
-/// memory is refused.
+/// count with which `clauses` was made, the count of symbols. Fails with `NoMemory` if memory is
+/// refused.
 pub fn first_underivable(
     alloc: Global,
     clauses: &Clauses,

@@ -284,8 +284,8 @@ impl<'t> Declared<'t> {
         }
     }
 
-    /// Returns whether the symbol with a number exists and can be the start symbol: it has no
-    /// inherited attribute, and an attribute `out`, which is then synthesized.
+    /// Returns whether the symbol with number `symbol` exists, has no inherited attribute, and has
+    /// a synthesized attribute `out`.
     pub fn is_start(&self, symbol: usize) -> bool
         ensures { result ≡ spec.is_start (slice_get self.now symbol) }
     {

@@ -65,7 +65,7 @@ some_at [] k h = absurd (omega arith)
 some_at (x ∷ xs) zero h = (x, refl)
 some_at (x ∷ xs) (suc k) h = some_at xs k (omega arith)
 
--- The list of layouts has one for each production, and the one at the index of its number is that of the production.
+-- The list of layouts has a layout for each production. The layout of production number p is at index p.
 pub row_less : (c : Setting) (rows xs : List ProductionRow) (p : ℕ) → IsLayout c rows → xs ≡ rows
     → p < length c.grammar.productions → p < length xs
 row_less c rows xs p layout same less =
@@ -85,7 +85,7 @@ row_found c rows xs p row layout same is q there =
     let one : found.0 ≡ row = cc in
     subst (IsRowOf c p q) one found.2
 
--- A layout has slots for each rule, and those at the index of its number are the rule's.
+-- A layout has slots for each rule. The slots of rule number r are at index r.
 pub slots_less : (c : Setting) (p r : ℕ) (q : Production) (u : Rule) (row : ProductionRow) (xs : List RuleSlots)
     → IsRowOf c p q row → slice_get q.rules r ≡ Some u → xs ≡ row.rules → r < length xs
 slots_less c p r q u row xs is num same =

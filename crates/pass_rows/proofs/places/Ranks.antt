@@ -14,7 +14,7 @@ rank_counted k p ps a r some le is =
     let z : ◌≡◌ {A = ℕ} (if nat_le p k then 1 else 0) 1 = ap (λ b. if b then 1 else 0) (le-leb p k le) in
     omega arith
 
--- The same if the first one has no value in the row.
+-- The rank of an attribute after the first one, if the first one has no value in the row.
 pub rank_passed : (k p : ℕ) (ps : List ℕ) (a r : ℕ) → (a ≡ 0 → ⊥) → k < p → r ≡ rank k ps (a - 1) → r ≡ rank k (p ∷ ps) a
 rank_passed k p ps a r some less is =
     let m = rank_more k p ps a some in

@@ -17,8 +17,8 @@ pub record AreSlotsOf (c : Setting) (q : Production) (u : Rule) (slots : RuleSlo
   pub target : slots.target ≡ target_slot c q u.target.place u.target.attr
   pub args : AreRelated (λ o n. n ≡ argument_slot c q o.place o.attr) u.args slots.args
 
--- `row` is the layout of production q, which has number p: its instructions, the number of values in the row of a node and their
--- passes, the item at each place with the range of its copies, and the slots of each rule.
+-- `row` is the layout of production q, which has number p: its instructions, the number of values in the row of a node, the
+-- passes of these and of later values, the item at each place with the range of its copies, and the slots of each rule.
 pub record IsRowOf (c : Setting) (p : ℕ) (q : Production) (row : ProductionRow) : Type 0 where
   pub list : row.list ≡ list_at c p
   pub width : row.width ≡ stored_width c q

@@ -52,16 +52,11 @@ pub record AreTaken (read write : ℕ) (passes : List ℕ) (bytes rest : List �
   pub only : (h : ℕ → Value) (others : List ℕ) → ((a : ℕ) → IsWell (h a))
       → bytes ≡ flat_map spelling_of (values_up_to read passes h) ++ others → others ≡ rest
 
--- No values of attributes with these passes can be taken from the bytes.
-abbrev pub AreUntaken : ℕ → List ℕ → List ℕ → Type 0
-AreUntaken read passes bytes = (h : ℕ → Value) (others : List ℕ) → ((a : ℕ) → IsWell (h a))
-    → bytes ≡ flat_map spelling_of (values_up_to read passes h) ++ others → ⊥
-
 -- Each value of a table is well.
 abbrev pub AllWell : Table → Type 0
 AllWell e = (j a : ℕ) → IsWell (e j a)
 
--- `passes` has the passes of some attributes. No well values of those with a pass up to `read` have the bytes as their encodings.
+-- `passes` has the passes of some attributes. The bytes are not the encodings of well values of those with a pass up to `read`.
 abbrev pub IsNoRow : ℕ → List ℕ → List ℕ → Type 0
 IsNoRow read passes bytes = (h : ℕ → Value) → ((a : ℕ) → IsWell (h a)) → bytes ≡ flat_map spelling_of (values_up_to read passes h)
     → ⊥
@@ -101,7 +96,7 @@ IsNoNode c s body = (p : ℕ) (q : Production) (h : ℕ → Value) (e : Table) �
     → ((a : ℕ) → IsWell (h a)) → AllWell e
     → body ≡ node_body version_two c.grammar c.passes c.read p h (copies c c.read (stored_items q.items) e) → ⊥
 
--- A body is not that of a node of symbol s, whatever production of s it has, and whatever bytes come after its number.
+-- A body does not begin with the kind of a node and the number of a production of symbol s.
 abbrev pub IsNoNodeBody : Grammar → ℕ → List ℕ → Type 0
 IsNoNodeBody g s body = (p : ℕ) (q : Production) (spellings : List ℕ) → IsProduction g p q → q.left ≡ s → p < 2 ^ 16
     → body ≡ body_from Node p spellings → ⊥

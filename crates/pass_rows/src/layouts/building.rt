@@ -1,5 +1,6 @@
 //! Computes the layout of each production in a pass: its instructions, the number of values in the
-//! row of each of its nodes, the passes of these values, its places, and the slots of its rules.
+//! row of each of its nodes, the passes of these and of later values, its places, and the slots of
+//! its rules.
 
 ghost use Rattle.std.specs.Prelude.{◌≡◌, ◌+◌, ◌-◌, ◌≤◌, ◌<◌, [], IfOk, length, map};
 ghost use Rattle.std.specs.Prelude.{slice_index_or};

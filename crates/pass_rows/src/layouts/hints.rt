@@ -16,14 +16,15 @@
 //! | copy of `$i.b` | in its own row: `a`, if a rule is `$0.a = $i.b` | always |
 //! | other copy of `$i.b` | earlier in its own row: `$m.d`, if a rule is `$i.c = $m.d` | maybe |
 //!
-//! "Always" means in each file that the earlier passes wrote. In a damaged file the values may
-//! differ. "Maybe" means if rules in the subtree of `$i` copy `c` to `b`. A rule also counts as
-//! `$i.b` if its expression is a `let`, an `if` or an `orelse` that may return an occurrence, and
-//! `$i.b` is the first such occurrence. Then the values are equal if the expression does return it.
-//! Only rules of passes before k count: their values are in the file.
+//! "Always" means: in each file that the earlier passes wrote. In a damaged file the values may
+//! differ. "Maybe" means: the values are equal if rules in the subtree of `$i` copy `c` to `b`. A
+//! rule also counts as `$i.b` if its expression is a `let`, an `if` or an `orelse` that may return
+//! an occurrence, and `$i.b` is the first such occurrence. Then the values are equal if the
+//! expression does return `$i.b`. Only rules of passes before k count: their values are in the
+//! file.
 //!
 //! No contract mentions hints. `Carried::read_beside` compares the candidate with the bytes that
-//! are read: a wrong hint costs a comparison and changes nothing. Numbers and errors are read
+//! are read. So a wrong hint costs a comparison and changes nothing. Numbers and errors are read
 //! without hints.
 
 use crate::layouts::building::{PlaceRow, ProductionRow, RuleSlots};
@@ -127,7 +128,7 @@ pub struct Hints {
 }
 
 impl Hints {
-    /// Returns hints in which no value has one.
+    /// Returns hints without an entry: no value has a hint.
     pub fn none(alloc: Global) -> Hints {
         Hints {
             rows: Vec::new(alloc),
@@ -205,8 +206,8 @@ fn is_earlier(setting: &Setting<'_>, row: &ProductionRow, target: Target) -> boo
     }
 }
 
-/// Returns the number of the first occurrence whose value an expression may return unchanged, if it
-/// finds one.
+/// Returns the number of the first occurrence whose value an expression may return unchanged.
+/// Returns `None` if it finds no such occurrence.
 fn returned_occurrence(node: &Node) -> Option<usize> {
     match node {
         Node::Occurrence(k) => Some(*k),
@@ -260,7 +261,7 @@ pub struct RowLocation<'a> {
 
 impl RowLocation<'_> {
     /// Returns the stored value that the next value of the row may be equal to, if there is a hint.
-    /// The stored values end with those of the row that come before this value.
+    /// `values` are the stored values. They end with the values that this row has so far.
     pub fn candidate<'v>(&self, values: &'v [Carried]) -> Option<&'v Carried> {
         let slot = values.len().checked_sub(self.start)?;
         if let Some(Some(hint)) = self.hints.child(self.parent).get(slot) {

@@ -126,8 +126,8 @@ pub fn copied_width(setting: &Setting<'_>, item: Item) -> usize
     row_length(copied_passes(setting, item), setting.pass)
 }
 
-/// Returns the number of known copies of the values at an item in the parent's row: of those that
-/// the file of the previous pass has.
+/// Returns the number of known copies that the parent's row has of the values at an item. The file
+/// of the previous pass has these values.
 pub fn known_width(setting: &Setting<'_>, item: Item) -> usize
     requires { 1 ≤ setting.now.pass }
     ensures width { result ≡ known_width (pass_setting setting.now) item }

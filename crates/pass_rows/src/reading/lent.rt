@@ -18,10 +18,10 @@ use std::alloc::Global;
 /// The number of bytes of a body before its values: one for the kind, and two for the number.
 const HEAD_BYTES: u64 = 3;
 
-/// Takes the value of an attribute of pass `pass` in pass k, and appends it to the values: from the
-/// beginning of the body if `pass` is before k, and 0 as a placeholder if it is k. Appends nothing
-/// for a later pass. Returns the rest of the body, or `None` if the value can be read only from a
-/// copy of the body (or not at all). Fails with `NoMemory` if memory cannot be allocated.
+/// Appends the value of an attribute of pass `pass` to the values, in pass k. If `pass` is before
+/// k, takes the value from the beginning of the body. If `pass` is k, appends 0 as a placeholder.
+/// If `pass` is later, appends nothing. Returns the rest of the body. Returns `None` if the value
+/// can't be read without a copy of the body. Fails with `NoMemory` if memory cannot be allocated.
 fn take_value<'b>(
     alloc: Global,
     pass: u16,
@@ -89,9 +89,8 @@ fn node_of<'b>(grammar: &Grammar, symbol: u16, body: Body<'b>) -> Option<(u16, B
 }
 
 /// Reads the body of a node of a symbol and appends its row to the values. Returns the number of
-/// the node's production. Returns `None` if the record can be read only from a copy of the body (or
-/// not at all); some values may have been appended then. Fails with `NoMemory` if memory cannot be
-/// allocated.
+/// the node's production. Returns `None` if the record can't be read without a copy of the body;
+/// some values may have been appended then. Fails with `NoMemory` if memory cannot be allocated.
 fn read_node(
     context: &PassContext<'_>,
     symbol: u16,
@@ -185,7 +184,8 @@ fn read_shared(
     }
 }
 
-/// Reads the record of an item from a body that a device lends, as `read_record` does from bytes.
+/// Reads the record of an item from a body that a device lends, as `read_record` does from bytes,
+/// and fails as it does.
 #[inline(never)]
 pub fn read_lent(
     context: &PassContext<'_>,

@@ -156,9 +156,10 @@ fn read_value<'b>(
     Ok(&bytes[length..])
 }
 
-/// Takes the value of an attribute of pass `pass`, and appends it to the values: from the bytes if
-/// `pass` is before `row.pass`, the pass that runs, and 0 as a placeholder if it is that pass.
-/// Appends nothing for a later pass. Returns the rest of the bytes. Fails as `read_value` does.
+/// Appends the value of an attribute of pass `pass` to the values, in pass k (`row.pass`). If
+/// `pass` is before k, takes the value from the beginning of the bytes. If `pass` is k, appends 0
+/// as a placeholder. If `pass` is later, appends nothing. Returns the rest of the bytes. Fails as
+/// `read_value` does.
 fn take_value<'b>(
     alloc: Global,
     pass: u16,
@@ -195,7 +196,7 @@ fn check_end(rest: &[u8]) -> Result<(), RecordFault>
 }
 
 /// Takes the last values of a row, of attributes with these passes, from the bytes, as `take_value`
-/// does. Fails as it does, and with `Damaged` if bytes are left after them.
+/// does. Fails as `take_value` does, and with `Damaged` if bytes are left after the values.
 #[inline(never)]
 fn take_values(
     alloc: Global,
@@ -248,9 +249,9 @@ fn take_row(
     check_end(rest)
 }
 
-/// Returns the number of the production in the body of a symbol's node, and the bytes after it, in
-/// which a record has the encoded values. Returns `None` if the body does not begin with the kind
-/// of a node and the number of a production of the symbol.
+/// Returns the number of the production in the body of a symbol's node, and the bytes after this
+/// number. (In a record, they encode the values.) Returns `None` if the body does not begin with
+/// the kind of a node and the number of a production of the symbol.
 #[inline(always)]
 pub fn node_in<'b>(grammar: &Grammar, symbol: u16, body: &'b [u8]) -> Option<(u16, &'b [u8])>
     ensures some { IfSome result (λ found.
@@ -314,8 +315,8 @@ pub fn read_node(
 }
 
 /// Reads the body of a node as `read_node` does, and fails as it does. Takes the passes of the
-/// values from the layout of the node's production, and uses hints: `location` says of which parent
-/// and place the node is.
+/// values from the layout of the node's production, and uses hints. `location` has the production
+/// of the node's parent and the node's place there.
 #[inline(always)]
 fn read_node_by_layout(
     context: &PassContext<'_>,
@@ -351,8 +352,8 @@ fn read_node_by_layout(
 }
 
 /// Returns the text in the body of a token of a class. Fails with `Damaged` if the body is not that
-/// of such a token with a text of at most `MAX_TOKEN_BYTES` bytes, and with `NoMemory` if memory
-/// cannot be allocated.
+/// of a token of the class, or if the text has more than `MAX_TOKEN_BYTES` bytes. Fails with
+/// `NoMemory` if memory cannot be allocated.
 #[inline(always)]
 pub fn text_in(alloc: Global, class: u16, body: &[u8]) -> Result<Value, RecordFault>
     ensures text { IfOk result (λ v. IsTextOf class body.now v) }
@@ -375,7 +376,7 @@ pub fn text_in(alloc: Global, class: u16, body: &[u8]) -> Result<Value, RecordFa
 }
 
 /// Reads the body of a token of a class, and appends its text to the values. Fails as `text_in`
-/// does, and with `NoMemory` if memory cannot be allocated.
+/// does.
 #[inline(always)]
 fn read_token(
     alloc: Global,
@@ -398,8 +399,8 @@ fn read_token(
 
 /// Reads the record of an item, and appends its row to the values. `location` says where the item
 /// is, for the hints. Returns the number in the record: that of the production, or that of the
-/// token's class. Fails with `Damaged` if the body is not a record of the item, and with `NoMemory`
-/// if memory cannot be allocated.
+/// token's class. Fails with `Damaged` if the body is not a record of the item; a literal has no
+/// record. Fails with `NoMemory` if memory cannot be allocated.
 #[inline(always)]
 pub fn read_record(
     context: &PassContext<'_>,

@@ -26,7 +26,7 @@ in_order : (d : Direction) (i j : ℕ) → (i ≡ j) ⊎ IsBefore d i j ⊎ IsBe
 in_order LeftToRight i j = cases_order i j
 in_order RightToLeft i j = elim (cases_order i j) [ inl e ↦ inl e | inr h ↦ elim h [ inl l ↦ inr (inr l) | inr l ↦ inr (inl l) ] ]
 
--- an argument may be used unless it is of the target's pass at the target's own child or at a later one
+-- an argument of a pass up to k may be used, except one of pass k at the target's own child or at a later one
 may_use : (k j i p : ℕ) → p ≤ k → (IsSameOrLater (direction_of k) j i → p ≡ k → ⊥) → MayUse k j i p
 may_use k zero i p le ahead = le
 may_use k (suc j) zero p le ahead = inl (refl, le)

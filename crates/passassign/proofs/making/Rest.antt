@@ -15,8 +15,8 @@ use Rattle.passassign.proofs.strikes.Exactly.{are_good_more, exactly_same, strik
 use Rattle.passassign.proofs.making.Struck.{AtLeast, struck_later}
 
 -- candidates that are struck in both directions have no pass in a legal partial assignment
-module _ (g : Grammar) (candidate : Attributes) (odd even : List Strike) (rightward : StrikesAll g RightToLeft candidate odd)
-    (leftward : StrikesAll g LeftToRight candidate even) where
+module _ (g : Grammar) (candidate : Attributes) (odd even : List Strike) (leftward : StrikesAll g RightToLeft candidate odd)
+    (rightward : StrikesAll g LeftToRight candidate even) where
   climb : (n : Partial) (legal : IsLegalPartial g n) (k : ℕ) → AtLeast g n legal k candidate
   climb n legal zero s a p i e = omega arith
   climb n legal (suc k) s a p i e = go (direction_of k) refl (climb n legal k)
@@ -24,10 +24,10 @@ module _ (g : Grammar) (candidate : Attributes) (odd even : List Strike) (rightw
       go : (d : Direction) → direction_of k ≡ d → AtLeast g n legal k candidate → suc k ≤ p
       go RightToLeft f low =
           struck_later g n legal k candidate [] low (λ u b c none has. absurd none) odd
-          (subst (λ d. AreGood g d candidate [] odd) (sym f) rightward.good) s a p (rightward.all s a i) e
+          (subst (λ d. AreGood g d candidate [] odd) (sym f) leftward.good) s a p (leftward.all s a i) e
       go LeftToRight f low =
           struck_later g n legal k candidate [] low (λ u b c none has. absurd none) even
-          (subst (λ d. AreGood g d candidate [] even) (sym f) leftward.good) s a p (leftward.all s a i) e
+          (subst (λ d. AreGood g d candidate [] even) (sym f) rightward.good) s a p (rightward.all s a i) e
 
   all_stuck : (s a : ℕ) → candidate s a → IsStuck g s a
   all_stuck s a i n legal = none_of (n s a) (λ p e. let h : suc p ≤ p = climb n legal (suc p) s a p i e in omega arith)

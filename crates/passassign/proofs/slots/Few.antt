@@ -1,4 +1,4 @@
--- A production has few rules and a rule has few arguments, since each is for another attribute, and a
+-- A production has few rules and a rule has few arguments: each is for a different attribute, and a
 -- production has few places with few attributes each.
 use Rattle.std.proofs.Common.{ℕ, zero, suc, ◌≡◌, ◌+◌, ◌*◌, ◌<◌, ◌≤◌, true, List, [], ◌∷◌, Option, Some, None, map, slice_get}
 use Rattle.std.proofs.Common.{get_or, length, inl, inr, refl, ap, ◌∙◌, sym, subst, eqb, arith}
@@ -27,8 +27,8 @@ use Rattle.passassign.proofs.slots.Linked.{attribute_within, same_parts}
 abbrev slot : Target → ℕ
 slot o = o.place * 16 + o.attr
 
--- The list xs is short if each of its members belongs to another attribute at a place (`of`). Places are at most 16, and the
--- numbers of attributes below 16.
+-- The list xs is short if each of its members belongs to a different attribute at a place (`of`). Places are at most 16, and the
+-- numbers of attributes are below 16.
 module _ {X : Type 0} (of : X → Target) (xs : List X)
     (single : (i j : ℕ) (x y : X) → slice_get xs i ≡ Some x → slice_get xs j ≡ Some y → of x ≡ of y → i ≡ j)
     (small : (i : ℕ) (x : X) → slice_get xs i ≡ Some x → ((of x).place ≤ 16) × ((of x).attr < 16)) where

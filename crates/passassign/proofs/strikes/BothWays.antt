@@ -1,4 +1,4 @@
--- The certificate of the grammar whose productions need both directions.
+-- The certificate of the grammar `both_ways`, whose productions need both directions.
 use Rattle.std.proofs.Common.{ℕ, ◌+◌, ◌≡◌, inl, inr, [], ◌∷◌, Some, slice_get, refl, ap, sym, subst, arith}
 use Rattle.ag_grammar.specs.Lists.{Each, Differ}
 use Rattle.ag_grammar.specs.declared.grammar.Production.{Production}

@@ -41,7 +41,7 @@ module _ (g : Grammar) (n : Partial) (legal : IsLegalPartial g n) (k : ℕ) (can
       first_later (is.first ∷ is.others) (subst (IsChain g (direction_of k) candidate) is.is is.chain) s a p
       (inl (is.symbol, is.attr)) e
 
--- each of some strikes begins a chain
+-- each attribute that a list strikes has a chain
 abbrev pub HaveChains : Grammar → Direction → Attributes → List Strike → Type 0
 HaveChains g d candidate xs = (s a : ℕ) → IsStruckBy xs s a → (ys : List Strike) × IsChainOf g d candidate s a ys
 

@@ -17,7 +17,7 @@ are_good_more g d some more h struck (x ∷ xs) (is, new, one, others) = (
   are_good_more g d some more h (x ∷ struck) xs others,
 )
 
--- good strikes strike only candidates
+-- good strikes that strike all candidates strike exactly the candidates
 pub strikes_all : (g : Grammar) (d : Direction) (candidate : Attributes) (xs : List Strike) → AreGood g d candidate [] xs
     → AreWithin candidate (IsStruckBy xs) → StrikesAll g d candidate xs
 strikes_all g d candidate xs good all =

@@ -83,7 +83,7 @@ walked g d candidate xs links s a good hit linked among first =
       chain = linked_chain g d candidate xs good links among (linked (good_awaited g d candidate xs good));
     }
 
--- a consequence of three facts of a result, if there is one
+-- if the result is Ok: a consequence of three facts about its value
 pub of_three : {A E : Type 0} (r : Result A E) (P Q R S : A → Type 0) → ((x : A) → P x → Q x → R x → S x) → IfOk r P → IfOk r Q
     → IfOk r R → IfOk r S
 of_three (Ok x) P Q R S f p q r = f x p q r

@@ -18,7 +18,7 @@ use Rattle.passcode.specs.Rows.{Lists, IsListAt, row_of, rows_of}
 abbrev pub IsGenerated : Passes → Production → ℕ → List Instr → Type 0
 IsGenerated m q k xs = xs ≡ generated_list m q k
 
--- one more list is collected
+-- if the first n lists of a production are the generated ones, and list n + 1 is, then all n + 1 lists are
 pub lists_more : (m : Passes) (q : Production) (n : ℕ) (lists new : List (Vec Instr)) (one : Vec Instr) → new ≡ lists ++ one ∷ []
     → length lists ≡ n → IsGenerated m q (n + 1) one.items
     → ((i : ℕ) (xs : List Instr) → slice_get (row_of lists) i ≡ Some xs → IsGenerated m q (i + 1) xs) → (i : ℕ) (xs : List Instr)

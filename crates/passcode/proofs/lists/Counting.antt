@@ -31,7 +31,7 @@ abbrev evaluated : ℕ → List Rule → List Instr → ℕ
 evaluated n [] xs = 0
 evaluated n (u ∷ us) xs = count_by (evaluates n) xs + evaluated (suc n) us xs
 
--- the same for one instruction: 1 or 0
+-- 1 if one instruction evaluates one of these rules, 0 if it evaluates none
 abbrev evaluated_by : ℕ → List Rule → Instr → ℕ
 evaluated_by n [] i = 0
 evaluated_by n (u ∷ us) i = cond (evaluates n i) 1 0 + evaluated_by (suc n) us i
@@ -45,7 +45,7 @@ evaluated_more : (n : ℕ) (us : List Rule) (i : Instr) (xs : List Instr)
 evaluated_more n [] i xs = refl
 evaluated_more n (u ∷ us) i xs = omega (arith, count_more (evaluates n) i xs, evaluated_more (suc n) us i xs)
 
--- an instruction that evaluates no rule numbered from n on
+-- if an instruction evaluates no rule numbered from n on, this is 0
 by_none : (n : ℕ) (us : List Rule) (i : Instr) → ((k : ℕ) → n ≤ k → evaluates k i ≡ false) → evaluated_by n us i ≡ 0
 by_none n [] i never = refl
 by_none n (u ∷ us) i never =
@@ -101,7 +101,7 @@ count_one f (i ∷ xs) (suc at) x e is only =
       count_one f xs at x e is (λ n j h ne. only (suc n) j h (λ z. ne (omega arith))),
     )
 
--- in a list that agrees, an instruction that evaluates rule r is that rule's own instruction
+-- the instruction that computes an attribute by rule r evaluates rule r, and no other rule
 own_number : (place attr r k : ℕ) → evaluates k (set_or_def place attr r) ≡ nat_eq r k
 own_number zero a r k = refl
 own_number (suc j) a r k = refl
@@ -149,7 +149,7 @@ module _ (m : Passes) (q : Production) (k : ℕ) (xs : List Instr) (is : ListAgr
       go false other = count_none (evaluates r) xs (λ n i e. by_bool (evaluates r i)
           (λ t. (is_the_pass k (pass_at m q u.target)).1 other (once.only (n, e ∙ ap Some (own n r u i at e t)))))
 
-  -- each of some rules, which are numbered from n
+  -- the instructions that evaluate one of some rules, numbered from n, are as many as the rules whose targets have the pass
   each_rule : (n : ℕ) (us : List Rule) → ((i : ℕ) (u : Rule) → slice_get us i ≡ Some u → IsRuleAt q (n + i) u)
       → evaluated n us xs ≡ count_by (is_of_pass m k q) us
   each_rule n [] at = refl

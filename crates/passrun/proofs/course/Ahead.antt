@@ -52,8 +52,8 @@ children_read c (item.Symbol s) p body old new h =
 children_read c (item.Terminal (Class d)) p body old new h = []
 children_read c (item.Terminal (Literal l)) p body old new h = []
 
--- A record that was read is one of its item, and matches the copy in its parent's record if it agrees with
--- it.
+-- A record that was read for an item is a record of this item. With a copy of the item's values: if the values that were read
+-- match the copy, the record is one of the item with this copy.
 pub is_record : (c : Setting) (x : Item) (p : ℕ) (body : List ℕ) (old new : List Value) (h : IsRead c x p body old new)
     (copy : Option (List Value)) → MatchesCopy copy (values_up_to c.read (copied_passes c x) (read_values c x p body old new h))
     → IsRecordOf version_two c.grammar c.passes c.read (x, copy) body (children_read c x p body old new h)
@@ -114,7 +114,7 @@ after_last c q e i level others full =
     ap (λ n. following c q e n level others) (full ∙ sym long)
     ∙ (all_pending (pass_direction c) level (children_of c q e) others).1
 
--- They are the same for a table with the same copies of earlier passes.
+-- The children still to be read are the same for two tables with the same copies of earlier passes.
 pub after_same : (c : Setting) (q : Production) (e h : Table) (i level : ℕ) (others : Pending)
     → copies c c.read (stored_items q.items) (in_children e) ≡ copies c c.read (stored_items q.items) (in_children h)
     → following c q e i level others ≡ following c q h i level others

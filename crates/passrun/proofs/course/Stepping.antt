@@ -234,7 +234,7 @@ pub some_left : (pass : ℕ) (honest : Bool) (old new : List ℕ) (r : Result Pa
 some_left pass honest old new (Ok p) begun left h = (pass, inr (begun h))
 some_left pass honest old new (Err f) begun left h = (pass, left h)
 
--- Two passes, one after the other, leave what one may leave: the old content, or a prefix of a tree file.
+-- Two passes in sequence leave on a device what one pass may leave: the old content, or a prefix of a tree file.
 pub left_again : (old between new : List ℕ) → LeavesSomeFile old between → LeavesSomeFile between new → LeavesSomeFile old new
 left_again old between new first (pass, inl same) = subst (LeavesSomeFile old) (sym same) first
 left_again old between new first (pass, inr begun) = (pass, inr begun)

@@ -130,7 +130,7 @@ shown_set c q n e s j a v pass fault_unless shown b m p x at is le when =
       | inr known ↦ (let z = fault_unless (subst (IsReached c q n) both.0 known) in let bj = both.0 in omega arith)
     ]))
 
--- They also do if the table gets the values of a child's record that agree with the copies.
+-- The copies also agree so far if the table gets the values of a child's record that agree with the copies.
 pub shown_row : (c : Setting) (q : Production) (n n' : ℕ) (e s : Table) (j : ℕ) (x : Item) (h : ℕ → Value)
     → slice_get (stored_items q.items) j ≡ Some x → AgreeAt c x (s (suc j)) h → c.write ≡ suc c.read
     → ((b : ℕ) → b ≢ j → IsReached c q n' (suc b) → IsReached c q n (suc b))
@@ -148,7 +148,7 @@ shown_row c q n n' e s j x h at agree next others never shown b m p y at' is le 
       ∙ sym (with_other e (suc j) h (suc b) m (λ z. apart (omega arith)))
 ]
 
--- They also do if both tables get the values that the pass computed at a child.
+-- The copies also agree so far if both tables get the values that the pass computed at a child.
 pub shown_both : (c : Setting) (q : Production) (n n' : ℕ) (e s : Table) (j : ℕ) (h : ℕ → Value)
     → ((b : ℕ) → b ≢ j → IsReached c q n' (suc b) → IsReached c q n (suc b)) → AgreesSoFar c q n e s
     → AgreesSoFar c q n' (with_row e (suc j) h) (with_row s (suc j) h)

@@ -154,8 +154,8 @@ copies_same c k (x ∷ xs) e h same =
     ∙ ap (λ vs. values_up_to k (copied_passes c x) (h 0) ++ vs)
     (copies_same c k xs (λ j. e (suc j)) (λ j. h (suc j)) (λ j a p y at is le. same (suc j) a p y at is le))
 
--- The copies of one item come between other values, which are the same for another table with the same values
--- at the other items.
+-- The copies of one item come between other values, `before` and `after`. For a table that differs only at this item, `before`
+-- and `after` are the same.
 pub shares : (c : Setting) (xs : List Item) (b : ℕ) (x : Item) → slice_get xs b ≡ Some x → (e : Table)
     → (before : List Value) × (after : List Value) × (length before ≡ copied_before c xs b)
     × ((h : Table) → ((j a : ℕ) → j ≢ b → h j a ≡ e j a)

@@ -55,7 +55,7 @@ pub record HasOwn (c : Setting) (x : OpenNode) (values : List Value) : Type 0 wh
   pub there : IsProduction c.grammar x.production production
   pub within : x.base + stored_width c production ≡ length values
 
--- A node waits for another one, whose row is the last. The copies for that node come before it.
+-- The node y waits for its child. The child's row begins at `base` and is the last one; the copies of its values are in y's row.
 pub record HasWaited (c : Setting) (y : OpenNode) (base : ℕ) (values : List Value) : Type 0 where
   pub production : Production
   pub there : IsProduction c.grammar y.production production
@@ -169,7 +169,7 @@ module _ (c : Setting) (sound : IsSound c) where
       let k = o.base in
       record { production = q; there = o.is_open.there; within = omega arith }
 
-  -- When a node ends, the copies for it come before its row.
+  -- When a node ends, the copies of its values come before its row.
   pub waited : (root : ℕ) (x y : OpenNode) (ys : List OpenNode) (values : List Value) (t : Transcript) (now : ℕ) (todo : Pending)
       → slice_get (list_at c x.production) x.at ≡ Some instr.End → RunInvariant c root (x ∷ y ∷ ys) values t now todo
       → HasWaited c y x.base values

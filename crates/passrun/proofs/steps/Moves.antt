@@ -279,7 +279,7 @@ module _ (c : Setting) (sound : IsSound c) where
       copied : List Value
       copied = copies c c.read (stored_items q.items) (in_children e)
 
-  -- A node is done, and its row makes its record.
+  -- A node is done, and the values of its record are its row.
   pub ended : (s : ℕ) (f : ℕ → Value) (level p : ℕ) (q : Production) (i : ℕ) (done : List ℕ) (e shows : Table) (ts : Forest)
       (ws : ℕ → Valuation) (old new : Transcript)
       → i ≡ arity q → ((j : ℕ) → AreDone c.passes q c.write (state_of Between i done) j)

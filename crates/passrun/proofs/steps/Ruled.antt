@@ -53,7 +53,7 @@ pub rule_named : (c : Setting) → IsSound c → (p r : ℕ) (q : Production) (u
     → slice_get q.rules r ≡ Some u → (length u.expr.1 ≡ length u.args)
 rule_named c sound p r q u there num = (sound.accepted.named.rules_named p q there r u num).arguments.equally_long
 
--- The pass of a target.
+-- A target that is the attribute a at place j has the same pass as this attribute.
 passed_at : (c : Setting) (q : Production) (j a : ℕ) (u : Rule) → u.target ≡ record { place = j; attr = a }
     → HasPass c.passes q u.target c.write → HasPass c.passes q (record { place = j; attr = a }) c.write
 passed_at c q j a u is h = subst (λ t. HasPass c.passes q t c.write) is h

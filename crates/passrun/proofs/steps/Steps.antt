@@ -110,7 +110,7 @@ copies_there c q f s under row b base x is at =
         ap (λ n. drop n (x ∷ (xs ++ ys))) z ∙ beyond xs ys n
 
 module _ (c : Setting) (x : OpenNode) (z : Instr) (at : slice_get (list_at c x.production) x.at ≡ Some z) where
-  -- An instruction may run if the rest of a list that begins with it may run.
+  -- The rest of the list, which may run, is the instruction z followed by those after it.
   pub runs_next : (q : Production) (ph : Phase) (i : ℕ) (done : List ℕ)
       → Runs c.passes q c.write (state_of ph i done) (rest_of c x)
       → Runs c.passes q c.write (state_of ph i done) (z ∷ drop (x.at + 1) (list_at c x.production))
@@ -147,8 +147,8 @@ module _ {c : Setting} {s : ℕ} {f : ℕ → Value} {level : ℕ} {x : OpenNode
   pub at_end : slice_get (list_at c x.production) x.at ≡ Some instr.End → IsIn Between
   at_end at = subst IsIn (may_run instr.End at).0 o
 
-  -- The node is done: its tree was read, and written except for its own record, which its row makes. The
-  -- others are still to be read.
+  -- The node is done: its tree was read, and written except for its own record, whose values are the node's row.
+  -- The others are still to be read.
   pub record IsDone : Type 0 where
     pub ready : IsReady c (item.Symbol s) x.production (o.table 0) (node x.production o.trees)
         (graft (o.table 0) o.valuations) old t
@@ -650,7 +650,7 @@ module _ (c : Setting) (sound : IsSound c) where
     put_node_in s f (suc (length xs)) x under old before others ph values t now todo j s' q0 at there0 occurs0 o,
   )
 
-  -- The record of a token is written, whose text is among the copies.
+  -- The record of a token is written. The token's text is among the copies.
   put_leaf_in : (s : ℕ) (f : ℕ → Value) (level : ℕ) (x : OpenNode) (under : List Value) (old : Transcript) (before : ℕ)
       (others : Pending) (ph : Phase) (values : List Value) (t : Transcript) (now : ℕ) (todo : Pending) (j d : ℕ)
       (q0 : Production) (text : List Value)
@@ -780,8 +780,8 @@ module _ (c : Setting) (sound : IsSound c) where
         nothing = done.todo_is ∙ none_left;
       }
 
-  -- The values of a node's synthesized attributes were moved to the copies in the row of the node that
-  -- waited.
+  -- The values of a node's synthesized attributes were moved to their copies in the row of the parent,
+  -- which waited.
   moved_copies : (q : Production) (f : ℕ → Value) (s : Table) (under row others : List Value) (b : ℕ) (x : Item) (h : ℕ → Value)
       (to count from : ℕ) (values : List Value)
       → slice_get (stored_items q.items) b ≡ Some x → to ≡ length under + copy_start c q (suc b) → count ≡ copied_width c x

@@ -1,5 +1,5 @@
--- The children whose records are still to be read at the open nodes, and the meaning of the faults of a pass. In these
--- definitions c is a setting and q a production. All definitions are this project's.
+-- The *pending list* at the open nodes (`Pending` of treefile: the children whose records are still to be read, with their
+-- levels), and the meaning of the faults of a pass. c is a setting and q a production. All definitions are this project's.
 use Rattle.std.specs.Prelude.{ℕ, suc, Bool, true, false, List, [], ◌∷◌, Option, Some, None, slice_get}
 use Rattle.ag_grammar.specs.declared.grammar.Production.{Production}
 use Rattle.ag_grammar.specs.grammars.AttributeGrammar.{stored_items}

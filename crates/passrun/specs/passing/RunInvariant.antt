@@ -61,7 +61,7 @@ abbrev pub Keeps : Setting → ℕ → (ℕ → Value) → (ℕ → Value) → T
 Keeps c s old new = (a p : ℕ) → slice_get (c.passes s) a ≡ Some p → p ≤ c.write
     → ((p ≡ c.write) × (slice_get (symbol_kinds (slice_get c.grammar.symbols s)) a ≡ Some Synthesized) → ⊥) → new a ≡ old a
 
--- A tree of an item x has values that satisfy the equations of the pass. Those of passes up to this one are well.
+-- A tree of an item x has values that satisfy the equations of the pass. The values of passes up to this one are well.
 pub record IsEvaluatedTree (c : Setting) (x : Item) (t : Tree) (w : Valuation) : Type 0 where
   pub fits : Fits c.grammar x t
   pub solved : Solves (OfPass c.passes c.write) c.grammar t w
@@ -174,8 +174,8 @@ rules_left c x = count_by is_computation (rest_of c x)
 
 -- An open node x waits for its child, a node of production p and symbol s. s', f', under' and `old` belong to x; s, f and `under`
 -- belong to the child. `new` is the transcript before the record of the child was read. `evals` rules were evaluated before the
--- child was entered, `evals_before` of them before x was. After the child's tree, the rest of x's list of instructions runs to
--- its end. After the child's tree `todo` is still to be read, and after x's tree `others`. The fields: i children of x are
+-- child was entered, `evals_before` of them before x was entered. After the child's tree, the rest of x's list of instructions
+-- runs to its end. After the child's tree `todo` is still to be read, and after x's tree `others`. Fields: i children of x are
 -- complete, with the trees `trees` and their values `values`; the rules `done` were run at x; `table` has the values at x and its
 -- children, and `copied` the copies in x's row.
 pub record Suspended (c : Setting) (s' : ℕ) (f' : ℕ → Value) (level : ℕ) (x : OpenNode) (under' : List Value) (old : Transcript)

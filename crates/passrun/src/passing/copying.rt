@@ -44,9 +44,10 @@ pub(crate) fn agree(passes: &[u16], k: u16, ours: &[Carried], theirs: &[Carried]
     }
 }
 
-/// Returns whether the known values among a child's synthesized ones are equal to their copies in
-/// the parent's row. The child's row begins at index `start`, and the copies at index `copied`.
-/// `row` describes the child's place in the layout.
+/// Returns whether a child's known values are equal to their copies in the parent's row. Of a node,
+/// only the values of synthesized attributes are compared; of a token, its text. The child's row
+/// begins at index `start`, and the copies at index `copied`. `row` describes the child's place in
+/// the layout.
 #[inline(always)]
 pub(crate) fn matches_copy(
     context: &PassContext<'_>,
@@ -92,8 +93,8 @@ pub(crate) fn single_value(values: &[Carried], index: usize) -> &[Carried]
     &values[index..index + 1]
 }
 
-/// Removes the row that was read for an item, which begins at `start`, if the item is a token: the
-/// token's text is among the copies too. Keeps the row of a node.
+/// Removes the row of a token, which begins at index `start`: the token's text is among the copies
+/// too. Keeps the row of a node. `item` is the item for which the row was read.
 #[inline(always)]
 pub(crate) fn truncate_row(item: Item, values: &mut Vec<Carried>, start: usize)
     ensures { values.new.items ≡ kept_values item (take start values.old.items) values.old.items }

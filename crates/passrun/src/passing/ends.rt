@@ -41,9 +41,9 @@ pub struct Passed {
 }
 
 /// Begins a pass: checks the header of the first device, replaces the content of the second one
-/// with a header, and reads the root's record. Fails with R1 and offset 4 if the file is that of
-/// another pass, with R1 and offset 0 if it does not begin as a tree file of version 2, with D1 if
-/// a device fails, with `NoMemory` if memory cannot be allocated, and as `fetch` does.
+/// with a header, and reads the root's record. Fails with R1 at 0 if the first device has no header
+/// of version 2, and with R1 at 4 if the header has the number of another pass. Fails with D1 if a
+/// device fails, with `NoMemory` if memory cannot be allocated, and as `fetch` does.
 pub(crate) fn begin<D: Device, E: Device>(
     context: &PassContext<'_>,
     from: &mut D,
@@ -93,9 +93,9 @@ pub(crate) fn begin<D: Device, E: Device>(
 }
 
 /// Ends a pass whose root is done: writes the root's record, checks that the first file was read
-/// back to its header, and returns the counts. Fails with R1 and the offset that reading has
-/// reached if the header does not end there, with D1 if a device fails, and with `NoMemory` if
-/// memory cannot be allocated.
+/// back to its header, and returns the counts. If the header does not end at the offset that
+/// reading has reached, fails with R1 at this offset. Fails with D1 if a device fails, and with
+/// `NoMemory` if memory cannot be allocated.
 pub(crate) fn finish<D: Device, E: Device>(
     context: &PassContext<'_>,
     machine: &mut Machine,

@@ -46,13 +46,13 @@ pub(crate) struct Machine {
     /// record was read last, if the child is a node of a symbol that the pass has not entered yet.
     /// The row of a token is removed in the step that reads it, since its text is among the copies.
     pub(crate) values: Vec<Carried>,
-    /// The open nodes without the innermost one, the outermost first. Each waits until the pass has
-    /// left the child that it entered from this node.
+    /// The open nodes without the innermost one, the outermost first. Each waits until the child
+    /// that the pass entered from it is finished.
     pub(crate) waiting: Vec<OpenNode>,
     /// The number of the production in the root's record.
     pub(crate) root: u16,
-    /// The meter's count when the pass began. Only contracts use it: they count the evaluations of
-    /// the pass from there.
+    /// The meter's count when the pass began. Only contracts use this number, to count the
+    /// evaluations of the pass.
     pub(crate) begun: u64,
 }
 
@@ -63,9 +63,10 @@ pub(crate) struct StepAt<'c, 'g> {
     pub(crate) node: OpenNode,
 }
 
-/// Enters the child of `node` at a place. The child's record was the last one read. Returns the
-/// child's node, which becomes the innermost one. Pushes `node` on `waiting`, with its `Go` done
-/// and the place of the child. Fails with `NoMemory` if memory cannot be allocated.
+/// Enters the child of `node` at a place. This child's record was read last. Returns the child's
+/// node, which becomes the innermost open node. Pushes `node` on `waiting`, with the child's place
+/// and with the instruction after its `Go` as the next one. Fails with `NoMemory` if memory cannot
+/// be allocated.
 pub(crate) fn open_child(
     context: &PassContext<'_>,
     node: OpenNode,
@@ -281,9 +282,9 @@ impl Machine {
     }
 
     /// Executes an `End`. If the node is not the root, writes its record, moves the values of its
-    /// synthesized attributes to their copies in the parent's row, removes its own row, and returns
-    /// the parent. Otherwise returns `None`: `finish` writes the root's record. Fails with D1 if
-    /// the device fails, and with `NoMemory` if memory cannot be allocated.
+    /// synthesized attributes to their copies in the parent's row, removes the node's row, and
+    /// returns the parent. For the root, returns `None`: `finish` writes the root's record. Fails
+    /// with D1 if the device fails, and with `NoMemory` if memory cannot be allocated.
     #[inline(always)]
     pub(crate) fn finish_node<E: Device>(
         &mut self,
@@ -322,8 +323,8 @@ impl Machine {
         Ok(Some(outer))
     }
 
-    /// Returns the node after its next instruction if that is the `Put` of a child that is a node,
-    /// whose record was written already. Otherwise returns the same node.
+    /// Skips a `Put` that would write nothing: returns the node after its next instruction, if this
+    /// is the `Put` of a child that is a node. Otherwise returns the same node.
     #[inline(always)]
     pub(crate) fn skip_put(&self, context: &PassContext<'_>, node: OpenNode) -> OpenNode
         requires context { CanRun context.now }
@@ -343,9 +344,8 @@ impl Machine {
         node.after_step(node.child)
     }
 
-    /// Ends a node if its next instruction is an `End`. If the parent's next instruction is then
-    /// the `Put` of a child that is a node, skips it, since it would write nothing. Returns the
-    /// node that continues, or `None` if the root is done. Fails as `finish_node` does.
+    /// Ends a node if its next instruction is an `End`, and then calls `skip_put` for the parent.
+    /// Returns the node that continues, or `None` if the root is done. Fails as `finish_node` does.
     #[inline(always)]
     pub(crate) fn finish_if_ended<E: Device>(
         &mut self,
@@ -385,11 +385,11 @@ impl Machine {
         Ok(Some(self.skip_put(context, outer)))
     }
 
-    /// Executes the next instruction of the innermost open node. In the same step it executes a
-    /// `Go` directly after a `Get`, and an `End` directly after a rule. After an `End` it skips the
-    /// parent's `Put` for the ended node, if that is next. Returns the node that continues, or
-    /// `None` if the root is done. Fails as `get`, `run_rule`, `enter_child`, `put` and
-    /// `finish_node` do.
+    /// Executes the next instruction of the innermost open node. The same step also executes a `Go`
+    /// directly after a `Get`, and an `End` directly after a rule. After an `End` the step skips
+    /// the parent's `Put` of the ended node, if this `Put` is next. Returns the node that
+    /// continues, or `None` if the root is done. Fails as `get`, `run_rule`, `enter_child`, `put`
+    /// and `finish_node` do.
     #[inline(always)]
     pub(crate) fn step<D: Device, E: Device>(
         &mut self,

@@ -74,15 +74,15 @@ pub(crate) fn run_in_context<D: Device, E: Device>(
 /// the call.
 ///
 /// Fails with R1 (`Damaged`) only if the first file is that of no tree of the grammar after the
-/// previous pass. The offset is 0 if the file does not begin as a tree file, and 4 if it is that of
-/// another pass. Otherwise it is the end of the frame that shows the damage, or the offset at which
-/// a frame should end. If a limit is exceeded before any damage, fails with P2 or P3 instead: with
-/// P2 (`TooDeep`) before a record one level deeper than `MAX_DEPTH` is read, and with P3
-/// (`TooManyNodes`) before one record more than `MAX_NODES` is read. With P2 the file encodes no
-/// tree of at most `MAX_DEPTH` levels, with P3 none of at most `MAX_NODES` nodes. It may encode no
-/// tree at all. These claims about the file hold if the first device returns the bytes that were
-/// written to it. Fails with D1 (`Device`) if a call of one of the devices failed, and with
-/// `NoMemory` if memory cannot be allocated.
+/// previous pass. The offset is 0 if the file does not begin as a tree file of version 2, and 4 if
+/// its header has the number of another pass. Otherwise the offset is the end of the frame that
+/// shows the damage, or where a frame should end. If a limit is exceeded before any damage, fails
+/// with P2 or P3 instead: with P2 (`TooDeep`) before a record one level deeper than `MAX_DEPTH` is
+/// read, and with P3 (`TooManyNodes`) before one record more than `MAX_NODES` is read. With P2 the
+/// file encodes no tree of at most `MAX_DEPTH` levels, with P3 none of at most `MAX_NODES` nodes.
+/// It may encode no tree at all. These claims about the file hold if the first device returns the
+/// bytes that were written to it. Fails with D1 (`Device`) if a call of one of the devices failed,
+/// and with `NoMemory` if memory cannot be allocated.
 ///
 /// Only reads the first device. After a failure the second device has its old content, or a prefix
 /// of a tree file. Allocates memory for the layouts of the productions and the hints, for a buffer

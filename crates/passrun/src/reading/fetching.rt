@@ -25,9 +25,9 @@ pub(crate) struct ExpectedRecord {
     /// The item whose record it is.
     pub(crate) item: Item,
     /// The production of the item's parent, and the item's place there. `read_record` finds hints
-    /// by them. The root has no parent: for it, place 0 of production 0, which has no hints.
+    /// by them. The root has no parent. Its location is place 0 of production 0, without hints.
     pub(crate) location: ChildLocation,
-    /// The number of open nodes above it.
+    /// The number of open nodes above the item's node.
     pub(crate) open_count: usize,
 }
 
@@ -110,10 +110,10 @@ fn fetch_lent<D: Device>(
 /// Reads the next record as the expected one, and appends its row to the values. Returns the number
 /// in the record: that of the production, or that of the token's class.
 ///
-/// Fails with P2 if the record's node would be at a level beyond `MAX_DEPTH`, and with P3 if
-/// `MAX_NODES` records were read already. Fails with R1 and the offset that the reader has reached
-/// if no frame ends there, or if the body of the frame there is not a record of the item. Fails
-/// with D1 if the device fails, and with `NoMemory` if memory cannot be allocated.
+/// Fails with P2 if the record's node would be at a level beyond `MAX_DEPTH`, and otherwise with P3
+/// if `MAX_NODES` records were read already. Fails with R1 and the offset that the reader has
+/// reached if no frame ends there, or if the body of the frame there is not a record of the item.
+/// Fails with D1 if the device fails, and with `NoMemory` if memory cannot be allocated.
 #[inline(always)]
 pub(crate) fn fetch<D: Device>(
     context: &PassContext<'_>,

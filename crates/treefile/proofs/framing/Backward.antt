@@ -237,7 +237,7 @@ module _ (version : Version) (content : List ℕ) where
       All-cons (IsBody version) body bodies (record { least = is.least; greatest = is.greatest })
       (read_bodies bytes bodies (before_frame at body) start (omega arith) read.1)
 
-  -- B2 has the offset, and B1 never occurs
+  -- a B2 that `next_before` gives has its offset; B1 never occurs
   pub damage_is_there : (at other : ℕ) → next_before version content at ≡ Err (Damaged other) → other ≡ at
   unfolding next_before
   damage_is_there at other e = by_test (nat_eq at header_bytes) (body_before version content at) (answers version content at) e

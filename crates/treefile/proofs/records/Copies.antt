@@ -35,7 +35,7 @@ synthesized_is g m None a p is = is
 synthesized_is g m (Some q) a p is = get_take (synthesized_count (slice_get g.symbols q.left)) (m q.left) a p is
 
 module _ (g : Grammar) (m : Passes) (k : ℕ) where
-  -- the copy of a node of a symbol is of that symbol's synthesized attributes
+  -- the copy of a node of a symbol has values of that symbol's synthesized attributes
   pub left_of : (s p : ℕ) (q : Production) → slice_get g.productions p ≡ Some q → q.left ≡ s
       → left_synthesized g m (slice_get g.productions p) ≡ synthesized_passes g m s
   left_of s p q there left = ap (left_synthesized g m) there ∙ ap (synthesized_passes g m) left
@@ -133,7 +133,7 @@ module _ (g : Grammar) (m : Passes) (k : ℕ) where
   are_copies false xs ts vs f texts well = refl
   are_copies true xs ts vs f texts well = (copies_length xs ts vs f, copies_well ts vs texts well)
 
-  -- and trees that match their copies are trees of the items, and have these copies
+  -- trees that match their copies are trees of the items, and have these copies
   pub fits_exact : (has : Bool) (xs : List Item) (cs : List Value) (ts : Forest) (vs : ℕ → Valuation)
       → MatchCopies (children_with_copies has g m k xs cs) ts vs → FitsAll g xs ts
   fits_exact has [] cs none vs a = tt

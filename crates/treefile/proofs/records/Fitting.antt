@@ -30,12 +30,12 @@ few_kinds g s accepted (Some y) e =
       length-append y.syn y.inh,
     )
 
--- and at most 16 passes under a legal assignment
+-- under a legal assignment the row of a symbol has at most 16 passes, one for each attribute
 pub few_passes : (g : Grammar) (m : Passes) (s : ℕ) → IsAccepted g → IsLegal g m → length (m s) ≤ 16
 few_passes g m s accepted legal = let few = few_kinds g s accepted (slice_get g.symbols s) refl in let same = legal.whole s in
     omega arith
 
--- so the copy of one child has at most 16 values
+-- the copy of one child has at most 16 values
 few_copied : (g : Grammar) (m : Passes) (x : Item) → IsAccepted g → IsLegal g m → max_copied g m x ≤ 16
 few_copied g m (item.Symbol s) accepted legal =
     omega (arith, length-take (synthesized_count (slice_get g.symbols s)) (m s), few_passes g m s accepted legal)
@@ -50,7 +50,7 @@ few_copies g m (x ∷ xs) accepted legal = omega (arith, few_copied g m x accept
 pub numbered : (g : Grammar) → IsAccepted g → IsNumbered g
 numbered g accepted = let few = accepted.limits.production_count in omega arith
 
--- and a record has no more values than either version allows
+-- a record of an accepted grammar has no more values than either version allows, under a legal assignment
 pub fits_version_one : FitsAccepted version_one
 fits_version_one g m accepted legal =
     (numbered g accepted, record { tokens = omega arith; nodes = λ p q is. few_passes g m q.left accepted legal })

@@ -186,7 +186,7 @@ damaged_exact version content at bytes within none =
       | inr exact ↦ exact
     ]
 
--- no frame fits before this offset
+-- no frame fits before an offset below 10
 pub none_before : (version : Version) (content : List ℕ) (at : ℕ) → at < 10 → body_before version content at ≡ Err (Damaged at)
 unfolding body_before
 none_before version content at short = rw (lt-ltb at 10 short) refl

@@ -100,7 +100,7 @@ are_copies_in false g m k q vs count all = refl
 are_copies_in true g m k q vs count all =
     (omega (arith, length-drop (count_up_to k (m q.left)) vs), All-drop IsWell (count_up_to k (m q.left)) vs all)
 
--- the children with these copies
+-- the children with the copies of a list are those with the values after its first n
 copies_within : (has : Bool) (g : Grammar) (m : Passes) (k n : ℕ) (xs : List Item) (vs : List Value)
     → children_with_copies has g m k xs (copies_in has n vs) ≡ children_with_copies has g m k xs (drop n vs)
 copies_within true g m k n xs vs = refl

@@ -123,7 +123,7 @@ pub leading_tree : OneTreeBefore
 leading_tree version g m k d x t s u w rest others few is_t is_s e =
     one_tree version g m k few d x t s u w rest others is_t.fits is_s.fits is_t.texts is_s.texts is_t.well is_s.well e
 
--- read from their ends, lists with postfix lists begin with prefix lists
+-- from its end, a list that ends with a postfix list begins with a prefix list: so `OneTreeAtEnd` follows from `OneTreeBefore`
 pub tree_at_end : OneTreeAtEnd
 tree_at_end version g m k d x t s u w leading others few is_t is_s e =
     let a = bodies_of version g m k t u in

@@ -1,4 +1,4 @@
--- The two orders of a tree's bodies, their lengths, and that a list is that of at most one tree.
+-- The two orders of a tree's bodies: their lengths, and that a list begins or ends with the bodies of at most one tree.
 use Rattle.std.proofs.Common.{◌≡◌, ℕ, suc, ◌+◌, List, [], ◌∷◌, ◌++◌, length, Option, Some, reverse, refl, ap, sym, ◌∙◌}
 use Rattle.std.proofs.Common.{append_assoc, length-append, arith}
 use Rattle.std.proofs.lemmas.List.{length-reverse, reverse-append, reverse-reverse}
@@ -84,7 +84,7 @@ module _ (arity : List ℕ → Option ℕ) where
         let first = one_tree RightToLeft t u xs ys f.0 g.0 rest.1 in
         (ap (λ (v : BodyTree). more v ts) first.0 ∙ ap (more u) rest.0, first.1)
 
-  -- the same of lists that end with postfix lists
+  -- a list ends with the postfix list of at most one tree
   pub one_tree_at_end : (d : Direction) (t u : BodyTree) (xs ys : List (List ℕ)) → MatchesArity arity t → MatchesArity arity u
       → xs ++ postfix d t ≡ ys ++ postfix d u → (t ≡ u) × (xs ≡ ys)
   one_tree_at_end d t u xs ys f g e =

@@ -23,7 +23,7 @@ spellings_size (value ∷ values) all =
     spellings_size values (All-drop IsWell 1 (value ∷ values) all) in
     omega (arith, length-append (spelling_of value) (flat_map spelling_of values))
 
--- so the body with at most as many well values as the version allows has no more bytes than the greatest body
+-- a body whose values are well, and no more than the version allows, has no more bytes than the greatest body
 pub body_size : (version : Version) (kind : Kind) (number : ℕ) (values : List Value) → length values ≤ version.max_values
     → All IsWell values → length (body_of kind number values) ≤ greatest_body version
 body_size version kind number values few all = omega (arith, spellings_size values all)

@@ -34,7 +34,7 @@ spelled_apart v w xs ys a b e =
     let q : ◌≡◌ {A = Value × List ℕ} (v, xs) (w, ys) = cc in
     (ap (λ (z : Value × List ℕ). z.0) q, ap (λ (z : Value × List ℕ). z.1) q)
 
--- equality at the first attribute, if its pass is one of these, and at the others
+-- values are the same up to pass k if those of the first attribute are (or its pass is later) and those of the others are
 same_first : (k p : ℕ) (ps : List ℕ) (e f : ℕ → Value) → (p ≤ k → e 0 ≡ f 0)
     → SameAt (λ n. n ≤ k) ps (λ a. e (suc a)) (λ a. f (suc a)) → SameAt (λ n. n ≤ k) (p ∷ ps) e f
 same_first k p ps e f h r zero q is le =
@@ -42,7 +42,7 @@ same_first k p ps e f h r zero q is le =
     h (subst (λ n. n ≤ k) (sym same) le)
 same_first k p ps e f h r (suc a) q is le = r a q is le
 
--- so do the spellings of a record's values followed by bytes
+-- the spellings of a record's values followed by bytes determine the values and these bytes
 spelled_values : (k : ℕ) (ps : List ℕ) (e f : ℕ → Value) (xs ys : List ℕ) → WellAt (λ n. n ≤ k) ps e e
     → WellAt (λ n. n ≤ k) ps f f → flat_map spelling_of (values_up_to k ps e) ++ xs ≡ flat_map spelling_of (values_up_to k ps f)
     ++ ys → SameAt (λ n. n ≤ k) ps e f × (xs ≡ ys)
@@ -77,7 +77,7 @@ spelled_values k (p ∷ ps) e f xs ys a b same =
         let rest = later same in
         (same_first k p ps e f (λ le. absurd (let bad : true ≡ false = sym (le-leb p k le) ∙ is in cc)) rest.0, rest.1)
 
--- so does a number in two bytes followed by bytes
+-- a number in two bytes followed by bytes determines the number and these bytes
 numbered_apart : (p r : ℕ) (xs ys : List ℕ) → p < 2 ^ 16 → r < 2 ^ 16 → to_be_bytes w16 p ++ xs ≡ to_be_bytes w16 r ++ ys
     → (p ≡ r) × (xs ≡ ys)
 numbered_apart p r xs ys a b e = (

@@ -19,7 +19,7 @@ count_of_values k (p ∷ ps) e = by_test (nat_le p k) (count_of_values k ps (λ 
     by_test true later = omega arith
     by_test false later = omega arith
 
--- at most the number of attributes
+-- this number is at most the number of attributes
 pub few_counted : (k : ℕ) (ps : List ℕ) → count_up_to k ps ≤ length ps
 few_counted k [] = omega arith
 few_counted k (p ∷ ps) = by_test (nat_le p k) (few_counted k ps)

@@ -62,7 +62,7 @@ third_is_buffered =
 pub taken_of_three : taken Some third_is_buffered ≡ Some (7 ∷ 8 ∷ 9 ∷ [])
 taken_of_three = refl
 
--- nothing is known of the device if nothing is known of the file
+-- the bytes taken can't be named if the bytes of the file can't be named
 pub taken_unknown : taken (λ _. None) third_is_buffered ≡ None
 taken_unknown = refl
 

@@ -3,12 +3,12 @@ use Rattle.std.specs.Prelude.{ℕ, ◌⊎◌, Bool, true}
 use Rattle.std.proofs.Common.{inl, inr, lit<, lit≤}
 use Rattle.treefile.specs.devices.Device.{HasRisen, Persists}
 
--- the effects of a call on a device besides its content, whatever the call returns. `honest` and `failures` give the honesty and
--- the number of failures of a device of this type
+-- The effects of a call on a device besides its content. Nothing is claimed of the result of the call. `honest` and `failures`
+-- give the honesty and the number of failures of a device of this type.
 abbrev pub Lasts : {D : Type 0} → (D → Bool) → (D → ℕ) → D → D → Type 0
 Lasts honest failures old new = Persists (honest old) (honest new) (failures old) (failures new) ⊥
 
--- A call has these effects (`Lasts`) on two devices: one is `old` before the call and `new` after it, the other `other_old` and
+-- A call has these effects (`Lasts`) on two devices. Before the call they are `old` and `other_old`, after it `new` and
 -- `other_new`. If the call returns that a device failed, which `failed` states, the failures of one of the two have risen.
 pub record BothPersist {D E : Type 0} (honest : D → Bool) (failures : D → ℕ) (old new : D) (other_honest : E → Bool)
     (other_failures : E → ℕ) (other_old other_new : E) (failed : Type 0) : Type 0 where

@@ -32,8 +32,8 @@ abbrev pub AreCopies : Bool → Grammar → Passes → ℕ → List Item → Lis
 AreCopies false g m k xs copies = copies ≡ []
 AreCopies true g m k xs copies = (length copies ≡ copies_count g m k xs) × All IsWell copies
 
--- A body is the record of a node of symbol s in the file of pass k: of a production of the symbol, with well
--- values up to the pass, and, in a version with copies, with copies of its children's synthesized ones.
+-- A body is the record of a node of symbol s in the file of pass k. The node is of a production of the symbol, and its values up
+-- to the pass are well. In a version with copies, copies of its children's synthesized values follow.
 pub record IsNodeRecord (version : Version) (g : Grammar) (m : Passes) (k s : ℕ) (body : List ℕ) (p : ℕ) (q : Production)
     (e : ℕ → Value) : Type 0 where
   pub production : IsProduction g p q

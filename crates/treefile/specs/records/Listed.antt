@@ -55,9 +55,9 @@ abbrev pub stored_count : Bool → Grammar → Passes → ℕ → Production →
 stored_count false g m k q = count_up_to k (m q.left)
 stored_count true g m k q = count_up_to k (m q.left) + copies_count g m k (stored_items q.items)
 
--- A body is the record of a node of symbol s in the file of pass k, with its values as a list: of a
--- production of the symbol, with a well value for each attribute of the symbol of a pass up to k, and, in a
--- version with copies, one for each copy of a value of its children (`copies_count`).
+-- A body is the record of a node of symbol s in the file of pass k, with the values vs. The node is of a production of the
+-- symbol. There is a well value for each attribute of the symbol whose pass is at most k. In a version with copies, a well value
+-- follows for each copy of a child's value (`copies_count`).
 pub record IsListedRecord (version : Version) (g : Grammar) (m : Passes) (k s : ℕ) (body : List ℕ) (p : ℕ) (q : Production)
     (vs : List Value) : Type 0 where
   pub production : IsProduction g p q

@@ -40,8 +40,8 @@ abbrev pub left_synthesized : Grammar → Passes → Option Production → List 
 left_synthesized g m None = []
 left_synthesized g m (Some q) = synthesized_passes g m q.left
 
--- The values of a tree's root that its parent's record copies: the synthesized ones whose pass is at most k;
--- of a token its `lex`.
+-- The values of a tree's root that its parent's record copies. For a token this is its `lex`. For another node these are
+-- the values of the synthesized attributes whose pass is at most k.
 abbrev pub copy_of : Grammar → Passes → ℕ → Tree → Valuation → List Value
 copy_of g m k (tree.leaf c text) v = Text text ∷ []
 copy_of g m k (tree.node p ts) v = values_up_to k (left_synthesized g m (slice_get g.productions p)) (v [])
@@ -56,8 +56,8 @@ abbrev pub with_copies : Bool → List Value → List Value → List Value
 with_copies false own copies = own
 with_copies true own copies = own ++ copies
 
--- The record of a node: its production, the values of those of its symbol's attributes whose pass is at most
--- k, and, in a version with copies, copies of its children's synthesized ones (`copies_of`).
+-- The record of a node: its production, and the values of those attributes of its symbol whose pass is at most
+-- k. In a version with copies, copies of its children's synthesized values follow (`copies_of`).
 abbrev pub node_body : Version → Grammar → Passes → ℕ → ℕ → (ℕ → Value) → List Value → List ℕ
 node_body version g m k p values copies =
     body_of Node p (with_copies version.has_copies (values_up_to k (left_passes m (slice_get g.productions p)) values) copies)

@@ -62,13 +62,13 @@ missing c = let r = c.all (attribute 0 0) refl in no_rule r.0 r.1 r.2
 pub refused : IsAccepted without_out → ⊥
 refused a = missing (a.complete 0 underivable refl)
 
--- rules 2 and 3 have the same target
+-- rules 2 and 3, counted from 0, have the same target
 pub doubled_refused : IsAccepted doubled → ⊥
 doubled_refused a = let same =
     (a.complete 0 (production_r (rule_out ∷ rule_first ∷ rule_second ∷ rule_second ∷ [])) refl).single 2 3 rule_second rule_second
     refl refl refl in cc
 
--- a rule with one occurrence and no argument
+-- the first rule has one occurrence and no argument
 pub bare_refused : IsAccepted bare → ⊥
 bare_refused a = let same =
     (a.named.rules_named 0 (production_r (rule_bare ∷ rule_first ∷ rule_second ∷ [])) refl 0 rule_bare
@@ -182,7 +182,7 @@ no_separator b above s =
           [ inl e ↦ omega arith | inr u ↦ elim u [ inl e ↦ omega arith | inr e ↦ omega arith ] ]
     ]
 
--- a rule with one occurrence is named
+-- a rule of the first production with one occurrence satisfies `IsNamedRule`
 copy_named : (target : Target) (j : ℕ) (name : List ℕ) (a : ℕ) (k : Kind) → HasKind sample first target k
     → slice_get (item_names sample (item_at first j)) a ≡ Some name → IsNamedRule sample first (copy_rule target j name a)
 copy_named target j name a k there is = record {

@@ -14,8 +14,8 @@ use Rattle.backreader.proofs.turnings.Mirror.{mirror, other-other, postfix-mirro
 use Rattle.backreader.proofs.turnings.Whole.{tree_back}
 use Rattle.backreader.proofs.laws.reversing_twice_restores.Goals as goal
 
--- If t and u have one postfix list, each in some direction, then their lists in the two other directions are equal too: if the
--- two directions are equal, t and u are one tree, and else u is the mirror image of t.
+-- If the postfix lists of t and u, each in some direction, are equal, so are their lists in the opposite directions. For t and u
+-- are one tree if both directions are equal, and mirror images of each other otherwise.
 twice : (arity : List ℕ → Option ℕ) (d e : Direction) (t u : BodyTree) → MatchesArity arity t → MatchesArity arity u
     → postfix (other d) t ≡ postfix e u → postfix (other e) u ≡ postfix d t
 twice arity LeftToRight RightToLeft t u r s same =

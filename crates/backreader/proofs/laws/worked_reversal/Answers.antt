@@ -18,7 +18,7 @@ tree_of_one =
     (more (branch (body_of 3) (more (branch (body_of 7) none) (more (branch (body_of 4) none) none)))
     (more (branch (body_of 1) none) none))
 
--- the length of each of them is within the limits
+-- the length of each body is within the limits
 may_occur : (production : ℕ) → IsBody version_two (body_of production)
 may_occur production = record { least = lit≤ tt; greatest = lit≤ tt }
 

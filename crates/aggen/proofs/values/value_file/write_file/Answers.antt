@@ -8,14 +8,14 @@ use Rattle.treefile.proofs.framing.Beginning.{frames_begin, not_begun, one_added
 use Rattle.treefile.proofs.records.Records.{is_body}
 use Rattle.aggen.proofs.values.value_file.write_file.Goals as goal
 
--- a prefix of the header
+-- after a failure of `begin` the device has what it had, or a prefix of the header
 pub returns-in_err-writer-clause-left : goal.returns-in_err-writer-clause-left
 returns-in_err-writer-clause-left g c = λ h.
     not_begun 0 (g.D.Device.content c.args.device.now) (g.D.Device.content c.begin.new.device) c.in_err-writer.field-0.0
     (λ failed. c.in_err-writer.ensures.device (ap Err failed) h)
     (λ resource. c.in_err-writer.ensures.memory (ap Err resource) h)
 
--- of the frame,
+-- after a failure of `put` it has the header and a prefix of the frame
 pub returns-in_err-put-clause-left : goal.returns-in_err-put-clause-left
 returns-in_err-put-clause-left g c = λ h.
     let values = c.args.value ∷ [] in
@@ -27,7 +27,7 @@ returns-in_err-put-clause-left g c = λ h.
     (one_refused DeviceFault begun now (body_of Token 0 values) f f sound
     (λ failed. c.in_err-put.ensures.device (ap Err failed) h) (λ resource. c.in_err-put.ensures.memory (ap Err resource) h)))
 
--- or all of it
+-- after success it has the header and the frame
 pub returns-clause-left : goal.returns-clause-left
 returns-clause-left g c = λ h.
     let values = c.args.value ∷ [] in

@@ -8,8 +8,8 @@ use Rattle.tree_upgrade.proofs.upgrading.Upgrading.+tree.Given as goal
 abbrev pub decreases-tree : goal.decreases-tree
 decreases-tree g l = 257 - l.subtree.level
 
--- Since the record of their parent was read, the trees of the last items were converted, and as many records were written as
--- were read after it.
+-- After the record of the node was read, the trees of its last items were converted, and one record was written for each record
+-- that was read since.
 abbrev pub invariant-loop-at : goal.invariant-loop-at
 invariant-loop-at g l =
     record {
