@@ -77,7 +77,7 @@ impl<F: Read + Write + Seek + OpenFile> WorkFiles<F> {
     /// Writes the bytes that the two devices have buffered to their files. Writes those of b.agt
     /// also if a write to a.agt fails. Fails with `Failed` (D1) if one of these writes failed, or
     /// an earlier write.
-    pub(crate) fn finish(&mut self) -> Result<(), DeviceFault>
+    pub fn finish(&mut self) -> Result<(), DeviceFault>
         ensures a { OnOk result (StoresContent self.old.a self.new.a) }
         ensures b { OnOk result (StoresContent self.old.b self.new.b) }
         ensures buffered { OnOk result

@@ -1,7 +1,7 @@
 //! The command that translates the tree in a tree file: `eval`.
 
 use crate::cause::{CauseFinder, with_cause};
-use crate::translations::{finish, without_write_fault, write_translation};
+use crate::translations::{open_work, without_write_fault, write_translation};
 use ag_job::{ReadFault, read_prefix};
 use ag_value::Value;
 use aggen::{Fault, Translator};
@@ -155,7 +155,7 @@ impl<R: Files + Input + Print + Eprint + Clock> EvaluationRun<'_, R> {
         tree: &mut T,
         out: &mut W,
     ) -> Result<(), Fault> {
-        match self.open_work(folder) {
+        match open_work(self.rt, self.alloc, folder) {
             Ok(mut files) => match files.evaluate(self.alloc, self.translator, tree, out) {
                 Ok(_) => Ok(()),
                 Err(fault) => Err(fault),
@@ -202,8 +202,8 @@ impl<R: Files + Input + Print + Eprint + Clock> EvaluationRun<'_, R> {
     }
 
     /// Translates the tree on a device to `text` with the tree files of the passes in a folder, and
-    /// shows the progress. Fails as `WorkFiles::open`, `finish` and `evaluate_on` do. If both
-    /// `finish` and `evaluate_on` fail, fails with the fault of `finish`.
+    /// shows the progress. Fails as `WorkFiles::open`, `WorkFiles::finish` and `evaluate_on` do. If
+    /// both `finish` and `evaluate_on` fail, fails with the fault of `finish`.
     fn run_shown_in<T: Device>(
         &self,
         folder: &str,
@@ -211,28 +211,18 @@ impl<R: Files + Input + Print + Eprint + Clock> EvaluationRun<'_, R> {
         progress: &Progress<'_, R>,
         text: &mut Vec<u8>,
     ) -> Result<(), Fault> {
-        let WorkFiles { a, b } = match self.open_work(folder) {
-            Ok(files) => files,
-            Err(fault) => return Err(fault),
-        };
+        let WorkFiles { a, b } = open_work(self.rt, self.alloc, folder)?;
         let mut a = ShownDevice::new(a, progress);
         let mut b = ShownDevice::new(b, progress);
         let evaluated = self.evaluate_on(tree, &mut a, &mut b, text);
-        match finish(a.into_inner(), b.into_inner()) {
+        let mut files = WorkFiles {
+            a: a.into_inner(),
+            b: b.into_inner(),
+        };
+        match files.finish() {
             Ok(()) => evaluated,
-            Err(fault) => Err(fault),
+            Err(fault) => Err(Fault::from(fault)),
         }
-    }
-
-    /// Opens the tree files a.agt and b.agt in a folder.
-    fn open_work(&self, folder: &str) -> Result<WorkFiles<R::File>, Fault> {
-        WorkFiles::open(
-            self.rt,
-            self.alloc,
-            folder,
-            CallRecord::new(),
-            CallRecord::new(),
-        )
     }
 
     /// Returns the report of a fault. With `--work`, the report names the folder of the tree files:

@@ -17,10 +17,9 @@ use program_io::{
 };
 use screen::{Progress, Screen, ShownDevice};
 use std::alloc::Global;
-use std::fs::OpenFile;
 use std::io::{self, Write};
 use std::rt::{Clock, Files};
-use treefile::{Device, FileDevice, SharedDevice};
+use treefile::{Device, SharedDevice};
 
 /// Translates a sentence, and prints the translation or writes it to a file. Reads the grammar,
 /// then the sentence, then creates the tree files of `--work`, and at last writes the translation.
@@ -250,7 +249,7 @@ impl<R: Files + Print + Eprint + Clock> TranslationRun<'_, R> {
     /// writes the translation to `out`. The fault, if there is one, is that of `WorkFiles::open` or
     /// of `WorkFiles::translate`.
     fn run_in<W: Write>(&self, folder: &str, sentence: Source<'_>, out: &mut W) -> Outcome {
-        match self.open_work(folder) {
+        match open_work(self.rt, self.alloc, folder) {
             Ok(mut files) => {
                 let translated = files.translate(self.alloc, self.translator, sentence.bytes, out);
                 self.outcome_of(translated, sentence, &mut files.a, &mut files.b)
@@ -288,8 +287,8 @@ impl<R: Files + Print + Eprint + Clock> TranslationRun<'_, R> {
     }
 
     /// Translates a sentence to `text` with the tree files in a folder, and shows the progress.
-    /// The fault, if there is one, is that of `WorkFiles::open`, of `finish` or of the translation.
-    /// If both `finish` and the translation fail, it is that of `finish`.
+    /// The fault, if there is one, is that of `WorkFiles::open`, of `WorkFiles::finish` or of the
+    /// translation. If both `finish` and the translation fail, it is that of `finish`.
     fn run_shown_in(
         &self,
         folder: &str,
@@ -297,7 +296,7 @@ impl<R: Files + Print + Eprint + Clock> TranslationRun<'_, R> {
         progress: &Progress<'_, R>,
         text: &mut Vec<u8>,
     ) -> Outcome {
-        let WorkFiles { a, b } = match self.open_work(folder) {
+        let WorkFiles { a, b } = match open_work(self.rt, self.alloc, folder) {
             Ok(files) => files,
             Err(fault) => return Outcome::failure(fault),
         };
@@ -306,37 +305,26 @@ impl<R: Files + Print + Eprint + Clock> TranslationRun<'_, R> {
         let translated = self
             .translator
             .translate(sentence.bytes, &mut a, &mut b, text);
-        let (mut a, mut b) = (a.into_inner(), b.into_inner());
-        let outcome = self.outcome_of(translated, sentence, &mut a, &mut b);
-        match finish(a, b) {
+        let mut files = WorkFiles {
+            a: a.into_inner(),
+            b: b.into_inner(),
+        };
+        let outcome = self.outcome_of(translated, sentence, &mut files.a, &mut files.b);
+        match files.finish() {
             Ok(()) => outcome,
-            Err(fault) => Outcome::failure(fault),
+            Err(fault) => Outcome::failure(Fault::from(fault)),
         }
-    }
-
-    /// Opens the tree files a.agt and b.agt in a folder.
-    fn open_work(&self, folder: &str) -> Result<WorkFiles<R::File>, Fault> {
-        WorkFiles::open(
-            self.rt,
-            self.alloc,
-            folder,
-            CallRecord::new(),
-            CallRecord::new(),
-        )
     }
 }
 
-/// Writes to both files the bytes that their devices have buffered, to the second one also if the
-/// first one fails. Fails with D1 if one of these writes or an earlier one failed.
-pub fn finish<F: io::Read + Write + io::Seek + OpenFile + Drop>(
-    mut a: FileDevice<F>,
-    mut b: FileDevice<F>,
-) -> Result<(), Fault> {
-    let first = a.finish();
-    let second = b.finish();
-    first?;
-    second?;
-    Ok(())
+/// Opens the tree files a.agt and b.agt in a folder, each with a new record of calls. Fails as
+/// `WorkFiles::open` does.
+pub fn open_work<R: Files>(
+    rt: &R,
+    alloc: Global,
+    folder: &str,
+) -> Result<WorkFiles<R::File>, Fault> {
+    WorkFiles::open(rt, alloc, folder, CallRecord::new(), CallRecord::new())
 }
 
 /// Writes a translation that was made in memory. `translated` is the result of making it, and

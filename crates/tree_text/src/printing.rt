@@ -125,8 +125,9 @@ impl TreeText<'_> {
 ///
 /// Fails with R1 if a record is damaged, with D1 if a call of the device fails, with O2 if the
 /// output fails, and if memory is refused. A part of the text may have been printed before a
-/// failure. A record can be damaged even if the index was made without a failure: `read_shape`
-/// does not read the values, and after `TreeIndex::read` the file may have changed.
+/// failure. A record can be damaged even if the index was made without a failure:
+/// `TreeIndex::read_shape` does not read the values, and the file may have changed since
+/// `TreeIndex::read` or `TreeIndex::read_shape` read it.
 pub fn write_tree<D: Device, W: Write>(
     alloc: Global,
     text: &TreeText<'_>,

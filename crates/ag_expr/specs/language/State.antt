@@ -107,7 +107,7 @@ begins_here scope (token.Occurrence place attr) = true
 begins_here scope t = begins [] scope t
 
 -- The contract of a function that parses as the specification's parser `read`. After Ok, the result, converted by `view`, is that
--- of `read`. The reader has advanced over the same tokens, and the rest of its state is unchanged. After a failure other than
+-- of `read`. The reader has advanced over the same tokens, and what `KeepsContext` names is unchanged. After a failure other than
 -- `NoMemory`, the fault is that of `read`.
 abbrev pub ReadsAs : {X Y : Type 0} → (X → Y) → (List Occ → Names → Parser Y) → State → Result X ExprFault → State → Type 0
 ReadsAs view read old (Ok x) new =

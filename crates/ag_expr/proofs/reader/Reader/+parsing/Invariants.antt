@@ -10,8 +10,8 @@ use Rattle.ag_expr.specs.declared.parser.Precedence.{Precedence}
 use Rattle.ag_expr.specs.declared.parser.Precedence.TheVariants as precedence
 use Rattle.ag_expr.proofs.reader.Reader.+parsing.Given as goal
 
--- A bound on the depth of calls within one level, from `operand_after` of a precedence down to a call for an inner expression. It
--- is a part of the numbers below, which show that the recursion ends.
+-- The numbers below show that the recursion ends: each function has a smaller number than those that call it. This one is the
+-- part that depends on the precedence. An expression one level deeper has 40 less, so the differences within a level are below 40.
 abbrev above : Precedence → ℕ
 above precedence.Comparison = 21
 above precedence.Join = 16
