@@ -15,7 +15,7 @@ joined_ends : (before : ℕ) (prefix : List ℕ) → last_after before (prefix +
 joined_ends before [] = refl
 joined_ends before (byte ∷ bytes) = joined_ends byte bytes
 
--- a text of whole lines is empty or ends with LF (10), so that `last_after` gives LF for it, if it gives LF for the empty text
+-- the last byte of a text of whole lines is LF (10); if the text is empty, it is the byte before the text, here LF too
 whole_ends : (text : List ℕ) → AreWholeLines text → last_after 10 text ≡ 10
 whole_ends text (inl none) = ap (last_after 10) none
 whole_ends text (inr (prefix, e)) = ap (last_after 10) e ∙ joined_ends 10 prefix

@@ -38,7 +38,7 @@ impl Rope {
 }
 
 /// Returns a rope that is `rope` with `bytes` added at the beginning of its first piece. Returns
-/// `None` if the first piece is more than `levels` nodes below the root, and if it would have more
+/// `None` if the first piece is more than `levels` nodes below the root, or if it would have more
 /// than `MAX_PIECE` bytes. `rope` may have other owners, so `rope` stays as it is: the result has a
 /// new first piece with new nodes above it, and shares all other pieces with `rope`. Fails with
 /// AllocError.
@@ -67,7 +67,7 @@ fn extend_first(
 }
 
 /// Returns a rope that is `rope` with `bytes` added at the end of its last piece. Returns `None` if
-/// the last piece is more than `levels` nodes below the root, and if it would have more than
+/// the last piece is more than `levels` nodes below the root, or if it would have more than
 /// `MAX_PIECE` bytes. As with `extend_first`, `rope` stays as it is, and the result shares all
 /// other pieces with `rope`. Fails with AllocError.
 fn extend_last(
