@@ -135,7 +135,7 @@ fn meter_text(alloc: Global, expr: &Expr, lent: &Value) -> Result<String, Mistak
         return Err(Mistake::Unfit);
     }
     let mut meter = Meter::new();
-    let _value = eval(alloc, expr, &SameValue { value: lent }, &mut meter);
+    let _value = eval(alloc, expr, &SameValue { value: lent }, &mut meter)?;
     Ok(format!(in alloc; "{}, full {}", meter.count(), meter.is_full())?)
 }
 

@@ -167,7 +167,7 @@ fn plan(alloc: Global, grammar: &Grammar) -> Result<Plan, Mistake>
     let assignment = assignment(alloc)?;
     match check_plan(grammar, assignment, code) {
         Ok(plan) => Ok(plan),
-        Err(fault) => Err(Mistake::Unfit),
+        Err(_) => Err(Mistake::Unfit),
     }
 }
 

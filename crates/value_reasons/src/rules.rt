@@ -78,8 +78,8 @@ impl<'a> ExplainedTree<'a> {
     }
 
     /// Writes a rule as it is in the grammar's text, without its `;`. Writes the rule in one line:
-    /// leaves out the white space at both ends of each line of the text, and writes a space for
-    /// each line break. Writes nothing if the rule does not exist.
+    /// leaves out empty lines of the text, and the white space at both ends of each line, and
+    /// writes a space between two lines. Writes nothing if the rule does not exist.
     pub(crate) fn write_rule(
         &self,
         out: &mut String,
@@ -92,10 +92,11 @@ impl<'a> ExplainedTree<'a> {
         let rest = self.source.text().get(at..).unwrap_or("");
         let text = rest.get(..rule_length(rest)).unwrap_or("");
         for (number, line) in text.lines().enumerate() {
-            if number != 0 {
+            let line = line.trim();
+            if number != 0 && !line.is_empty() {
                 out.push_str(" ")?;
             }
-            write!(out, "{}", PlainText(line.trim()))?;
+            write!(out, "{}", PlainText(line))?;
         }
         Ok(())
     }
