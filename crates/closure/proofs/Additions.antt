@@ -15,7 +15,7 @@ added_more xs y t h = (h.0, h.1, get_push_front xs y h.1 h.0 h.2, h.3)
 pub added_here : (xs : List Addition) (y : Addition) → IsAdded (xs ++ y ∷ []) y.number
 added_here xs y = (length xs, y, get_push_end xs y, refl)
 
--- a reason for which a body has the property P is also one for a property Q that P implies
+-- a reason whose body has only numbers with the property P has only numbers with the property Q, if P implies Q
 pub reason_more : (clauses : List Clause) (seeds : List ℕ) (P Q : ℕ → Type 0) → ((t : ℕ) → P t → Q t) → (n : ℕ) (r : Reason)
     → IsReason clauses seeds P n r → IsReason clauses seeds Q n r
 reason_more clauses seeds P Q more n (reason.Seed i) h = h

@@ -153,7 +153,7 @@ seeded_more marks marks' seeds i lt kept before here t h =
       | inr e ↦ rw (← e) here
     ]
 
--- if a clause is settled when it is among the first i of `visited`, and clause i is now, then likewise for the first i + 1
+-- clause q with the index p is settled if p is among the first i + 1 of `visited`: it was before if p is among the first i
 pub settled_more : (B : Type 0) (v : ℕ) (marks : List Bool) (added : List Addition) (marks' : List Bool) (added' : List Addition)
     (q : Clause) (visited : List ℕ) (i p : ℕ) → i < length visited → Grows v marks added marks' added'
     → (B ⊎ Contains (take i visited) p → IsSettled marks added v q) → (get_or visited i 0 ≡ p → IsSettled marks' added' v q)

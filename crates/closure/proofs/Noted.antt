@@ -49,7 +49,7 @@ notes_on clause a b c m n =
       fits = λ k below all. n.fits k below (m.fits k below all);
     }
 
--- if the rows of the first i numbers of a body list the clause, and then number i's does too, the rows of the first i + 1 do
+-- the rows of the first i + 1 numbers of a body contain the clause, if those of the first i do, and that of number i does too
 pub noted_more : (clause : ℕ) (a b : List (List ℕ)) (body : List ℕ) (i : ℕ) (d : ℕ) → i < length body → AddsClause clause a b
     → ((t : ℕ) → Contains (take i body) t → Contains (row a t) clause)
     → ((t : ℕ) → get_or body i d ≡ t → Contains (row b t) clause) → (t : ℕ) → Contains (take (i + 1) body) t

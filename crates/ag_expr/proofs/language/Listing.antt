@@ -26,7 +26,7 @@ unlisted-old : (xs : List Occ) (x : Occ) (ys : List Occ) → is_listed xs x ≡ 
 unlisted-old xs x [] old = refl
 unlisted-old xs x (y ∷ ys) old = let more = unlisted-old xs x ys in let alike = listed_alike xs x y in grind (arith, more, alike)
 
--- the list ys without the occurrences of x's place and name has the same unlisted ones as ys has once x is listed
+-- two lists have the same occurrences: ys without x's place and name, unlisted in xs, and ys, unlisted in xs followed by x
 unlisted-new : (xs : List Occ) (x : Occ) (ys : List Occ)
     → unlisted xs (filter (λ y. not (is_of y.place y.attr x)) ys) ≡ unlisted (xs ++ x ∷ []) ys
 unlisted-new xs x [] = refl
