@@ -121,10 +121,10 @@ fn are_all_strikes(grammar: &Grammar, assignment: &Assignment, lists: &[Items<St
 /// If the result is true, no legal assignment gives any attribute an earlier pass than `assignment`
 /// does. So an assignment that `check_plan` also accepts is the least one.
 ///
-/// Does not allocate, whatever numbers the lists have. A good strike is of an attribute of the
-/// grammar that no earlier one strikes, so at most 4,097 strikes of each list are read. For each
-/// strike the items of a right side are read at most twice. Marks of struck attributes take 4,096
-/// bytes of stack.
+/// Does not allocate, whatever numbers the lists have. A list is read up to the first strike that
+/// is not good, or whose attribute is struck already. So at most 4,097 strikes of each list are
+/// read: one for each attribute that a grammar may have, and one more. For each strike the items of
+/// a right side are read at most twice. Marks of struck attributes take 4,096 bytes of stack.
 pub fn check_least(grammar: &Grammar, assignment: &Assignment, strikes: &Strikes) -> bool
     ensures strikes { IsTrue result
         ↔ AreStrikesOf grammar.now assignment.now strikes.now.lists }

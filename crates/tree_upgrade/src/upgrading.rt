@@ -283,10 +283,10 @@ fn stored_among(items: &[Item]) -> u32
 /// second device's content, or with P2. After a failure the second device has its old content, or a
 /// prefix of a tree file, if it is honest. The same holds of the third device.
 ///
-/// Allocates memory for a buffer for reading (4,096 bytes or the largest frame), for the frame that
-/// is written, and for the texts of the tokens among the children of each node on the path from the
-/// root. While the intermediate file is reversed, allocates memory for a body at each level of the
-/// tree.
+/// Allocates memory for a buffer for reading (4,096 bytes, or the size of the largest frame if that
+/// is more), for the frame that is written, and for the texts of the tokens among the children of
+/// each node on the path from the root. While the intermediate file is reversed, allocates memory
+/// as `turn` of `backreader` does.
 pub fn upgrade<D: Device, E: Device, F: Device>(
     alloc: Global,
     grammar: &Grammar,

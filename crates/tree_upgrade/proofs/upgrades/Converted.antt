@@ -348,7 +348,7 @@ module _ (g : Grammar) (accepted : IsAccepted g) (content : List ℕ) where
         texts_are = refl;
       }
 
-  -- The same trees were converted, under a stronger assumption about the second device: `honest` implies `then`.
+  -- If `honest` implies `then`, what `Converted` claims under the premise `then` holds under the premise `honest` too.
   abbrev pub converted_supposed : (leading xs : List Item) (level : ℕ) (before now : Progress) (honest then : Bool)
       (out_old out_now : List ℕ) (texts : List Value) → (honest ≡ true → then ≡ true)
       → Converted g content leading xs level before now then out_old out_now texts
