@@ -39,7 +39,8 @@ pub struct Messages {
 #[derive(Clone, Copy)]
 pub enum Color {
     /// If standard error is a terminal, `TERM` is set and not `dumb`, and `NO_COLOR` is missing or
-    /// empty. The program tests this, not this crate.
+    /// empty. (A variable that is not UTF-8 counts as missing.) The program tests this, not this
+    /// crate.
     Auto,
     /// Always.
     Always,
