@@ -29,13 +29,19 @@ pub fn write_aheads(
     grammar: &Grammar,
     aheads: &[Ahead],
 ) -> Result<(), AllocError> {
-    let mut remaining = aheads.len();
+    let mut following = entry_count(aheads.len());
     for ahead in aheads.iter().take(MAX_NAMED) {
         write_ahead(out, grammar, *ahead)?;
-        remaining = remaining.saturating_sub(1);
-        out.push_str(separator_before(remaining))?;
+        following = following.saturating_sub(1);
+        out.push_str(separator_before(following))?;
     }
-    write_rest(out, remaining)
+    write_rest(out, aheads.len().saturating_sub(MAX_NAMED))
+}
+
+/// Returns the number of entries that are written for a list of `count` items: those that are
+/// named, and one entry for all others, if there are any.
+pub fn entry_count(count: usize) -> usize {
+    count.min(MAX_NAMED + 1)
 }
 
 /// Writes the number of items of a list that are not named, if there are any.
@@ -58,15 +64,15 @@ pub fn terminal_count(grammar: &Grammar) -> usize {
 /// Writes the terminals of a grammar, at most the first twelve, and the number of the others.
 pub fn write_terminals(out: &mut String, grammar: &Grammar) -> Result<(), AllocError> {
     let count = terminal_count(grammar);
-    let mut remaining = count;
+    let mut following = entry_count(count);
     for index in 0..count.min(MAX_NAMED) {
         if let Some(terminal) = terminal_at(grammar, index) {
             write_ahead(out, grammar, Ahead::Terminal(terminal))?;
         }
-        remaining = remaining.saturating_sub(1);
-        out.push_str(separator_before(remaining))?;
+        following = following.saturating_sub(1);
+        out.push_str(separator_before(following))?;
     }
-    write_rest(out, remaining)
+    write_rest(out, count.saturating_sub(MAX_NAMED))
 }
 
 /// Returns the terminal with this index, from 0: the literals come first, and then the classes that

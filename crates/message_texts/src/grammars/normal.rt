@@ -8,6 +8,7 @@ use crate::grammars::lookup::{
     AsWritten, AtPlace, PlacedOccurrence, at_place, attribute_at, has_production, name_at,
     placed_at, symbol_named, symbol_with,
 };
+use crate::terminals::entry_count;
 use ag_grammar::{Named, RawGrammar, RawProduction, RawSymbol};
 use message_parts::display::MAX_NAMED;
 use message_parts::{Location, Parts};
@@ -298,19 +299,19 @@ fn describe_endless(parts: &mut Parts, names: &[&str]) -> Result<(), AllocError>
 
 /// Writes the names of symbols, at most the first twelve, and the number of the rest.
 fn write_symbols(out: &mut String, names: &[&str]) -> Result<(), AllocError> {
-    let mut remaining = names.len();
+    let mut following = entry_count(names.len());
     for name in names.iter().take(MAX_NAMED) {
-        remaining = remaining.saturating_sub(1);
-        let separator = match remaining {
+        following = following.saturating_sub(1);
+        let separator = match following {
             0 => "",
             1 => " and ",
             _ => ", ",
         };
         write!(out, "`{}`{separator}", *name)?;
     }
-    match remaining {
+    match names.len().saturating_sub(MAX_NAMED) {
         0 => Ok(()),
-        _ => write!(out, "{remaining} more"),
+        others => write!(out, "{others} more"),
     }
 }
 
