@@ -1,6 +1,6 @@
-/* The functions of aggen.h. Each checks its pointers, and then calls the proved export of the crate
-   aggen_c. The export assumes that no pointer is null and that no two ranges overlap. There is no
-   other logic here. */
+/* The functions of aggen.h. Each checks its pointers and lengths, and then calls the proved export of
+   the crate aggen_c. The export assumes that no pointer is null, that no two ranges overlap, and that
+   no length is above 2^63 - 1. There is no other logic here. */
 #include "aggen.h"
 #include "unchecked.h"
 

@@ -1,5 +1,5 @@
-/* The exports of the crate aggen_c. The proofs assume that no pointer is null, even with length 0, and
-   that no two ranges overlap. */
+/* The exports of the crate aggen_c. The proofs assume that no pointer is null, even with length 0, that
+   no two ranges overlap, and that no length is above 2^63 - 1. */
 #ifndef AGGEN_UNCHECKED_H
 #define AGGEN_UNCHECKED_H
 

@@ -34,7 +34,7 @@ pub fn equality_distinguishes_values()
     ensures { SameIsOne }
 {}
 
-/// States that the results of `keys` and `get` on a well table are well.
+/// States that the results of `keys` and `get` are well if the first argument is well.
 pub fn parts_of_a_table_are_well()
     ensures keys { KeysAreWell }
     ensures got { GetIsWell }

@@ -1,7 +1,7 @@
-//! The functions that `bindings/c/aggen.c` calls. They take for granted that no pointer is null and
-//! that no two arguments of one call overlap in memory. `bindings/c/unchecked.h` declares them for
-//! C: there a slice is a pointer and a length, and `alloc`, whose type has no bytes, is not an
-//! argument.
+//! The functions that `bindings/c/aggen.c` calls. They take for granted that no pointer is null,
+//! that no two arguments of one call overlap in memory, and that no length is above 2^63 - 1.
+//! `bindings/c/unchecked.h` declares them for C: there a slice is a pointer and a length, and
+//! `alloc`, whose type has no bytes, is not an argument.
 //!
 //! Each call except `aggen_free_unchecked` returns a status, which is 0 after success. The result
 //! of a call with an argument `out` is copied there as far as there is room, and `length` gets the

@@ -60,9 +60,9 @@ pub(crate) enum Step {
     /// The error arises in the rule of this number, at the node at which the chain is.
     Arises(u16),
     /// The chain stops without a cause. The target has no rule, the rule's value is not an error,
-    /// or the argument that passes its error on has no rule. Or no record can be read: the node is
-    /// a token, its production is not one of the grammar, or the index lacks the node or the end of
-    /// its record.
+    /// or the argument that passes its error on has no rule. Or the index leads to no record of a
+    /// production: the node is a token, its production is not one of the grammar, or the index
+    /// lacks the node or the end of its record.
     Nothing,
 }
 

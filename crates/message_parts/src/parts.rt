@@ -10,8 +10,9 @@ pub enum Location {
     /// In the whole of a text or a file. The message prints no position. Only a space comes before
     /// the first part.
     Whole,
-    /// The fault itself prints an offset or names after its number, or the location is not known.
-    /// The message prints no position. A colon and a space come before the first part.
+    /// The fault itself prints an offset or names after its number, or it is about no place in a
+    /// text (such as F1), or the place is not known. The message prints no position. A colon and a
+    /// space come before the first part.
     InFault,
     /// At a line and a column. The message prints these, and the name of the file if the message
     /// has it. A colon and a space come before the first part.

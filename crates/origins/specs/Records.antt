@@ -16,7 +16,7 @@ pub record IsNode (g : Grammar) (body : List ℕ) (p : ℕ) (vs : List Value) : 
   pub well : All IsWell vs
   pub same : body ≡ body_of Node p vs
 
--- a body is the record of a token, of any class and with any bytes as its text
+-- a body is that of a token, of any class, and with any bytes after the class
 pub record IsTokenBody (body : List ℕ) : Type 0 where
   pub class : ℕ
   pub spelling : List ℕ

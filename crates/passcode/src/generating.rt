@@ -53,7 +53,7 @@ fn lists_of(
 /// At a token these are the `Get` and the `Put`. At a symbol they are the `Get`, the `Set`s in the
 /// order of their attributes, the `Go` and the `Put`. Then come the `Def`s in the order of their
 /// attributes, and `End`. The `Set`s and `Def`s are those of the attributes that have the list's
-/// pass.
+/// pass and a rule in the production.
 ///
 /// Fails with NoMemory if the allocator refuses memory. Allocates only the code. For each list it
 /// looks up each attribute of the left side and of each child that is a symbol once. It searches

@@ -68,8 +68,7 @@ impl Screen {
     /// Returns the progress of a translation that begins now. The first tree file that is written
     /// is that of pass `first`: 0 if a sentence is parsed, and 1 if the tree is read from a file.
     /// (With 1, nothing is shown while pass 1 runs: the pass reads a device that is not a
-    /// `ShownDevice`.)
-    /// Returns `None` if no progress is shown, or the clock can't be read.
+    /// `ShownDevice`.) Returns `None` if no progress is shown, or the clock can't be read.
     pub fn progress<'a, R: Clock + Eprint>(
         self,
         rt: &'a R,

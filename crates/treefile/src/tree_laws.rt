@@ -121,11 +121,11 @@ pub fn files_have_one_tree()
     ensures two { FitsAccepted version_two }
 {}
 
-/// States that passes over files run one after the other. If no pass has run, the file is
-/// unchanged. Each further pass reads the file that the previous pass left. If that file is the
-/// file of no tree of the grammar, the first file is the file of no tree either. The same holds of
-/// trees within limits of depth and number of nodes. So a fault that a later pass finds is a fault
-/// of the first file.
+/// States that passes over files run one after the other. The empty sequence of passes leads from
+/// each file to itself. Each further pass reads the file that the previous pass left. If that file
+/// is the file of no tree of the grammar, the first file is the file of no tree either. The same
+/// holds of trees within limits of depth and number of nodes. So a fault that a later pass finds is
+/// a fault of the first file.
 pub fn passes_follow_files()
     ensures begins { RunBegins }
     ensures goes { RunContinues }
@@ -178,9 +178,9 @@ pub fn root_is_last()
 /// tree of `1` with its values can be recorded. The tree of `iffy if` can be recorded too, but not
 /// with an empty text for the token `iffy`. The file of pass 2 of `1` is the file of no other tree,
 /// and its last record is that of N. Pass 1 runs from the file of pass 0 of `x x` in `sample` to
-/// the file of pass 1, and so do all passes from 1 to 1. T's record in pass 1 has the value 65536,
-/// which is spelled in nine bytes. A byte 9 after them begins no value, so these ten bytes do not
-/// spell two values.
+/// the file of pass 1, both as one pass and as a sequence of passes. T's record in pass 1 has the
+/// value 65536, which is spelled in nine bytes. A byte 9 after them begins no value, so these ten
+/// bytes do not spell two values.
 pub fn worked_records()
     ensures numbered { IsNumbered binary }
     ensures recorded { IsRecorded binary binary_passes 2 (item.Symbol 0) tree_of_one values_of_one }

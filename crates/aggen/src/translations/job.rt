@@ -1,11 +1,11 @@
 //! Translating a job: a translator is built from its grammar, and translates its sentence.
 
-ghost use Rattle.std.specs.Prelude.{◌≡◌, ◌≢◌, IfErr, IfOk, IsErrOf};
+ghost use Rattle.std.specs.Prelude.{◌≡◌, ◌≢◌, IfErr, IfOk, IsErrOf, OnOk};
 ghost use Rattle.aggen.specs.Jobs.{IsBeforePasses, IsBeforeTrees, IsJobRefusal};
 ghost use Rattle.aggen.specs.Jobs.{LeavesLastFilesOfJob, TranslatesJob};
 ghost use Rattle.aggen.specs.Sentences.{IsParseFault};
 ghost use Rattle.aggen.specs.Translating.{IsAfterPasses};
-ghost use Rattle.aggen.specs.Translation.{BeginsText};
+ghost use Rattle.aggen.specs.Translation.{BeginsText, WritesText};
 ghost use Rattle.passrun.specs.Rounds.{LeavesSomeFile};
 ghost use Rattle.treefile.specs.framing.Beginning.{BeginsFile};
 ghost use Rattle.treefile.specs.devices.Device.{WhenHonest};
@@ -41,6 +41,9 @@ pub fn run_job<R: Read + Drop, D: Device, W: Write>(
     ensures translates { IfOk result (λ report. TranslatesJob (R.remaining reader)
         (D.is_honest a.new) (D.is_honest b.new) (D.content a.new) (D.content b.new)
         (W.contents out.old) (W.contents out.new) report) }
+
+    // Ok, on any devices
+    ensures text { OnOk result (WritesText (W.contents out.old) (W.contents out.new)) }
 
     // Err: the fault is true of the bytes, the grammar or the sentence.
     ensures refused { IfErr result (λ e. IsJobRefusal (R.remaining reader)

@@ -101,8 +101,7 @@ impl TreeFormat<'_> {
     }
 
     /// Describes the record that ends at the offset `at`, if there is one, and the record that is
-    /// expected there.
-    /// `expected` is the result of `expected_before`.
+    /// expected there. `expected` is the result of `expected_before`.
     fn describe_record(
         &self,
         parts: &mut Parts,
