@@ -61,9 +61,9 @@ pub struct ExplainWords<'a> {
     pub tree: &'a str,
     /// The node whose values are explained.
     pub node: NodeWords<'a>,
-    /// Whether the rules of the whole tree in which errors arise are printed instead of a node. Then
-    /// `node` and `attributes` have no effect on the output, but the command `explain` checks that
-    /// the tree has such a node, and that this node has these attributes.
+    /// Whether the rules of the whole tree in which errors arise are printed instead of a node.
+    /// Then `node` and `attributes` have no effect on the output, but the command `explain` checks
+    /// that the tree has such a node, and that this node has these attributes.
     pub errors: bool,
     /// The names of the node's attributes that are explained. If there are none, all are.
     pub attributes: Vec<&'a str>,

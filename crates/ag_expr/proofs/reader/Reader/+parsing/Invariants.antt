@@ -11,7 +11,7 @@ use Rattle.ag_expr.specs.declared.parser.Precedence.TheVariants as precedence
 use Rattle.ag_expr.proofs.reader.Reader.+parsing.Given as goal
 
 -- The numbers below show that the recursion ends: each function has a smaller number than those that call it. This one is the
--- part that depends on the precedence. An expression one level deeper has 40 less, so the differences within a level are below 40.
+-- part that depends on the precedence. An expression one level deeper has 40 less, so differences within a level are below 40.
 abbrev above : Precedence → ℕ
 above precedence.Comparison = 21
 above precedence.Join = 16
