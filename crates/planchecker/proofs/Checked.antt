@@ -46,7 +46,7 @@ mapped_at : {A B : Type 0} (f : A → B) (xs : List A) (i : ℕ) (x : A) → i <
     → slice_get (map f xs) i ≡ Some (f x)
 mapped_at f xs i x less is = slice_get-map f xs i ∙ ap (option_map f) (slice_get_read xs (length xs) i x refl less is)
 
--- a slice of the vector with index i in a list of vectors has the elements of that vector
+-- the elements that a function reads at an index of a table are those of the row there
 pub items_at : {A : Type 0} (rows : List (Vec A)) (i : ℕ) (v : Vec A) (xs : List A) → i < length rows → v ≡ get_or rows i v
     → xs ≡ v.items → slice_get (map (λ (w : Vec A). w.items) rows) i ≡ Some xs
 items_at {A} rows i v xs less is items = mapped_at (λ (w : Vec A). w.items) rows i v less is ∙ ap Some (sym items)

@@ -91,7 +91,7 @@ pub next_state : (q : Production) (xs : List Instr) (n : ℕ) (x : Instr) → sl
     → state_at q start xs (n + 1) ≡ after q (state_at q start xs n) x
 next_state q xs n x at = rw (add-one n) (state_next (λ s. []) q 0 start xs n x at)
 
--- a node in the state before its next instruction meets what its methods require (`IsOnPath`)
+-- a node in the state before its index meets what its methods require (`IsOnPath`)
 pub on_way : (node : NodeState) → node.phase ≡ (state_of node).phase → node.turn ≡ (state_of node).turn
     → node.index < length node.list.now → node.children ≡ arity node.context.production.now → (m : Passes)
     → IsPlanned m node.context.production.now → (k : ℕ) → MayRunTo m node.context.production.now k start node.list.now node.index

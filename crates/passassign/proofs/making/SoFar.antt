@@ -119,7 +119,7 @@ so_far_next g all old new strikes lists more before next one e h =
     (so_far_more g old.next (table_passes old.states.items)
     (table_passes new.states.items) strikes before.made next.pass lists h))
 
--- if fewer states are open in a second list than in a first: x is open and y is not, or fewer are open among the rest
+-- the first state is open and the second is not, or fewer of the others are
 first_given : (x y : State) (m n : ℕ) → bit y + n < bit x + m → ((x ≡ Open) × (y ≡ Open → ⊥)) ⊎ (n < m)
 first_given Open Open m n lt = inr (omega arith)
 first_given Open Absent m n lt = inl (refl, λ o. cc)

@@ -74,7 +74,7 @@ stuck_refused g s a is stuck (m, legal) =
     let c = counterpart (symbol_kinds (slice_get g.symbols s)) (m s) a is.0 (sym (legal.whole s)) is.1 in
     some_none (partial_of m s a) c.0 c.1 (stuck (partial_of m) (partial_legal g m legal))
 
--- what good strikes strike are attributes, since a complete production has only rules of attributes
+-- the names that good strikes strike are attributes, since a complete production has only rules of attributes
 struck_known : (g : Grammar) → Each (IsComplete g) g.productions
     → (d : Direction) (candidate : Attributes) (struck xs : List Strike) → AreGood g d candidate struck xs → (s a : ℕ)
     → IsStruckBy xs s a → IsAttribute g s a

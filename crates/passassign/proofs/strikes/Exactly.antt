@@ -23,7 +23,7 @@ pub strikes_all : (g : Grammar) (d : Direction) (candidate : Attributes) (xs : L
 strikes_all g d candidate xs good all =
     record { good = good; all = all; only = λ s a h. strikes_open g d candidate [] xs good s a h }
 
--- A list that strikes exactly the attributes of `later` does so with more candidates too. (`same` has the attributes of `later`.)
+-- A list that strikes exactly the attributes of `later` does so with more candidates too. (`same` has the same attributes.)
 pub exactly_same : (g : Grammar) (d : Direction) (some more later same : Attributes) → AreWithin some more → AreWithin later same
     → AreWithin same later → (xs : List Strike) → StrikesExactly g d some later xs → StrikesExactly g d more same xs
 exactly_same g d some more later same h to from xs x = record {
