@@ -30,9 +30,9 @@ fn symbol_attribute(symbols: &[Symbol], symbol: u16, attr: u16) -> &str
     }
 }
 
-/// Returns the name of attribute `attr`, numbered from 0, at a place of a production, or an empty
-/// text if the place or the attribute does not exist. Place 0 is the left side. Attribute 0 of a
-/// token is `lex`.
+/// Returns the name of attribute `attr`, numbered from 0, of the symbol or class at a place of a
+/// production. Place 0 is the left side, and the children have places from 1 on. A class has only
+/// attribute 0, `lex`. Returns an empty text if the place or the attribute does not exist.
 pub(crate) fn attribute_name<'a>(
     grammar: &'a Grammar,
     production: &Production,

@@ -1,5 +1,6 @@
--- What a chain that is followed along the nodes of an index shows of the tree whose file has this index. In these definitions g
--- is a grammar, m the passes of its attributes, k the number of a pass, t a tree and v its values. All of this is this project's.
+-- A chain (`Chains.antt`) can be followed in a tree file, with an index that numbers the nodes of the file's tree. These
+-- definitions state what such a chain shows about the tree. g is a grammar, m the passes of its attributes, k the number of a
+-- pass, t a tree and v its values. All of this is this project's.
 use Rattle.std.specs.Prelude.{ℕ, suc, ◌≡◌, ◌^◌, ◌<◌, ◌≤◌, ◌⊎◌, List, [], ◌∷◌, ◌++◌, map, reverse, Some, None, Ok}
 use Rattle.ag_value.specs.declared.value.Value.{Value}
 use Rattle.ag_grammar.specs.declared.direction.Direction.{Direction}
@@ -49,8 +50,8 @@ abbrev pub way : List PathNode → List ℕ
 way [] = []
 way (n ∷ ns) = way ns ++ n.place ∷ []
 
--- The number of each of these nodes is that of the node at the end of its places (`way`). Each node is a child of the next one in
--- the list.
+-- For each suffix n ∷ ns of the list, the places `way (n ∷ ns)` lead from the root to the node with the number n.node. As in
+-- `way`, each node of the list is a child of the next one.
 abbrev pub AreLed : Grammar → TreeIndex → List PathNode → Type 0
 AreLed g index [] = Unit {0}
 AreLed g index (n ∷ ns) = IsNumberAt g index (way (n ∷ ns)) n.node × AreLed g index ns

@@ -40,7 +40,7 @@ pub fn write_aheads(
 
 /// Returns the number of entries that are written for a list of `count` items: those that are
 /// named, and one entry for all others, if there are any.
-pub fn entry_count(count: usize) -> usize {
+pub(crate) fn entry_count(count: usize) -> usize {
     count.min(MAX_NAMED + 1)
 }
 

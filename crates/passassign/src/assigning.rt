@@ -243,9 +243,9 @@ pub(crate) fn assign_all(
 /// is two for each attribute that a grammar may have. There is one row for each symbol, which has
 /// the passes of its attributes.
 ///
-/// Fails with A1 (`Stuck`) if no assignment is legal, with any number of passes. The certificate
-/// has exactly the stuck attributes, in declared order: no legal assignment of all attributes, or
-/// of some, gives them a pass. The certificate also has the strikes of the last two passes tried,
+/// Fails with A1 (`Stuck`) if no assignment is legal, with any number of passes. An attribute is
+/// stuck if no legal assignment of all attributes, or of some, gives it a pass. The certificate has
+/// exactly the stuck attributes, in declared order, and the strikes of the last two passes tried,
 /// one list for each direction. Each list shows why no pass of its direction can compute these
 /// attributes. Fails with NoMemory if the allocator refuses memory.
 ///

@@ -82,7 +82,7 @@ fn append_argument(
 
 /// Appends the dependencies of a rule's target, at place `place`, on the rule's arguments. `head`
 /// is a strike of the target by this rule. Each dependency has this strike, with its own argument's
-/// number as `arg`.
+/// number as `arg`. This number has 16 bits, like that of a rule, so `few` has the limit of rules.
 fn append_arguments(
     found: &mut Vec<Dependency>,
     places: &[Item],

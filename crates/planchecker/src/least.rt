@@ -122,9 +122,10 @@ fn are_all_strikes(grammar: &Grammar, assignment: &Assignment, lists: &[Items<St
 /// does. So an assignment that `check_plan` also accepts is the least one.
 ///
 /// Does not allocate, whatever numbers the lists have. A list is read up to the first strike that
-/// is not good, or whose attribute is struck already. So at most 4,097 strikes of each list are
-/// read: one for each attribute that a grammar may have, and one more. For each strike the items of
-/// a right side are read at most twice. Marks of struck attributes take 4,096 bytes of stack.
+/// may not come next (`is_next`). The strikes before it are of different attributes, so at most
+/// 4,097 strikes of a list are read: one for each attribute of a grammar, and one more. For each
+/// strike the items of a right side are read at most twice. Marks of struck attributes take 4,096
+/// bytes of stack.
 pub fn check_least(grammar: &Grammar, assignment: &Assignment, strikes: &Strikes) -> bool
     ensures strikes { IsTrue result
         ↔ AreStrikesOf grammar.now assignment.now strikes.now.lists }

@@ -19,9 +19,9 @@ use crate::marks::Marks;
 use ag_grammar::{Direction, Grammar, Item, Production, Target};
 use passassign::{Strike, is_same_or_later};
 
-/// The candidates for a pass (attributes without an earlier pass), and those of them that the pass
-/// has to strike, since they have a later pass or none. The members `later` and `is_later` are
-/// about those to strike.
+/// The candidates for a pass (of an assignment those without an earlier pass, of a certificate the
+/// members of its set), and those of them that the pass has to strike, since they have a later pass
+/// or none. The members `later` and `is_later` are about those to strike.
 pub(crate) trait Candidates {
     /// The direction of the pass.
     ghost direction: { Self → TheDirection };

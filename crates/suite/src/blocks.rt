@@ -1,6 +1,6 @@
-//! Tests of properties that no clause states: the number of reads with which a reader reads a file
-//! in blocks, and that it lends large bodies. A test writes a line for each file, and compares the
-//! lines with the expected ones.
+//! Tests of a reader of tree files (`Back`): which bodies it lends, small and large ones, how often
+//! it reads the device, and which files it rejects. A test writes a line for each file that it
+//! reads, and compares the lines with the expected ones.
 
 ghost use Rattle.std.specs.Prelude.{[], false};
 
@@ -113,10 +113,10 @@ fn lent(
     Ok(Some(if there == Some(body) { body.len() } else { 0 }))
 }
 
-/// Returns the result of `lent`. After NoMemory, which comes only if the system refuses memory to
-/// the tests, calls `lent` a second time, as a caller of `back` may, and returns the second result.
-/// The exception is a body of at most `FITS` bytes: a reader needs no memory for such a body, so
-/// the first call must not fail, and NoMemory is returned.
+/// Calls `lent`, and returns its result. If the result is NoMemory (the system refused memory),
+/// calls `lent` once more, as a caller of `back` may, and returns the second result. But if the
+/// second result is a body of at most `FITS` bytes, returns NoMemory: a reader needs no memory for
+/// such a body, so the first call should not have failed.
 fn lent_at_last(
     back: &mut Back,
     device: &mut CountingDevice,

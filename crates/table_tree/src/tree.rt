@@ -26,8 +26,9 @@ const MIN_BLOCK: usize = 768;
 /// The greatest number of bytes of a long block.
 const MAX_BLOCK: usize = 2048;
 
-/// The least number of bytes of a short block. A new long block is copied mostly from short blocks
-/// below it, which is cheaper than from single pairs.
+/// The least number of bytes of a short block. A new long block is copied from the largest blocks
+/// below it, long or short, and from single pairs elsewhere. Copying a block is cheaper than
+/// copying its pairs, and short blocks leave fewer single pairs.
 const MIN_SHORT_BLOCK: usize = 192;
 
 /// The greatest number of bytes of a short block.

@@ -319,7 +319,7 @@ impl<R: Files + Print + Eprint + Clock> TranslationRun<'_, R> {
 
 /// Opens the tree files a.agt and b.agt in a folder, each with a new record of calls. Fails as
 /// `WorkFiles::open` does.
-pub fn open_work<R: Files>(
+pub(crate) fn open_work<R: Files>(
     rt: &R,
     alloc: Global,
     folder: &str,

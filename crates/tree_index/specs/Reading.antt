@@ -108,11 +108,10 @@ AreOpen g (o ∷ os) [] = ⊥
 AreOpen g (o ∷ os) (f ∷ fs) = (q : Production) × IsProduction g o.production q × FitsAll g (stored_items q.items) f.trees
     × (o.children ≡ length (stored_items q.items)) × AreOpen g os fs
 
--- `sizes` has the size of the subtree of each node of the tree, n nodes were read, and the list of open nodes begins with the
--- innermost one. Let e be the number of an open node plus the size of its subtree: the subtree ends before the node with the
--- number e. For the innermost open node, its number is less than n, and e is n plus the number of nodes in the subtrees of its
--- unvisited children. For each other open node the same holds with another number in place of n: the e of the next open node
--- within it.
+-- `sizes` has the size of the subtree of each node, n nodes were read, and the list of open nodes begins with the innermost one.
+-- The subtree of an open node has the nodes from its number up to, but not including, e: its number plus its size. The innermost
+-- open node has a number below n, and its e is n plus the number of nodes in the subtrees of its unvisited children. The same
+-- holds for the next open node in the list, with this e in place of n, and so on.
 abbrev pub AreEnding : Direction → List ℕ → ℕ → List OpenRecord → List Family → Type 0
 AreEnding d sizes n [] fs = Unit {0}
 AreEnding d sizes n (o ∷ os) [] = ⊥

@@ -37,8 +37,8 @@ impl TokenRange {
         self.last < count
     }
 
-    /// Returns the range of the same tokens if token `count` gets the number 0. Returns `None` if
-    /// the range begins before token `count`.
+    /// Returns the range of the same tokens, numbered without the first `count` tokens: reduces
+    /// both numbers by `count`. Returns `None` if the range begins before token `count`.
     fn after(self, count: u32) -> Option<TokenRange> {
         Some(TokenRange {
             first: self.first.checked_sub(count)?,

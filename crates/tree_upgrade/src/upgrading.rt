@@ -49,11 +49,11 @@ struct Subtree {
 }
 
 impl Upgrading {
-    /// Reads the record of a subtree's root. The record's frame should end where the frame that was
+    /// Reads the record of a subtree's root: the body of the next frame, which ends where the frame
     /// read last begins, or at the end of the file if none was read. Requires an item that is a
     /// child: a symbol or a class. Fails with P2 if the root's level exceeds `MAX_REVERSED_LEVELS`,
-    /// and with P3 if `MAX_REVERSED_RECORDS` records were read already. Fails with R1 and the
-    /// expected offset if no frame ends there, or if the body of that frame is not a record of the
+    /// and with P3 if `MAX_REVERSED_RECORDS` records were read already. Fails with R1, and with the
+    /// offset where the frame has to end, if no frame ends there or its body is not a record of the
     /// item. Fails with D1 if the device fails, and with `NoMemory` if memory cannot be allocated.
     fn record<D: Device>(
         &mut self,

@@ -70,7 +70,7 @@ SameFile = (version : Version) (g : Grammar) (m : Passes) (k : ℕ) (t : Tree) (
 abbrev pub FitsAccepted : Version → Type 0
 FitsAccepted version = (g : Grammar) (m : Passes) → IsAccepted g → IsLegal g m → IsNumbered g × FitsVersion version g m
 
--- No pass was run: the content and the values are unchanged.
+-- If no pass after pass k ran, the newest content is the first one, and nothing is said of a previous one.
 abbrev pub RunBegins : Type 0
 RunBegins = (version : Version) (g : Grammar) (m : Passes) (k : ℕ) (start previous : List ℕ)
     → RunsPasses version g m k k start start previous
