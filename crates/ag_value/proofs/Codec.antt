@@ -35,14 +35,14 @@ use Rattle.std.proofs.lemmas.Option.{cond_some, none-some, option_and_then_some,
 
 code_takes : (b : ℕ) (c : ErrorCode) → code_at b ≡ Some c → number_of c ≡ b
 code_takes zero c e = absurd cc
-code_takes (suc zero) c e = ap number_of (sym (same_Some code.Overflow c e))
-code_takes (suc (suc zero)) c e = ap number_of (sym (same_Some code.Divide c e))
-code_takes (suc (suc (suc zero))) c e = ap number_of (sym (same_Some code.Kind c e))
-code_takes (suc (suc (suc (suc zero)))) c e = ap number_of (sym (same_Some code.Index c e))
-code_takes (suc (suc (suc (suc (suc zero))))) c e = ap number_of (sym (same_Some code.Key c e))
-code_takes (suc (suc (suc (suc (suc (suc zero)))))) c e = ap number_of (sym (same_Some code.Number c e))
-code_takes (suc (suc (suc (suc (suc (suc (suc zero))))))) c e = ap number_of (sym (same_Some code.Big c e))
-code_takes (suc (suc (suc (suc (suc (suc (suc (suc zero)))))))) c e = ap number_of (sym (same_Some code.Deep c e))
+code_takes (suc zero) c e = cc (same_Some code.Overflow c e)
+code_takes (suc (suc zero)) c e = cc (same_Some code.Divide c e)
+code_takes (suc (suc (suc zero))) c e = cc (same_Some code.Kind c e)
+code_takes (suc (suc (suc (suc zero)))) c e = cc (same_Some code.Index c e)
+code_takes (suc (suc (suc (suc (suc zero))))) c e = cc (same_Some code.Key c e)
+code_takes (suc (suc (suc (suc (suc (suc zero)))))) c e = cc (same_Some code.Number c e)
+code_takes (suc (suc (suc (suc (suc (suc (suc zero))))))) c e = cc (same_Some code.Big c e)
+code_takes (suc (suc (suc (suc (suc (suc (suc (suc zero)))))))) c e = cc (same_Some code.Deep c e)
 code_takes (suc (suc (suc (suc (suc (suc (suc (suc (suc b))))))))) c e = absurd cc
 
 -- A reading function returned x, the pair of a value (`x.0`) and the bytes after it (`x.1`). The bytes begin with the spelling of
@@ -77,7 +77,7 @@ unfolding all_at
 all_take {A} spell test depth levels item says zero prefix bytes x is e =
     let same : (prefix, bytes) ≡ x = same_Some (prefix, bytes) x e in (
       [],
-      sym (append-nil prefix ∙ ap (λ (y : List A × List ℕ). y.0) same),
+      cc (append-nil prefix),
       subst (λ (y : List A × List ℕ). TakesAll spell test depth levels 0 bytes [] y.1) same
           (record { takes = record { parts = refl; are_bytes = is }; count = refl; hold = refl; shallow = omega arith }),
     )
@@ -91,7 +91,7 @@ all_take {A} spell test depth levels item says (suc n) prefix bytes x is e =
       more.1 ∙ append_assoc prefix (first.0 ∷ []) more.0,
       record {
         takes = Takes-then bytes (spell first.0) first.1 (joined (map spell more.0)) x.1 one.takes more.2.takes;
-        count = ap suc more.2.count;
+        count = cc;
         hold = both_true (test first.0) (all_true (map test more.0)) one.holds more.2.hold;
         shallow = omega (arith, low, lower);
       },
@@ -132,7 +132,7 @@ item_takes levels (zero ∷ rest) x is e =
     option_and_then_some (λ n. Some (v.Num (cast_signed w64 n.0), n.1)) (number_at w64 rest) x e (λ n read all.
     let t = number_takes w64 (2 ^ 64) wide64 rest n.0 n.1 (IsBytes-rest 0 rest is) read in
     let same : spelling_of (v.Num (cast_signed w64 n.0)) ≡ 0 ∷ to_be_bytes w64 n.0 =
-    spelling-Num (cast_signed w64 n.0) ∙ ap (λ (m : ℕ). 0 ∷ to_be_bytes w64 m) (of_z-to_z w64 n.0 t.1) in
+    cc (spelling-Num (cast_signed w64 n.0), of_z-to_z w64 n.0 t.1) in
     subst (λ (y : Value × List ℕ). IsItemRead levels (0 ∷ rest) y) (same_Some (v.Num (cast_signed w64 n.0), n.1) x all) (record {
       takes = rw same (Takes-tag 0 rest (to_be_bytes w64 n.0) n.1 t.0);
       holds = item-Num (cast_signed w64 n.0) ∙ is_ranged (cast_signed w64 n.0) (sfits_to_z (record { fits = t.1 }));
@@ -156,13 +156,12 @@ item_takes (suc levels) (suc (suc zero) ∷ rest) x is e =
     all_take spelling_of is_item depth_of levels (item_at levels) (item_takes levels) n.0 [] n.1 items t.0.are_bytes read' in
     let vs = taken.0 in
     let both = Takes-then rest (to_be_bytes w32 n.0) n.1 (joined (map spelling_of vs)) items.1 t.0 taken.2.takes in
-    let same : spelling_of (v.List vs) ≡ 2 ∷ (to_be_bytes w32 n.0 ++ joined (map spelling_of vs)) =
-    spelling-List vs ∙ ap (λ (m : ℕ). 2 ∷ (to_be_bytes w32 m ++ joined (map spelling_of vs))) taken.2.count in
+    let same : spelling_of (v.List vs) ≡ 2 ∷ (to_be_bytes w32 n.0 ++ joined (map spelling_of vs)) = cc (spelling-List vs) in
     let low = taken.2.shallow in
     subst (λ (y : Value × List ℕ). IsItemRead (suc levels) (2 ∷ rest) y)
     (ap (λ (ws : List Value). (v.List ws, items.1)) (sym taken.1) ∙ same_Some (v.List items.0, items.1) x all) (record {
       takes = rw same (Takes-tag 2 rest (to_be_bytes w32 n.0 ++ joined (map spelling_of vs)) items.1 both);
-      holds = item-List vs ∙ taken.2.hold;
+      holds = cc (item-List vs);
       shallow = omega (arith, depth-List vs, low);
     })))
 item_takes zero (suc (suc (suc zero)) ∷ rest) x is e = absurd cc
@@ -179,12 +178,12 @@ item_takes (suc levels) (suc (suc (suc zero)) ∷ rest) x is e =
     let ps = taken.0 in
     let both = Takes-then rest (to_be_bytes w32 n.0) n.1 (joined (map spelling_of_pair ps)) pairs.1 t.0 taken.2.takes in
     let same : spelling_of (v.Table ps) ≡ 3 ∷ (to_be_bytes w32 n.0 ++ joined (map spelling_of_pair ps)) =
-    spelling-Table ps ∙ ap (λ (m : ℕ). 3 ∷ (to_be_bytes w32 m ++ joined (map spelling_of_pair ps))) taken.2.count in
+    cc (spelling-Table ps) in
     let keys : are_keys (map key_of ps) ≡ true =
     subst (λ (qs : List (List ℕ × Value)). are_keys (map key_of qs) ≡ true) taken.1 kept.0 in
     let low : greatest (map (λ p. depth_of p.1) ps) ≤ levels = taken.2.shallow in
     subst (λ (y : Value × List ℕ). IsItemRead (suc levels) (3 ∷ rest) y)
-    (ap (λ (qs : List (List ℕ × Value)). (v.Table qs, pairs.1)) (sym taken.1) ∙ kept.1) (record {
+    (ap (λ (qs : List (List ℕ × Value)). (v.Table qs, pairs.1)) (cc) ∙ kept.1) (record {
       takes = rw same (Takes-tag 3 rest (to_be_bytes w32 n.0 ++ joined (map spelling_of_pair ps)) pairs.1 both);
       holds = item-Table ps ∙ both_true (are_keys (map key_of ps)) (all_true (map is_item_pair ps)) keys taken.2.hold;
       shallow = omega (arith, depth-Table ps, low);
@@ -211,7 +210,7 @@ read_is_spelled levels (suc (suc (suc zero)) ∷ rest) x is e =
 read_is_spelled levels (suc (suc (suc (suc zero))) ∷ []) x is e = absurd cc
 read_is_spelled levels (suc (suc (suc (suc zero))) ∷ b ∷ rest) x is e =
     option_and_then_some (λ c. Some (v.Fault c, rest)) (code_at b) x e (λ c read all.
-    let same : spelling_of (v.Fault c) ≡ 4 ∷ b ∷ [] = spelling-Fault c ∙ ap (λ (n : ℕ). 4 ∷ n ∷ []) (code_takes b c read) in
+    let same : spelling_of (v.Fault c) ≡ 4 ∷ b ∷ [] = cc (spelling-Fault c, code_takes b c read) in
     subst (λ (y : Value × List ℕ). IsRead spelling_of is_formed depth_of levels (4 ∷ b ∷ rest) y)
     (same_Some (v.Fault c, rest) x all) (record {
       takes = rw same (record { parts = refl; are_bytes = IsBytes-rest b rest (IsBytes-rest 4 (b ∷ rest) is) });
@@ -258,7 +257,7 @@ AllAgain spell item (x ∷ xs) = Again spell item x × AllAgain spell item xs
 all_again : {A : Type 0} (spell : A → List ℕ) (item : List ℕ → Read A) (xs prefix : List A) (rest : List ℕ)
     → AllAgain spell item xs → all_at item (length xs) prefix (joined (map spell xs) ++ rest) ≡ Some (prefix ++ xs, rest)
 unfolding all_at
-all_again {A} spell item [] prefix rest all = ap (λ (ys : List A). Some (ys, rest)) (sym (append-nil prefix))
+all_again {A} spell item [] prefix rest all = cc (append-nil prefix)
 all_again {A} spell item (x ∷ xs) prefix rest all =
     let regrouped = append_assoc (spell x) (joined (map spell xs)) rest in
     let one = all.0 (joined (map spell xs) ++ rest) in
@@ -316,7 +315,7 @@ layer_again : (levels : ℕ) (layer : Value-F Value) → IsLegible levels (roll-
 unfolding item_at
 layer_again levels (Value-F.Num n) =
     subst (λ (w : Value). IsLegible levels w → Again spelling_of (item_at levels) w) (sym (rolls-Num n)) (λ legible rest.
-    let signed = is_signed n (sym (item-Num n) ∙ legible.formed) in
+    let signed = is_signed n (cc (item-Num n)) in
     let read = number_again w64 (2 ^ 64) wide64 (cast_unsigned w64 n) rest (Fits-of_z signed).fits in
     ap (λ (w : List ℕ). item_at levels (w ++ rest)) (spelling-Num n)
     ∙ rw read (ap (λ (m : ℤ). Some (v.Num m, rest)) (to_z-of_z w64 n signed)))
@@ -327,7 +326,7 @@ layer_again levels (Value-F.Text text) =
     ap (λ (w : List ℕ). item_at levels (w ++ rest)) (spelling-Text text) ∙ rw (text_again text rest short utf8) refl)
 layer_again levels (Value-F.Fault c) =
     subst (λ (w : Value). IsLegible levels w → Again spelling_of (item_at levels) w) (sym (rolls-Fault c))
-    (λ legible rest. absurd (true≢false (sym legible.formed ∙ item-Fault c)))
+    (λ legible rest. absurd (true≢false (cc (item-Fault c))))
 layer_again zero (Value-F.List vs) =
     subst (λ (w : Value). IsLegible zero w → Again spelling_of (item_at zero) w) (sym (rolls-List vs))
     (λ legible rest. let l = legible.shallow in let deep = depth-List vs in absurd (omega arith))
@@ -351,7 +350,7 @@ layer_again zero (Value-F.Table ps) =
 layer_again (suc levels) (Value-F.Table ps) =
     subst (λ (w : Value). IsLegible (suc levels) w → Again spelling_of (item_at (suc levels)) w) (sym (rolls-Table ps))
     (λ legible rest.
-    let formed = and_parts (are_keys (map key_of ps)) (all_true (map is_item_pair ps)) (sym (item-Table ps) ∙ legible.formed) in
+    let formed = and_parts (are_keys (map key_of ps)) (all_true (map is_item_pair ps)) (cc (item-Table ps)) in
     let keys = and_parts (is_ascending (map key_of ps)) (all_true (map is_utf8 (map key_of ps))) formed.0 in
     let light : sum (map weight_of_pair ps) < 2 ^ 32 = let l = legible.light in omega (arith, weight-Table ps) in
     let shallow : greatest (map (λ p. depth_of p.1) ps) ≤ levels = let l = legible.shallow in let deep = depth-Table ps in
@@ -412,7 +411,7 @@ well_is_read value rest well = subst IsReadWell (roll-out-Value value) (well_aga
 pub only_memory : (input : List ℕ) (e : ValueFault) → Fails e (value_at 64 input) → (value : Value) (rest : List ℕ) → IsWell value
     → input ≡ spelling_of value ++ rest → e ≡ NoMemory
 only_memory input Malformed fails value rest well spelled =
-    let some : value_at 64 input ≡ Some (value, rest) = ap (value_at 64) spelled ∙ well_is_read value rest well in
+    let some : value_at 64 input ≡ Some (value, rest) = cc (well_is_read value rest well) in
     absurd (none-some (value, rest) (sym fails ∙ some))
 only_memory input NoMemory fails value rest well spelled = refl
 
@@ -420,13 +419,13 @@ only_memory input NoMemory fails value rest well spelled = refl
 pub one_spelled : (input : List ℕ) (read : Value × List ℕ) → value_at 64 input ≡ Some read → (value : Value) (rest : List ℕ)
     → IsWell value → input ≡ spelling_of value ++ rest → read ≡ (value, rest)
 one_spelled input read e value rest well spelled =
-    same_Some read (value, rest) (sym e ∙ ap (value_at 64) spelled ∙ well_is_read value rest well)
+    same_Some read (value, rest) (cc (well_is_read value rest well))
 
 -- if the input is `text` and then `rest`, `text` is the prefix whose length is the difference of the lengths of input and `rest`
 pub prefix_is : (input text rest : List ℕ) → input ≡ text ++ rest → take (length input - length rest) input ≡ text
 prefix_is input text rest e =
     let len : length text ≡ length input - length rest = omega (arith, ap length e, length-append text rest) in
-    ap (take (length input - length rest)) e ∙ take_at text rest (length input - length rest) len
+    cc (take_at text rest (length input - length rest) len)
 
 -- a value that was read from its own spelling, and the number of bytes read
 pub read_whole : (input : List ℕ) (read : Value × List ℕ) → value_at 64 input ≡ Some read → (value : Value) (rest : List ℕ)
@@ -434,12 +433,11 @@ pub read_whole : (input : List ℕ) (read : Value × List ℕ) → value_at 64 i
     → ◌≡◌ {A = Value × ℕ} (read.0, length input - length read.1) (value, length (spelling_of value))
 read_whole input read e value rest well spelled =
     let same = one_spelled input read e value rest well spelled in
-    let value_is : read.0 ≡ value = ap (λ (p : Value × List ℕ). p.0) same in
-    let rest_is : read.1 ≡ rest = ap (λ (p : Value × List ℕ). p.1) same in
+    let value_is : read.0 ≡ value = cc in
+    let rest_is : read.1 ≡ rest = cc in
     let len : length input - length rest ≡ length (spelling_of value) =
     omega (arith, ap length spelled, length-append (spelling_of value) rest) in
-    let len_is : length input - length read.1 ≡ length (spelling_of value) =
-    ap (λ (r : List ℕ). length input - length r) rest_is ∙ len in
+    let len_is : length input - length read.1 ≡ length (spelling_of value) = cc in
     cc
 
 -- a value that is read is well if it took no more bytes than the greatest weight
@@ -456,8 +454,7 @@ read_is_well input x is e short =
 pub too_long : (input : List ℕ) (x : Value × List ℕ) → value_at 64 input ≡ Some x → max_weight < length input - length x.1
     → (value : Value) (rest : List ℕ) → IsWell value → input ≡ spelling_of value ++ rest → ⊥
 too_long input x e long value rest well spelled =
-    let rest_is : length x.1 ≡ length rest =
-    ap (λ (p : Value × List ℕ). length p.1) (one_spelled input x e value rest well spelled) in
+    let rest_is : length x.1 ≡ length rest = cc (one_spelled input x e value rest well spelled) in
     let l = well.light in
     omega (arith, long, rest_is, ap length spelled, length-append (spelling_of value) rest, length-spelling value, l)
 
@@ -466,6 +463,6 @@ pub prefix_free : (value other : Value) (rest : List ℕ) → IsWell value → I
     → spelling_of other ≡ spelling_of value ++ rest → value ≡ other
 prefix_free value other rest well well' e =
     let read : value_at 64 (spelling_of other) ≡ Some (other, []) =
-    ap (value_at 64) (sym (append-nil (spelling_of other))) ∙ well_is_read other [] well' in
+    cc (append-nil (spelling_of other), well_is_read other [] well') in
     let same = one_spelled (spelling_of other) (other, []) read value rest well e in
     sym (ap (λ (p : Value × List ℕ). p.0) same)

@@ -1,5 +1,5 @@
 -- Lists that grow at their end, in one step or several.
-use Rattle.std.proofs.Common.{◌≡◌, ℕ, List, [], ◌++◌, sym, ap, ◌∙◌, append_assoc}
+use Rattle.std.proofs.Common.{◌≡◌, ℕ, List, [], ◌++◌, sym, ◌∙◌, append_assoc}
 use Rattle.std.proofs.lemmas.List.{append-nil}
 use Rattle.ag_value.specs.Spelling.{Extends}
 use Rattle.ag_value.proofs.Layers.{spellings, weights}
@@ -12,7 +12,7 @@ by_one a b more e = record { more = more; is = e }
 
 pub by_two : (a b c : List ℕ) → Extends a b → Extends b c → Extends a c
 by_two a b c p q =
-    record { more = p.more ++ q.more; is = q.is ∙ ap (λ (w : List ℕ). w ++ q.more) p.is ∙ append_assoc a p.more q.more }
+    record { more = p.more ++ q.more; is = cc (append_assoc a p.more q.more) }
 
 pub ruleset extending = (by_nothing, by_one, by_two)
 

@@ -1,6 +1,6 @@
 -- The numbers and texts in a spelling: reading returns what was written, and writing returns the bytes that were read.
 use Rattle.std.proofs.Common.{◌≡◌, ℕ, suc, ◌+◌, ◌^◌, ◌<◌, ◌≤◌, Bool, true, false, cond, ltb, List, ◌∷◌, ◌++◌, length, get_or}
-use Rattle.std.proofs.Common.{take, drop, Option, Some, None, refl, sym, ap, subst, ◌∙◌, append_assoc, arith, inl, inr}
+use Rattle.std.proofs.Common.{take, drop, Option, Some, None, refl, sym, subst, append_assoc, arith, inl, inr}
 use Rattle.std.specs.Int.{Width, w32, w64, byte_len, from_be_bytes, to_be_bytes}
 use Rattle.std.specs.Str.{is_utf8}
 use Rattle.std.proofs.lemmas.Bool.{cases_lt, ltb-false, le-ltb}
@@ -40,10 +40,10 @@ pub record Takes (bytes text rest : List ℕ) : Type 0 where
 
 pub Takes-then : (a x b y c : List ℕ) → Takes a x b → Takes b y c → Takes a (x ++ y) c
 Takes-then a x b y c p q =
-    record { parts = p.parts ∙ ap (λ (t : List ℕ). x ++ t) q.parts ∙ sym (append_assoc x y c); are_bytes = q.are_bytes }
+    record { parts = cc (append_assoc x y c); are_bytes = q.are_bytes }
 
 pub Takes-tag : (tag : ℕ) (a x b : List ℕ) → Takes a x b → Takes (tag ∷ a) (tag ∷ x) b
-Takes-tag tag a x b p = record { parts = ap (λ (t : List ℕ). tag ∷ t) p.parts; are_bytes = p.are_bytes }
+Takes-tag tag a x b p = record { parts = cc; are_bytes = p.are_bytes }
 
 -- ---- numbers
 

@@ -1,6 +1,6 @@
 -- The loop that tests the keys of a table: it has tested one more key (`next_key`), or all keys (`last_key`).
-use Rattle.std.proofs.Common.{◌≡◌, ℕ, suc, ◌+◌, ◌<◌, ◌≤◌, Bool, true, false, List, [], ◌∷◌, length, map, drop, get_or, refl, sym}
-use Rattle.std.proofs.Common.{ap, ◌∙◌, drop-cons, arith}
+use Rattle.std.proofs.Common.{◌≡◌, ℕ, suc, ◌+◌, ◌<◌, ◌≤◌, Bool, true, false, List, [], ◌∷◌, length, map, drop, get_or, refl}
+use Rattle.std.proofs.Common.{drop-cons, arith}
 use Rattle.std.proofs.lemmas.List.{drop_all}
 use Rattle.std.proofs.lemmas.Str.{is_utf8-from_IsUtf8}
 use Rattle.std.specs.declared.cmp.Ordering.{Ordering}
@@ -19,17 +19,13 @@ pub next_key : (a : List ℕ) (ps : List (List ℕ × Value)) (i : ℕ) (p : Lis
     → are_keys (a ∷ map key_of (drop i ps)) ≡ whole → are_keys (p.0 ∷ map key_of (drop (i + 1) ps)) ≡ whole
 next_key a ps i p whole lt is before utf8 so_far =
     let next : i + 1 ≡ suc i = omega arith in
-    let opened : drop i ps ≡ p ∷ drop (i + 1) ps =
-    drop-cons ps i p lt ∙ ap (λ (q : List ℕ × Value). q ∷ drop (suc i) ps) (sym is)
-    ∙ ap (λ (n : ℕ). p ∷ drop n ps) (sym next) in
-    sym (step a p.0 (map key_of (drop (i + 1) ps)) before utf8)
-    ∙ ap (λ (qs : List (List ℕ × Value)). are_keys (a ∷ map key_of qs)) (sym opened) ∙ so_far
+    let opened : drop i ps ≡ p ∷ drop (i + 1) ps = cc (drop-cons ps i p lt) in
+    cc (step a p.0 (map key_of (drop (i + 1) ps)) before utf8)
 
 pub last_key : (a : List ℕ) (ps : List (List ℕ × Value)) (i : ℕ) (whole : Bool) → length ps ≤ i → is_utf8 a ≡ true
     → are_keys (a ∷ map key_of (drop i ps)) ≡ whole → true ≡ whole
 last_key a ps i whole le utf8 so_far =
-    let one : are_keys (a ∷ []) ≡ true = rw utf8 refl in
-    sym one ∙ ap (λ (qs : List (List ℕ × Value)). are_keys (a ∷ map key_of qs)) (sym (drop_all i ps le)) ∙ so_far
+    let one : are_keys (a ∷ []) ≡ true = rw utf8 refl in cc (drop_all i ps le)
 
 pub not_ge : (o : Ordering) → false ≡ is_ge o → is_lt o ≡ true
 not_ge Less e = refl

@@ -107,7 +107,7 @@ grows_one marks added v x lt most = record {
   marked = marks_stay marks x.number lt;
   open_stays = λ t h. elim h [
     | inl unmarked ↦ elim (cases_eq t x.number) [
-      | inl same ↦ inr (length added, x, most, get_push_end added x, sym same)
+      | inl same ↦ inr (length added, x, most, get_push_end added x, cc)
       | inr other ↦ inl (get_or-set_other marks x.number t true false other ∙ unmarked)
     ]
     | inr w ↦ inr (w.0, w.1, w.2, get_push_front added x w.1 w.0 w.3, w.4)
@@ -137,7 +137,7 @@ pub grows_on : (v : ℕ) (a : List Bool) (x : List Addition) (b : List Bool) (y 
     → Grows v a x b y → Grows v b y c z → Grows v a x c z
 grows_on v a x b y c z m n =
     record {
-      count = n.count ∙ m.count;
+      count = cc;
       marked = λ t h. n.marked t (m.marked t h);
       open_stays = λ t h. n.open_stays t (m.open_stays t h);
     }
@@ -177,7 +177,7 @@ complete clauses seeds marks added v most settled seeded =
     (λ p q e all. elim (rw (get_or_from_slice_get clauses p q q e) at (settled p q (slice_get_within clauses p q e))) [
       | inl m ↦ m
       | inr w ↦ elim w.2 [
-        | inl no_mark ↦ absurd (false≢true (sym no_mark ∙ All-contains (λ t. is_marked marks t ≡ true) q.body w.0 all w.1))
+        | inl no_mark ↦ absurd (false≢true (cc (All-contains (λ t. is_marked marks t ≡ true) q.body w.0 all w.1)))
         | inr among ↦ absurd (let w = slice_get_within added among.0 among.1 among.3 in let l = among.2 in omega arith)
       ]
     ])

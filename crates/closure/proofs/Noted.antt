@@ -1,6 +1,6 @@
 -- Lemmas on the rows of the clauses that wait for each number.
-use Rattle.std.proofs.Common.{ℕ, zero, suc, Contains, ◌+◌, ◌≡◌, ◌<◌, List, [], ◌∷◌, ◌++◌, length, get_or, take, All, refl, ap}
-use Rattle.std.proofs.Common.{sym, ◌∙◌, inl, inr, set, arith, length-set}
+use Rattle.std.proofs.Common.{ℕ, zero, suc, Contains, ◌+◌, ◌≡◌, ◌<◌, List, [], ◌∷◌, ◌++◌, length, get_or, take, All, refl}
+use Rattle.std.proofs.Common.{inl, inr, set, arith, length-set}
 use Rattle.std.proofs.lemmas.Bool.{cases_eq}
 use Rattle.std.proofs.lemmas.List.{get_or-set_other, get_or-set_same, get_or_default, get_or-map, map-set, take_more}
 use Rattle.std.proofs.lemmas.List.Elements.{All-push, Contains-push_cases, Contains-append_left, Contains-push, All-head}
@@ -32,19 +32,17 @@ noted_at clause symbol uses lt =
     rw (get_or-set_same uses symbol (row uses symbol ++ clause ∷ []) [] lt) (Contains-push (row uses symbol) clause)
 
 pub row_of : (table : List (Vec ℕ)) (u : ℕ) (v : Vec ℕ) → u < length table → v ≡ get_or table u v → row (rows table) u ≡ v.items
-row_of table u v lt is = get_or-map (λ (x : Vec ℕ). x.items) table u v [] lt ∙ ap (λ (x : Vec ℕ). x.items) (sym is)
+row_of table u v lt is = cc (get_or-map (λ (x : Vec ℕ). x.items) table u v [] lt)
 
 -- the rows of a table in which an entry is added to one row
 pub rows_set : (table : List (Vec ℕ)) (u clause : ℕ) (v w : Vec ℕ) → u < length table → v ≡ get_or table u v
     → w.items ≡ v.items ++ clause ∷ [] → rows (set table u w) ≡ set (rows table) u (row (rows table) u ++ clause ∷ [])
-rows_set table u clause v w lt is pushed =
-    map-set (λ (x : Vec ℕ). x.items) table u w
-    ∙ ap (set (rows table) u) (pushed ∙ sym (ap (λ xs. xs ++ clause ∷ []) (row_of table u v lt is)))
+rows_set table u clause v w lt is pushed = cc (map-set (λ (x : Vec ℕ). x.items) table u w, row_of table u v lt is)
 
 pub notes_on : (clause : ℕ) (a b c : List (List ℕ)) → AddsClause clause a b → AddsClause clause b c → AddsClause clause a c
 notes_on clause a b c m n =
     record {
-      same = n.same ∙ m.same;
+      same = cc;
       kept = λ t p h. n.kept t p (m.kept t p h);
       fits = λ k below all. n.fits k below (m.fits k below all);
     }

@@ -1,5 +1,5 @@
 -- Elements of lists by their positions.
-use Rattle.std.proofs.Common.{ℕ, zero, suc, ◌≡◌, ◌⊎◌, List, [], ◌∷◌, ◌++◌, map, length, Contains, Some, slice_get, refl, ap, ◌∙◌}
+use Rattle.std.proofs.Common.{ℕ, zero, suc, ◌≡◌, ◌⊎◌, List, [], ◌∷◌, ◌++◌, map, length, Contains, Some, slice_get, refl}
 use Rattle.std.proofs.Common.{inl, inr, arith}
 use Rattle.std.proofs.lemmas.Option.{slice_get-get_or, slice_get_within, get_or_from_slice_get}
 
@@ -13,12 +13,12 @@ mapped_at f (x ∷ xs) (suc i) y e = mapped_at f xs i y e
 pub at_mapped : {X Y : Type 0} (f : X → Y) (xs : List X) (i : ℕ) (x : X) → slice_get xs i ≡ Some x
     → slice_get (map f xs) i ≡ Some (f x)
 at_mapped f [] i x e = absurd (cc)
-at_mapped f (z ∷ xs) zero x e = let same : z ≡ x = cc in ap (λ w. Some (f w)) same
+at_mapped f (z ∷ xs) zero x e = let same : z ≡ x = cc in cc
 at_mapped f (z ∷ xs) (suc i) x e = at_mapped f xs i x e
 
 -- an element of a list has a position in it, and each position has an element
 pub position_of_element : {X : Type 0} (xs : List X) (x : X) → Contains xs x → (p : ℕ) × (slice_get xs p ≡ Some x)
-position_of_element xs x h = (h.0, slice_get-get_or xs h.0 x h.1 ∙ ap Some h.2)
+position_of_element xs x h = (h.0, cc (slice_get-get_or xs h.0 x h.1))
 
 pub element_at : {X : Type 0} (xs : List X) (p : ℕ) (x : X) → slice_get xs p ≡ Some x → Contains xs x
 element_at xs p x h = (p, slice_get_within xs p x h, get_or_from_slice_get xs p x x h)

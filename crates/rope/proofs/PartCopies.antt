@@ -20,23 +20,22 @@ length_written : (from k : ℕ) (bytes out : List ℕ) → k ≡ length bytes �
 length_written from k bytes out e within =
     let before : length (take from out) ≡ from = length-take-le from out (omega arith) in
     let after : length (drop k (drop from out)) ≡ length out - from - k =
-    length-drop k (drop from out) ∙ ap (λ n. n - k) (length-drop from out) in
+    cc (length-drop k (drop from out), length-drop from out) in
     length-append (take from out) (bytes ++ drop k (drop from out))
     ∙ omega (arith, length-append bytes (drop k (drop from out)))
 
 drop_left : (from : ℕ) (l r : List ℕ) → length l ≤ from → drop from (l ++ r) ≡ drop (from - length l) r
 drop_left from l r le =
     let e : length l + (from - length l) ≡ from = omega arith in
-    ap (λ i. drop i (l ++ r)) (sym e) ∙ sym (drop-drop (from - length l) (length l) (l ++ r))
-    ∙ ap (λ (t : List ℕ). drop (from - length l) t) (drop_at l r (length l) refl)
+    cc (drop-drop (from - length l) (length l) (l ++ r), drop_at l r (length l) refl)
 
 -- all bytes to be copied are in the right side
 pub all_right : (at end from : ℕ) (rope l r out whole : List ℕ) → IsCopying at end from rope out whole → rope ≡ l ++ r
     → length l ≤ from → IsCopying at end (from - length l) r out whole
 all_right at end from rope l r out whole h e le =
-    let same : drop from rope ≡ drop (from - length l) r = ap (λ (t : List ℕ). drop from t) e ∙ drop_left from l r le in
+    let same : drop from rope ≡ drop (from - length l) r = cc (drop_left from l r le) in
     record {
-      whole_is = ap (λ (t : List ℕ). take at out ++ (take (end - at) t ++ drop end out)) (sym same) ∙ h.whole_is;
+      whole_is = cc;
       ordered = h.ordered;
       within = h.within;
       available = omega (arith, h.available, ap length e, length-append l r);
@@ -44,17 +43,15 @@ all_right at end from rope l r out whole h e le =
 
 take_left : (n from : ℕ) (l r : List ℕ) → from + n ≤ length l → take n (drop from (l ++ r)) ≡ take n (drop from l)
 take_left n from l r le =
-    ap (λ (t : List ℕ). take n t) (drop-append-le from l r (omega arith))
-    ∙ take-append-le n (drop from l) r (omega (arith, length-drop from l))
+    cc (drop-append-le from l r (omega arith), take-append-le n (drop from l) r (omega (arith, length-drop from l)))
 
 -- all bytes to be copied are in the left side
 pub all_left : (at end from : ℕ) (rope l r out whole : List ℕ) → IsCopying at end from rope out whole → rope ≡ l ++ r
     → from + (end - at) ≤ length l → IsCopying at end from l out whole
 all_left at end from rope l r out whole h e le =
-    let same : take (end - at) (drop from rope) ≡ take (end - at) (drop from l) =
-    ap (λ (t : List ℕ). take (end - at) (drop from t)) e ∙ take_left (end - at) from l r le in
+    let same : take (end - at) (drop from rope) ≡ take (end - at) (drop from l) = cc (take_left (end - at) from l r le) in
     record {
-      whole_is = ap (λ (t : List ℕ). take at out ++ (t ++ drop end out)) (sym same) ∙ h.whole_is;
+      whole_is = cc;
       ordered = h.ordered;
       within = h.within;
       available = le;
@@ -64,16 +61,13 @@ take_beyond : (n : ℕ) (xs ys : List ℕ) → length xs ≤ n → take n (xs ++
 take_beyond n [] ys le = ap (λ i. take i ys) (omega arith)
 take_beyond n (x ∷ xs) ys le =
     let e : n ≡ suc (n - 1) = omega arith in
-    let f : n - 1 - length xs ≡ n - suc (length xs) = omega arith in
-    ap (λ i. take i (x ∷ (xs ++ ys))) e
-    ∙ ap (λ (t : List ℕ). x ∷ t) (take_beyond (n - 1) xs ys (omega arith) ∙ ap (λ i. xs ++ take i ys) f)
+    let f : n - 1 - length xs ≡ n - suc (length xs) = omega arith in cc (take_beyond (n - 1) xs ys (omega arith))
 
 take_both : (n from k : ℕ) (l r : List ℕ) → from + k ≡ length l → k ≤ n
     → take n (drop from (l ++ r)) ≡ drop from l ++ take (n - k) r
 take_both n from k l r e le =
     let size : length (drop from l) ≡ k = length-drop from l ∙ omega arith in
-    ap (λ (t : List ℕ). take n t) (drop-append-le from l r (omega arith)) ∙ take_beyond n (drop from l) r (omega arith)
-    ∙ ap (λ i. drop from l ++ take (n - i) r) size
+    cc (drop-append-le from l r (omega arith), take_beyond n (drop from l) r (omega arith))
 
 -- the bytes to be copied are in both sides, and those of the left one were copied
 pub left_copied : (at end from k middle : ℕ) (rope l r x out whole : List ℕ) → IsCopying at end from rope out whole
@@ -82,24 +76,21 @@ pub left_copied : (at end from k middle : ℕ) (rope l r x out whole : List ℕ)
 left_copied at end from k middle rope l r x out whole h e f le m i =
     let size : length (drop from l) ≡ k = length-drop from l ∙ omega arith in
     let x_is : x ≡ drop from l = i ∙ take_all k (drop from l) (omega arith) in
-    let x_size : length x ≡ k = ap length x_is ∙ size in
-    let sizes : length rope ≡ length l + length r = ap length e ∙ length-append l r in
+    let x_size : length x ≡ k = cc in
+    let sizes : length rope ≡ length l + length r = cc (length-append l r) in
     let out_size : length (put_mid at k out x) ≡ length out =
-    length_written at k x out (sym x_size) (omega (arith, h.ordered, h.within)) in
+    length_written at k x out (cc) (omega (arith, h.ordered, h.within)) in
     let before : take middle (put_mid at k out x) ≡ take at out ++ x =
     take-put_mid at k out x middle (omega arith) (omega (arith, h.ordered, h.within)) in
     let after : drop end (put_mid at k out x) ≡ drop end out =
     drop-put_mid at k out x end (omega arith) (omega (arith, h.ordered, h.within)) x_size in
     let rest : end - at - k ≡ end - middle = omega arith in
-    let both : take (end - at) (drop from rope) ≡ x ++ take (end - middle) r =
-    ap (λ (t : List ℕ). take (end - at) (drop from t)) e ∙ take_both (end - at) from k l r f le
-    ∙ ap (λ (t : List ℕ). t ++ take (end - at - k) r) (sym x_is) ∙ ap (λ j. x ++ take j r) rest in
+    let both : take (end - at) (drop from rope) ≡ x ++ take (end - middle) r = cc (take_both (end - at) from k l r f le) in
     record {
-      whole_is = ap (λ (t : List ℕ). t ++ (take (end - middle) r ++ drop end (put_mid at k out x))) before
-          ∙ ap (λ (t : List ℕ). (take at out ++ x) ++ (take (end - middle) r ++ t)) after
-          ∙ append_assoc (take at out) x (take (end - middle) r ++ drop end out)
-          ∙ ap (λ (t : List ℕ). take at out ++ t) (sym (append_assoc x (take (end - middle) r) (drop end out)))
-          ∙ ap (λ (t : List ℕ). take at out ++ (t ++ drop end out)) (sym both) ∙ h.whole_is;
+      whole_is = cc (
+        append_assoc (take at out) x (take (end - middle) r ++ drop end out),
+        append_assoc x (take (end - middle) r) (drop end out),
+      );
       ordered = omega (arith, h.ordered);
       within = omega (arith, h.within);
       available = omega (arith, h.available, h.ordered);
@@ -111,10 +102,10 @@ pub right_copied : (at end from k middle m : ℕ) (rope l r x out whole : List �
     → IsCopying at middle from l (put_mid middle m out x) whole
 right_copied at end from k middle m rope l r x out whole h e f le g n i =
     let size : length (drop from l) ≡ k = length-drop from l ∙ omega arith in
-    let sizes : length rope ≡ length l + length r = ap length e ∙ length-append l r in
-    let x_size : length x ≡ m = ap length i ∙ length-take-le m r (omega (arith, h.available, h.ordered)) in
+    let sizes : length rope ≡ length l + length r = cc (length-append l r) in
+    let x_size : length x ≡ m = cc (length-take-le m r (omega (arith, h.available, h.ordered))) in
     let out_size : length (put_mid middle m out x) ≡ length out =
-    length_written middle m x out (sym x_size) (omega (arith, h.ordered, h.within)) in
+    length_written middle m x out (cc) (omega (arith, h.ordered, h.within)) in
     let before : take at (put_mid middle m out x) ≡ take at out =
     take-put_mid_below middle m out x at (omega arith) (omega (arith, h.ordered, h.within)) in
     let prefix : length (take middle out) ≡ middle = length-take-le middle out (omega (arith, h.ordered, h.within)) in
@@ -126,11 +117,7 @@ right_copied at end from k middle m rope l r x out whole h e f le g n i =
     ap (λ (t : List ℕ). take (end - at) (drop from t)) e ∙ take_both (end - at) from k l r f le
     ∙ ap (λ (t : List ℕ). drop from l ++ t) (ap (λ j. take j r) (omega arith) ∙ sym i) in
     record {
-      whole_is = ap (λ (t : List ℕ). t ++ (take (middle - at) (drop from l) ++ drop middle (put_mid middle m out x))) before
-          ∙ ap (λ (t : List ℕ). take at out ++ (t ++ drop middle (put_mid middle m out x))) left
-          ∙ ap (λ (t : List ℕ). take at out ++ (drop from l ++ t)) after
-          ∙ ap (λ (t : List ℕ). take at out ++ t) (sym (append_assoc (drop from l) x (drop end out)))
-          ∙ ap (λ (t : List ℕ). take at out ++ (t ++ drop end out)) (sym both) ∙ h.whole_is;
+      whole_is = cc (append_assoc (drop from l) x (drop end out));
       ordered = omega arith;
       within = omega (arith, h.within, h.ordered);
       available = omega arith;

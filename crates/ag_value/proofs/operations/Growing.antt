@@ -1,5 +1,5 @@
 -- The weight and the depth of a list that is made of two lists, or of a list and one more item.
-use Rattle.std.proofs.Common.{◌≡◌, ℕ, ◌+◌, ◌-◌, max, min, Bool, true, false, ◌||◌, List, [], ◌∷◌, ◌++◌, map, sum, None, refl, sym}
+use Rattle.std.proofs.Common.{◌≡◌, ℕ, ◌+◌, ◌-◌, max, min, Bool, true, false, List, [], ◌∷◌, ◌++◌, map, sum, None, refl, sym}
 use Rattle.std.proofs.Common.{ap, ◌∙◌, subst, arith}
 use Rattle.std.proofs.lemmas.Bool.{and_parts}
 use Rattle.std.proofs.lemmas.List.{map-append}
@@ -16,11 +16,11 @@ use Rattle.ag_value.specs.operations.Arguments.{fault_at, fault_of}
 use Rattle.ag_value.specs.operations.Fitting.{IsGathered}
 
 no_fault-List : (items : List Value) → is_fault (v.List items) ≡ false
-no_fault-List items = ap is_fault (sym (rolls-List items)) ∙ fold-roll-Value Bool fault_step (Value-F.List items)
+no_fault-List items = cc (rolls-List items, fold-roll-Value Bool fault_step (Value-F.List items))
 
 -- the items of a well list are allowed in a list
 pub items_of : (items : List Value) → IsWell (v.List items) → all_true (map is_item items) ≡ true
-items_of items well = sym (item-List items) ∙ sym (ap (λ b. b || is_item (v.List items)) (no_fault-List items)) ∙ well.formed
+items_of items well = cc (item-List items, no_fault-List items)
 
 pub all_true-append : (xs ys : List Bool) → all_true xs ≡ true → all_true ys ≡ true → all_true (xs ++ ys) ≡ true
 all_true-append [] ys h k = k
@@ -37,7 +37,7 @@ sum-append xs ys = sum_by-append (λ n. n) xs ys
 pub item-together : (xs ys : List Value) → all_true (map is_item xs) ≡ true → all_true (map is_item ys) ≡ true
     → is_item (v.List (xs ++ ys)) ≡ true
 item-together xs ys h k =
-    item-List (xs ++ ys) ∙ ap all_true (map-append is_item xs ys) ∙ all_true-append (map is_item xs) (map is_item ys) h k
+    cc (item-List (xs ++ ys), map-append is_item xs ys, all_true-append (map is_item xs) (map is_item ys) h k)
 
 pub weight-together : (xs ys : List Value) → weight_of (v.List (xs ++ ys)) + 5 ≡ weight_of (v.List xs) + weight_of (v.List ys)
 weight-together xs ys =
@@ -48,7 +48,7 @@ weight-together xs ys =
 pub depth-together : (xs ys : List Value) → depth_of (v.List (xs ++ ys)) ≡ max (depth_of (v.List xs)) (depth_of (v.List ys))
 depth-together xs ys =
     let parts : greatest (map depth_of (xs ++ ys)) ≡ max (greatest (map depth_of xs)) (greatest (map depth_of ys)) =
-    ap greatest (map-append depth_of xs ys) ∙ greatest-append (map depth_of xs) (map depth_of ys) in
+    cc (map-append depth_of xs ys, greatest-append (map depth_of xs) (map depth_of ys)) in
     omega (arith, parts, depth-List (xs ++ ys), depth-List xs, depth-List ys)
 
 -- the weight of a list of one item
@@ -69,8 +69,7 @@ no_fault (Value-F.Fault code) sound = let bad : ⊥ = cc in absurd bad
 pub item_of : (w : Value) → IsWell w → fault_of w ≡ None → is_item w ≡ true
 item_of w well sound =
     let other : is_fault w ≡ false =
-    subst (λ (u : Value). is_fault u ≡ false) (roll-out-Value w) (no_fault (out-Value w) sound) in
-    sym (ap (λ b. b || is_item w) other) ∙ well.formed
+    subst (λ (u : Value). is_fault u ≡ false) (roll-out-Value w) (no_fault (out-Value w) sound) in cc
 
 -- the concatenation of two well lists: a list may contain its items, and its weight and depth as the code counts them
 pub fits-together : (xs ys zs : List Value) (weight depth : ℕ) → zs ≡ xs ++ ys → IsWell (v.List xs) → IsWell (v.List ys)
@@ -102,7 +101,7 @@ pub gathers : (xs zs : List Value) (x : Value) (weight depth weight' depth' : �
     → IsGathered zs weight' depth'
 gathers xs zs x weight depth weight' depth' is so_far well sound heavy deep =
     subst (λ (ys : List Value). IsGathered ys weight' depth') (sym is) (record {
-      item = item-together xs (x ∷ []) (sym (item-List xs) ∙ so_far.item) (rw (item_of x well sound) refl);
+      item = item-together xs (x ∷ []) (cc (item-List xs)) (rw (item_of x well sound) refl);
       weight_is = let a = so_far.weight_is in let b = well.light in let e = weight-together xs (x ∷ []) in let f = weight-one x in
           omega arith;
       depth_is = let a = so_far.depth_is in let b = well.shallow in let e = depth-together xs (x ∷ []) in let f = depth-one x in

@@ -1,6 +1,6 @@
 -- Limits of the parts of well tables.
 use Rattle.std.proofs.Common.{◌≡◌, ℕ, zero, suc, ◌≤◌, Bool, true, false, ◌&&◌, cond, List, [], ◌∷◌, map, sum, find, slice_get}
-use Rattle.std.proofs.Common.{bytes_eq, Some, refl, sym, ap, ◌∙◌, subst, arith}
+use Rattle.std.proofs.Common.{bytes_eq, Some, refl, sym, ◌∙◌, subst, arith}
 use Rattle.std.proofs.lemmas.Bool.{and_parts}
 use Rattle.std.proofs.lemmas.List.Sums.{sum_by-cons}
 use Rattle.std.specs.Str.{is_utf8}
@@ -12,7 +12,6 @@ use Rattle.ag_value.specs.Well.{IsWell, all_true, are_keys, is_item, is_item_pai
 use Rattle.ag_value.proofs.Layers.{depth-List, depth-Table, depth-Text, item-List, item-Table, item-Text, weight-List}
 use Rattle.ag_value.proofs.Layers.{weight-Table, weight-Text}
 use Rattle.ag_value.proofs.Weights.{weight_positive}
-use Rattle.ag_value.specs.operations.Arguments.{fault_at}
 use Rattle.ag_value.specs.operations.Tables.{pair_with}
 use Rattle.ag_value.proofs.operations.Growing.{item_of}
 use Rattle.ag_value.proofs.operations.Wells.{all_in, formed, greatest_in, sum_in}
@@ -22,7 +21,7 @@ Pair = List ℕ × Value
 
 -- a well table is allowed in a list
 pub item_table : (pairs : List Pair) → IsWell (v.Table pairs) → is_item (v.Table pairs) ≡ true
-item_table pairs well = item_of (v.Table pairs) well (ap fault_at (outs-Table pairs))
+item_table pairs well = item_of (v.Table pairs) well (cc (outs-Table pairs))
 
 -- the keys of a well table ascend and are UTF-8, and its values are allowed in it
 pub table_parts : (pairs : List Pair) → IsWell (v.Table pairs)

@@ -64,9 +64,9 @@ loop-search-preserved c =
     (next_within _ _ _ _ _ _ c.index.result.now
     (length c.args.uses.now) c.loop-search.invariant.count lt c.index.ensures c.loop-search.invariant.search)
     c.index-uses-number.is in record {
-      clauses = taken.clauses ∙ c.loop-search.invariant.clauses;
-      seeds = taken.seeds ∙ c.loop-search.invariant.seeds;
-      count = taken.grows.count ∙ c.loop-search.invariant.count;
+      clauses = cc;
+      seeds = cc;
+      count = cc;
       search = taken.search;
       settled =
           λ p d inside. rw (← c.loop-search.invariant.clauses)

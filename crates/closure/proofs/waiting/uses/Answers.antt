@@ -1,5 +1,5 @@
 -- The remaining goals of `uses`.
-use Rattle.std.proofs.Common.{◌<◌, length, arith, ap, sym, ◌∙◌}
+use Rattle.std.proofs.Common.{◌<◌, length, arith, ap, ◌∙◌}
 use Rattle.std.proofs.lemmas.List.{length-map}
 use Rattle.closure.specs.declared.clause.Clause.{Clause}
 use Rattle.std.proofs.lemmas.List.Elements.{All-nil}
@@ -15,7 +15,7 @@ loop-at-init c = record {
 
 pub loop-at-preserved : goal.loop-at-preserved
 loop-at-preserved c = record {
-  count = sym (length-map _ _) ∙ c.in_ok-add_uses.ensures.adds.same ∙ length-map _ _ ∙ c.loop-at.invariant.count;
+  count = cc (length-map _ _, c.in_ok-add_uses.ensures.adds.same, c.loop-at.invariant.count);
   listed =
       noted_lines _ _ _ _ _ _ c.loop-at-test.true
       (c.as_slice.ensures ∙ ap (λ (q : Clause). q.body) c.index-clauses-at.is) c.in_ok-add_uses.ensures.adds
