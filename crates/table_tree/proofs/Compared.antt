@@ -1,11 +1,22 @@
 -- Equality of tables, by their parts.
-use Rattle.std.proofs.Common.{◌≡◌, ℕ, suc, ◌+◌, ◌≤◌, List, [], ◌∷◌, ◌++◌, length, take, drop, Some, slice_get}
-use Rattle.std.proofs.Common.{refl, sym, ap, ◌∙◌, arith, length-append}
-use Rattle.std.proofs.lemmas.List.{drop-drop, drop-take, drop_more, take-append-drop, take-take}
-use Rattle.std.proofs.lemmas.List.{length-drop, length-take-le}
+use Rattle.std.proofs.Common.{◌≡◌, ℕ, suc, ◌+◌, ◌≤◌, List, ◌∷◌, ◌++◌, length, take, drop, Some, slice_get, ap, arith}
+use Rattle.std.proofs.Common.{length-append}
+use Rattle.std.proofs.Math.Seq.{drop-append_seam, take-append_seam}
+use Rattle.std.proofs.lemmas.List.{drop-drop, drop-take, drop_more, length-drop, length-take-le, take-append-drop, take-take}
 use Rattle.std.proofs.lemmas.Option.{get_or_from_slice_get}
 use Rattle.table_tree.specs.Splits.{IsSplit}
 use Rattle.table_tree.proofs.Keys.{Pair}
+
+-- the parts a and b are equal to the parts c and d
+pub record AreTwo {A : Type 0} (a b c d : List A) : Type 0 where
+  pub first : a ≡ c
+  pub rest : b ≡ d
+
+pub two_parts : {A : Type 0} (a b c d : List A) → length a ≡ length c → a ++ b ≡ c ++ d → AreTwo a b c d
+two_parts a b c d len e = record {
+  first = cc (take-append_seam a b, take-append_seam c d);
+  rest = cc (drop-append_seam a b, drop-append_seam c d);
+}
 
 -- the parts a, p and b are equal to the parts c, q and d
 pub record AreSame (a : List Pair) (p : Pair) (b c : List Pair) (q : Pair) (d : List Pair) : Type 0 where
@@ -13,71 +24,38 @@ pub record AreSame (a : List Pair) (p : Pair) (b c : List Pair) (q : Pair) (d : 
   pub here : p ≡ q
   pub after : b ≡ d
 
-pub same_parts : (a : List Pair) (p : Pair) (b c : List Pair) (q : Pair) (d : List Pair) → length a ≡ length c
+same_parts : {a : List Pair} {p : Pair} {b c : List Pair} {q : Pair} {d : List Pair} → length a ≡ length c
     → a ++ p ∷ b ≡ c ++ q ∷ d → AreSame a p b c q d
-same_parts [] p b [] q d len e = record { before = refl; here = cc; after = cc }
-same_parts [] p b (y ∷ c) q d len e = absurd (omega arith)
-same_parts (x ∷ a) p b [] q d len e = absurd (omega arith)
-same_parts (x ∷ a) p b (y ∷ c) q d len e =
-    let rest : a ++ p ∷ b ≡ c ++ q ∷ d = cc in
-    let head : x ≡ y = cc in
-    let parts = same_parts a p b c q d (omega arith) rest in
-    let tail = parts.before in
-    record { before = cc; here = parts.here; after = parts.after }
+same_parts {a} {p} {b} {c} {q} {d} len e =
+    let parts = two_parts a (p ∷ b) c (q ∷ d) len e in record { before = parts.first; here = cc; after = cc }
 
-pub whole_same : (a : List Pair) (p : Pair) (b c : List Pair) (q : Pair) (d : List Pair) → AreSame a p b c q d
-    → a ++ p ∷ b ≡ c ++ q ∷ d
-whole_same a p b c q d s = let x = s.before in let y = s.here in let z = s.after in cc
-
--- two tables that are split at the same index are equal exactly if their parts are
-pub split_same : (ps a : List Pair) (p : Pair) (b qs c : List Pair) (q : Pair) (d : List Pair) → IsSplit ps a p b
+-- two tables that are equal and split at the same index have equal parts
+pub split_same : {ps a : List Pair} {p : Pair} {b qs c : List Pair} {q : Pair} {d : List Pair} → IsSplit ps a p b
     → IsSplit qs c q d → length a ≡ length c → ps ≡ qs → AreSame a p b c q d
-split_same ps a p b qs c q d s t len e = same_parts a p b c q d len (sym s.parts ∙ (e ∙ t.parts))
-
-pub same_split : (ps a : List Pair) (p : Pair) (b qs c : List Pair) (q : Pair) (d : List Pair) → IsSplit ps a p b
-    → IsSplit qs c q d → AreSame a p b c q d → ps ≡ qs
-same_split ps a p b qs c q d s t parts = s.parts ∙ (whole_same a p b c q d parts ∙ sym t.parts)
+split_same s t len e = same_parts len (cc)
 
 sum_taken : (n m : ℕ) (xs : List Pair) → take (n + m) xs ≡ take n xs ++ take m (drop n xs)
-sum_taken n m xs =
-    sym (take-append-drop n (take (n + m) xs))
-    ∙ (ap (λ (t : List Pair). t ++ drop n (take (n + m) xs)) (take-take n (n + m) xs (omega arith))
-    ∙ ap (λ (t : List Pair). take n xs ++ t) (drop-take n m xs))
+sum_taken n m xs = cc (take-append-drop n (take (n + m) xs), take-take n (n + m) xs (omega arith), drop-take n m xs)
 
 -- a split table is compared with the pairs of another table from an index on, part by part
-pub part_parts : (ps a : List Pair) (p : Pair) (b qs : List Pair) (i : ℕ) (x : Pair) → IsSplit ps a p b
-    → slice_get qs (i + length a) ≡ Some x → i + length ps ≤ length qs
-    → take (length ps) (drop i qs) ≡ take (length a) (drop i qs) ++ x ∷ take (length b) (drop (i + length a + 1) qs)
-part_parts ps a p b qs i x s at le =
-    let n : ℕ = length a in
-    let size : length ps ≡ n + suc (length b) =
-    ap length s.parts ∙ (length-append a (p ∷ b) ∙ omega arith) in
-    let here : drop n (drop i qs) ≡ x ∷ drop (i + n + 1) qs =
-    drop-drop n i qs
-    ∙ (drop_more qs (i + n) x (omega arith)
-    ∙ ap (λ (y : Pair). y ∷ drop (i + n + 1) qs) (get_or_from_slice_get qs (i + n) x x at)) in
-    ap (λ k. take k (drop i qs)) size
-    ∙ (sum_taken n (suc (length b)) (drop i qs) ∙ ap (λ (t : List Pair). take n (drop i qs) ++ take (suc (length b)) t) here)
+module _ {ps a : List Pair} {p : Pair} {b : List Pair} (qs : List Pair) (i : ℕ) (x : Pair) (s : IsSplit ps a p b)
+    (at : slice_get qs (i + length a) ≡ Some x) (le : i + length ps ≤ length qs) where
+  pub part_parts : take (length ps) (drop i qs)
+      ≡ take (length a) (drop i qs) ++ x ∷ take (length b) (drop (i + length a + 1) qs)
+  part_parts =
+      let n : ℕ = length a in
+      let both = length-append a (p ∷ b) in
+      let size : length ps ≡ n + suc (length b) = omega (arith, ap length s.parts) in
+      cc (
+        sum_taken n (suc (length b)) (drop i qs),
+        drop-drop n i qs,
+        drop_more qs (i + n) x (omega arith),
+        get_or_from_slice_get qs (i + n) x x at,
+      )
 
-part_size : (ps a : List Pair) (p : Pair) (b qs : List Pair) (i : ℕ) → IsSplit ps a p b → i + length ps ≤ length qs
-    → length a ≡ length (take (length a) (drop i qs))
-part_size ps a p b qs i s le =
-    let size = ap length s.parts in
-    let both = length-append a (p ∷ b) in
-    sym (length-take-le (length a) (drop i qs) (let e = length-drop i qs in omega arith))
-
-pub part_same : (ps a : List Pair) (p : Pair) (b qs : List Pair) (i : ℕ) (x : Pair) → IsSplit ps a p b
-    → slice_get qs (i + length a) ≡ Some x → i + length ps ≤ length qs → ps ≡ take (length ps) (drop i qs)
-    → AreSame a p b (take (length a) (drop i qs)) x (take (length b) (drop (i + length a + 1) qs))
-part_same ps a p b qs i x s at le e =
-    same_parts a p b (take (length a) (drop i qs)) x (take (length b) (drop (i + length a + 1) qs))
-    (part_size ps a p b qs i s le) (sym s.parts ∙ (e ∙ part_parts ps a p b qs i x s at le))
-
-pub same_part : (ps a : List Pair) (p : Pair) (b qs : List Pair) (i : ℕ) (x : Pair) → IsSplit ps a p b
-    → slice_get qs (i + length a) ≡ Some x → i + length ps ≤ length qs
-    → AreSame a p b (take (length a) (drop i qs)) x (take (length b) (drop (i + length a + 1) qs))
-    → ps ≡ take (length ps) (drop i qs)
-same_part ps a p b qs i x s at le parts =
-    s.parts
-    ∙ (whole_same a p b (take (length a) (drop i qs)) x (take (length b) (drop (i + length a + 1) qs)) parts
-    ∙ sym (part_parts ps a p b qs i x s at le))
+  pub part_same : ps ≡ take (length ps) (drop i qs)
+      → AreSame a p b (take (length a) (drop i qs)) x (take (length b) (drop (i + length a + 1) qs))
+  part_same e =
+      let both = length-append a (p ∷ b) in
+      let within : length a ≤ length (drop i qs) = omega (arith, ap length s.parts, length-drop i qs) in
+      same_parts (cc (length-take-le (length a) (drop i qs) within)) (cc part_parts)

@@ -1,17 +1,11 @@
 -- The encoding of a table, by the parts of the table.
-use Rattle.std.proofs.Common.{◌≡◌, ℕ, ◌+◌, ◌-◌, ◌<◌, ◌≤◌, min, List, [], ◌∷◌, ◌++◌, length, map, sum, take, drop, refl, sym, ap}
-use Rattle.std.proofs.Common.{◌∙◌, subst, append_assoc, arith, length-append}
-use Rattle.std.proofs.lemmas.List.{drop-append-le, drop-drop, drop_at, length-drop, map-append, take-append-le}
-use Rattle.std.proofs.lemmas.List.{take-append-drop, take-take, drop-take}
-use Rattle.std.proofs.Common.{◌⊎◌, inl, inr}
+use Rattle.std.proofs.Common.{◌≡◌, ℕ, ◌+◌, ◌-◌, ◌<◌, ◌≤◌, min, List, [], ◌∷◌, ◌++◌, length, map, sum, take, drop, refl, ap}
+use Rattle.std.proofs.Common.{append_assoc, arith, length-append, ◌⊎◌, inl, inr}
 use Rattle.std.proofs.lemmas.Bool.{cases_lt}
-use Rattle.std.proofs.Common.{true, Some}
-use Rattle.std.proofs.lemmas.List.{append-nil}
-use Rattle.std.proofs.lemmas.Option.{same_Some}
+use Rattle.std.proofs.lemmas.List.{append-nil, drop-append-le, drop-drop, drop_at, length-drop, map-append, take-append-le}
+use Rattle.std.proofs.lemmas.List.{take-append-drop, take-take, drop-take}
 use Rattle.std.specs.Int.{w32, to_be_bytes}
-use Rattle.std.specs.Str.{is_utf8}
-use Rattle.ag_value.specs.declared.value.Value.{out-Value}
-use Rattle.ag_value.specs.declared.value.Value.TheOpen.{Value-F}
+use Rattle.ag_value.specs.declared.value.Value.{Value}
 use Rattle.ag_value.specs.declared.value.Value.TheVariants as v
 use Rattle.ag_value.specs.declared.value.Value.TheVariants.{outs-Table}
 use Rattle.ag_value.specs.Measure.{weight_of_pair}
@@ -20,30 +14,29 @@ use Rattle.ag_value.proofs.Layers.{spelling-Table, weight-Table}
 use Rattle.ag_value.proofs.Codec.{prefix_free}
 use Rattle.ag_value.proofs.Fields.{text_again}
 use Rattle.ag_value.proofs.Lengths.{length-spelling}
-use Rattle.ag_value.specs.Measure.{max_weight}
-use Rattle.ag_value.specs.Reading.{text_at}
 use Rattle.ag_value.specs.Well.{IsWell}
+use Rattle.table_tree.specs.Entries.{IsEntry}
 use Rattle.table_tree.specs.Pieces.{IsPiece}
 use Rattle.table_tree.specs.Splits.{IsSplit}
+use Rattle.table_tree.specs.Totals.{AreTotals}
+use Rattle.table_tree.specs.declared.totals.Totals.{Totals}
 use Rattle.table_tree.proofs.Keys.{Pair}
 
 -- the encodings of pairs, one after the other
 abbrev pub encodings : List Pair → List ℕ
 encodings pairs = joined (map spelling_of_pair pairs)
 
-pub joined-append : (xs ys : List (List ℕ)) → joined (xs ++ ys) ≡ joined xs ++ joined ys
+joined-append : (xs ys : List (List ℕ)) → joined (xs ++ ys) ≡ joined xs ++ joined ys
 joined-append [] ys = refl
-joined-append (x ∷ xs) ys = ap (λ (t : List ℕ). x ++ t) (joined-append xs ys) ∙ sym (append_assoc x (joined xs) (joined ys))
+joined-append (x ∷ xs) ys = cc (joined-append xs ys, append_assoc x (joined xs) (joined ys))
 
 pub encodings_around : (before : List Pair) (p : Pair) (after : List Pair)
     → encodings (before ++ p ∷ after) ≡ encodings before ++ (spelling_of_pair p ++ encodings after)
 encodings_around before p after =
-    ap joined (map-append spelling_of_pair before (p ∷ after))
-    ∙ joined-append (map spelling_of_pair before) (map spelling_of_pair (p ∷ after))
-
-pub split_encodings : (ps before : List Pair) (p : Pair) (after : List Pair) → IsSplit ps before p after
-    → encodings ps ≡ encodings before ++ (spelling_of_pair p ++ encodings after)
-split_encodings ps before p after s = ap encodings s.parts ∙ encodings_around before p after
+    cc (
+      map-append spelling_of_pair before (p ∷ after),
+      joined-append (map spelling_of_pair before) (map spelling_of_pair (p ∷ after)),
+    )
 
 -- the encoding of a table: five bytes, and those of the pairs
 pub table_encoding : (ps : List Pair)
@@ -51,85 +44,97 @@ pub table_encoding : (ps : List Pair)
 table_encoding ps = spelling-Table ps
 
 -- lengths
-pub length-encodings : (ps : List Pair) → length (encodings ps) ≡ sum (map weight_of_pair ps)
-length-encodings ps =
-    let whole = length-spelling (v.Table ps) in
-    let spelled = ap length (spelling-Table ps) in
+pub length-table : (ps : List Pair) → length (spelling_of (v.Table ps)) ≡ 5 + length (encodings ps)
+length-table ps =
     let four : length (to_be_bytes w32 (length ps)) ≡ 4 = refl in
-    let e = length-append (to_be_bytes w32 (length ps)) (encodings ps) in
-    let w = weight-Table ps in
-    omega arith
+    omega (arith, ap length (table_encoding ps), length-append (to_be_bytes w32 (length ps)) (encodings ps))
+
+pub length-encodings : (ps : List Pair) → length (encodings ps) ≡ sum (map weight_of_pair ps)
+length-encodings ps = omega (arith, length-table ps, length-spelling (v.Table ps), weight-Table ps)
 
 pub length-spelling_of_pair : (p : Pair) → length (spelling_of_pair p) ≡ weight_of_pair p
 length-spelling_of_pair p =
     let four : length (to_be_bytes w32 (length p.0)) ≡ 4 = refl in
-    let key = length-append (to_be_bytes w32 (length p.0)) p.0 in
-    let all = length-append (counted p.0) (spelling_of p.1) in
-    let value = length-spelling p.1 in
-    omega arith
+    omega (
+      arith,
+      length-append (to_be_bytes w32 (length p.0)) p.0,
+      length-append (counted p.0) (spelling_of p.1),
+      length-spelling p.1,
+    )
 
-pub length-table : (ps : List Pair) → length (spelling_of (v.Table ps)) ≡ 5 + length (encodings ps)
-length-table ps =
-    let spelled = ap length (table_encoding ps) in
-    let four : length (to_be_bytes w32 (length ps)) ≡ 4 = refl in
-    let e = length-append (to_be_bytes w32 (length ps)) (encodings ps) in
-    omega arith
+-- the numbers of bytes of the encodings of the pairs before a pair, of the pair, and of all pairs
+pub record AreLengths (ps before : List Pair) (p : Pair) (after : List Pair) (start own : ℕ) : Type 0 where
+  pub first : start ≡ length (encodings before)
+  pub middle : own ≡ length (spelling_of_pair p)
+  pub whole : length (encodings ps) ≡ start + own + length (encodings after)
 
 -- ---- pieces
 
-pub piece_more : (bytes piece more : List ℕ) → IsPiece bytes piece → IsPiece (bytes ++ more) piece
-piece_more bytes piece more is = record {
-  after = is.after ++ more;
-  parts = ap (λ (t : List ℕ). t ++ more) is.parts ∙ append_assoc piece is.after more;
-  some = is.some;
-}
+piece_more : {bytes piece : List ℕ} (more : List ℕ) → IsPiece bytes piece → IsPiece (bytes ++ more) piece
+piece_more {bytes} {piece} more is =
+    record { after = is.after ++ more; parts = cc (append_assoc piece is.after more); some = is.some }
 
--- a piece of the encodings of the pairs before a pair is a piece of all encodings
-pub piece_before : (ps before : List Pair) (p : Pair) (after : List Pair) (offset : ℕ) (piece : List ℕ)
-    → IsSplit ps before p after → offset < length (encodings before) → IsPiece (drop offset (encodings before)) piece
-    → IsPiece (drop offset (encodings ps)) piece
-piece_before ps before p after offset piece s lt is =
-    let rest : List ℕ = spelling_of_pair p ++ encodings after in
-    let e : drop offset (encodings ps) ≡ drop offset (encodings before) ++ rest =
-    ap (drop offset) (split_encodings ps before p after s) ∙ drop-append-le offset (encodings before) rest (omega arith) in
-    subst (λ (t : List ℕ). IsPiece t piece) (sym e) (piece_more (drop offset (encodings before)) piece rest is)
-
-past : (offset n : ℕ) (xs ys : List ℕ) → length xs ≡ n → n ≤ offset → drop offset (xs ++ ys) ≡ drop (offset - n) ys
-past offset n xs ys e le =
+past : (offset : ℕ) (xs ys : List ℕ) → length xs ≤ offset → drop offset (xs ++ ys) ≡ drop (offset - length xs) ys
+past offset xs ys le =
+    let n : ℕ = length xs in
     let sum : offset ≡ n + (offset - n) = omega arith in
-    ap (λ (i : ℕ). drop i (xs ++ ys)) sum
-    ∙ (sym (drop-drop (offset - n) n (xs ++ ys)) ∙ ap (drop (offset - n)) (drop_at xs ys n e))
+    cc (sum, drop-drop (offset - n) n (xs ++ ys), drop_at xs ys n refl)
 
--- so is the rest of the encoding of the pair
-pub piece_here : (ps before : List Pair) (p : Pair) (after : List Pair) (offset skip : ℕ) (piece : List ℕ)
-    → IsSplit ps before p after → length (encodings before) ≤ offset → skip ≡ offset - length (encodings before)
-    → skip < length (spelling_of_pair p) → piece ≡ drop skip (spelling_of_pair p) → IsPiece (drop offset (encodings ps)) piece
-piece_here ps before p after offset skip piece s le e lt is =
-    let parts : drop offset (encodings ps) ≡ drop skip (spelling_of_pair p) ++ encodings after =
-    ap (drop offset) (split_encodings ps before p after s)
-    ∙ (past offset (length (encodings before)) (encodings before) (spelling_of_pair p ++ encodings after) refl le
-    ∙ (ap (λ (i : ℕ). drop i (spelling_of_pair p ++ encodings after)) (sym e)
-    ∙ drop-append-le skip (spelling_of_pair p) (encodings after) (omega arith))) in
-    let size : length piece ≡ length (spelling_of_pair p) - skip = ap length is ∙ length-drop skip (spelling_of_pair p) in
-    record {
-      after = encodings after;
-      parts = parts ∙ ap (λ (t : List ℕ). t ++ encodings after) (sym is);
-      some = omega arith;
-    }
+module _ {ps before : List Pair} {p : Pair} {after : List Pair} (s : IsSplit ps before p after) where
+  pub split_encodings : encodings ps ≡ encodings before ++ (spelling_of_pair p ++ encodings after)
+  split_encodings = cc (encodings_around before p after)
 
--- so is a piece of the encodings of the pairs after the pair
-pub piece_after : (ps before : List Pair) (p : Pair) (after : List Pair) (offset rest : ℕ) (piece : List ℕ)
-    → IsSplit ps before p after → length (encodings before) + length (spelling_of_pair p) ≤ offset
-    → rest ≡ offset - length (encodings before) - length (spelling_of_pair p) → IsPiece (drop rest (encodings after)) piece
-    → IsPiece (drop offset (encodings ps)) piece
-piece_after ps before p after offset rest piece s le e is =
-    let skip : ℕ = offset - length (encodings before) in
-    let parts : drop offset (encodings ps) ≡ drop rest (encodings after) =
-    ap (drop offset) (split_encodings ps before p after s)
-    ∙ (past offset (length (encodings before)) (encodings before) (spelling_of_pair p ++ encodings after) refl (omega arith)
-    ∙ (past skip (length (spelling_of_pair p)) (spelling_of_pair p) (encodings after) refl (omega arith)
-    ∙ ap (λ (i : ℕ). drop i (encodings after)) (sym e))) in
-    subst (λ (t : List ℕ). IsPiece t piece) (sym parts) is
+  -- the lengths of the encodings of the parts, for a caller that has the totals of the first part, and the bytes of the pair
+  pub part_lengths : {totals : Totals} (own : List ℕ) → AreTotals before totals → own ≡ spelling_of_pair p
+      → AreLengths ps before p after totals.bytes (length own)
+  part_lengths own are is = record {
+    first = omega (arith, length-encodings before);
+    middle = ap length is;
+    whole =
+        omega (
+          arith,
+          ap length is,
+          length-encodings before,
+          ap length split_encodings,
+          length-append (encodings before) (spelling_of_pair p ++ encodings after),
+          length-append (spelling_of_pair p) (encodings after),
+        );
+  }
+
+  -- a piece of the encodings of the pairs before a pair is a piece of all encodings
+  pub piece_before : (offset : ℕ) {piece : List ℕ} → offset < length (encodings before)
+      → IsPiece (drop offset (encodings before)) piece → IsPiece (drop offset (encodings ps)) piece
+  piece_before offset lt is =
+      let rest : List ℕ = spelling_of_pair p ++ encodings after in
+      rw (split_encodings, drop-append-le offset (encodings before) rest (omega arith)) (piece_more rest is)
+
+  -- so is the rest of the encoding of the pair
+  pub piece_here : (offset skip : ℕ) {piece : List ℕ} → length (encodings before) ≤ offset
+      → skip ≡ offset - length (encodings before) → skip < length (spelling_of_pair p) → piece ≡ drop skip (spelling_of_pair p)
+      → IsPiece (drop offset (encodings ps)) piece
+  piece_here offset skip le e lt is = record {
+    after = encodings after;
+    parts =
+        cc (
+          split_encodings,
+          past offset (encodings before) (spelling_of_pair p ++ encodings after) le,
+          drop-append-le skip (spelling_of_pair p) (encodings after) (omega arith),
+        );
+    some = omega (arith, ap length is, length-drop skip (spelling_of_pair p));
+  }
+
+  -- so is a piece of the encodings of the pairs after the pair
+  pub piece_after : (offset rest : ℕ) {piece : List ℕ} → length (encodings before) + length (spelling_of_pair p) ≤ offset
+      → rest ≡ offset - length (encodings before) - length (spelling_of_pair p) → IsPiece (drop rest (encodings after)) piece
+      → IsPiece (drop offset (encodings ps)) piece
+  piece_after offset rest le e is =
+      let parts : drop offset (encodings ps) ≡ drop rest (encodings after) =
+      cc (
+        split_encodings,
+        past offset (encodings before) (spelling_of_pair p ++ encodings after) (omega arith),
+        past (offset - length (encodings before)) (spelling_of_pair p) (encodings after) (omega arith),
+      ) in
+      rw parts is
 
 -- ---- copying a part
 
@@ -142,87 +147,66 @@ pub record IsCopied (from done : ℕ) (out bytes : List ℕ) (size : ℕ) : Type
   pub past_header : done < length out → 5 ≤ from + done
 
 sum_taken : (n m : ℕ) (xs : List ℕ) → take (n + m) xs ≡ take n xs ++ take m (drop n xs)
-sum_taken n m xs =
-    sym (take-append-drop n (take (n + m) xs))
-    ∙ (ap (λ (t : List ℕ). t ++ drop n (take (n + m) xs)) (take-take n (n + m) xs (omega arith))
-    ∙ ap (λ (t : List ℕ). take n xs ++ t) (drop-take n m xs))
+sum_taken n m xs = cc (take-append-drop n (take (n + m) xs), take-take n (n + m) xs (omega arith), drop-take n m xs)
 
 -- the bytes of the header were copied
-pub copied_first : (from k done size : ℕ) (out header rest bytes piece : List ℕ) → bytes ≡ header ++ rest → length header ≡ 5
-    → k ≡ min from 5 → piece ≡ drop k header → length out ≡ size → done ≡ min (length piece) size
-    → take done out ≡ take done piece → IsCopied from done out bytes size
-copied_first from k done size out header rest bytes piece parts five at is len count same =
-    let left : length piece ≡ length header - k = ap length is ∙ length-drop k header in
-    record {
-      length_is = len;
-      within = omega arith;
-      same = same ∙ go (cases_lt 5 from);
-      past_header = λ less. omega arith;
-    }
+pub copied_first : {from k done size : ℕ} {out : List ℕ} (header rest : List ℕ) {bytes piece : List ℕ}
+    → bytes ≡ header ++ rest → length header ≡ 5 → k ≡ min from 5 → piece ≡ drop k header → length out ≡ size
+    → done ≡ min (length piece) size → take done out ≡ take done piece → IsCopied from done out bytes size
+copied_first {from} {k} {done} header rest {bytes} {piece} parts five at is len count same =
+    record { length_is = len; within = omega arith; same = cc (go (cases_lt 5 from)); past_header = λ less. omega (arith, left) }
   where
+    left : length piece ≡ length header - k
+    left = cc (length-drop k header)
+
     go : (5 < from) ⊎ (from ≤ 5) → take done piece ≡ take done (drop from bytes)
-    go (inl past) =
-        let left : length piece ≡ length header - k = ap length is ∙ length-drop k header in
-        let none : done ≡ 0 = omega arith in
-        rw none refl
+    go (inl past) = let none : done ≡ 0 = omega (arith, left) in rw none
     go (inr le) =
-        let left : length piece ≡ length header - k = ap length is ∙ length-drop k header in
         let here : k ≡ from = omega arith in
-        let e : drop from bytes ≡ piece ++ rest =
-        ap (drop from) parts
-        ∙ (drop-append-le from header rest (omega arith)
-        ∙ ap (λ (t : List ℕ). t ++ rest) (ap (λ i. drop i header) (sym here) ∙ sym is)) in
-        sym (ap (take done) e ∙ take-append-le done piece rest (omega arith))
+        cc (drop-append-le from header rest (omega arith), take-append-le done piece rest (omega arith))
 
 -- the bytes of a piece were copied
-pub copied_more : (from done next size : ℕ) (out changed header rest bytes piece : List ℕ) → IsCopied from done out bytes size
-    → done < length out → bytes ≡ header ++ rest → length header ≡ 5 → IsPiece (drop (from + done - 5) rest) piece
-    → length changed ≡ length out → next ≡ done + min (length piece) (length out - done)
+pub copied_more : {from done next size : ℕ} {out changed : List ℕ} (header rest : List ℕ) {bytes piece : List ℕ}
+    → IsCopied from done out bytes size → done < length out → bytes ≡ header ++ rest → length header ≡ 5
+    → IsPiece (drop (from + done - 5) rest) piece → length changed ≡ length out
+    → next ≡ done + min (length piece) (length out - done)
     → take next changed ≡ take done out ++ take (next - done) piece → IsCopied from next changed bytes size
-copied_more from done next size out changed header rest bytes piece copied less parts five is len count same =
-    let some = is.some in
+copied_more {from} {done} {next} header rest {bytes} {piece} copied less parts five is len count same =
     let after : 5 ≤ from + done = copied.past_header less in
-    let within = copied.within in
-    let length_is = copied.length_is in
     let following : drop done (drop from bytes) ≡ piece ++ is.after =
-    drop-drop done from bytes
-    ∙ (ap (drop (from + done)) parts ∙ (past (from + done) 5 header rest five after ∙ is.parts)) in
-    let more : take (next - done) (drop done (drop from bytes)) ≡ take (next - done) piece =
-    ap (take (next - done)) following ∙ take-append-le (next - done) piece is.after (omega arith) in
+    cc (drop-drop done from bytes, past (from + done) header rest (omega arith)) in
     let sum : done + (next - done) ≡ next = omega arith in
-    let whole : take next (drop from bytes) ≡ take done (drop from bytes) ++ take (next - done) piece =
-    ap (λ i. take i (drop from bytes)) (sym sum)
-    ∙ (sum_taken done (next - done) (drop from bytes) ∙ ap (λ (t : List ℕ). take done (drop from bytes) ++ t) more) in
     record {
       length_is = omega arith;
       within = omega arith;
-      same = same ∙ (ap (λ (t : List ℕ). t ++ take (next - done) piece) copied.same ∙ sym whole);
+      same =
+          cc (
+            same,
+            copied.same,
+            sum,
+            sum_taken done (next - done) (drop from bytes),
+            following,
+            take-append-le (next - done) piece is.after (omega arith),
+          );
       past_header = λ left. omega arith;
     }
 
 -- ---- an encoding determines its pair
 
-pub equal_pairs : (p q : Pair) → is_utf8 p.0 ≡ true → is_utf8 q.0 ≡ true → length p.0 ≤ max_weight → length q.0 ≤ max_weight
-    → IsWell p.1 → IsWell q.1 → spelling_of_pair p ≡ spelling_of_pair q → p ≡ q
-equal_pairs p q text text' short short' well well' e =
-    let one : text_at (spelling_of_pair p) ≡ Some (p.0, spelling_of p.1) = text_again p.0 (spelling_of p.1) (omega arith) text in
-    let two : text_at (spelling_of_pair q) ≡ Some (q.0, spelling_of q.1) = text_again q.0 (spelling_of q.1) (omega arith) text' in
-    let both : (p.0, spelling_of p.1) ≡ (q.0, spelling_of q.1) =
-    same_Some (p.0, spelling_of p.1) (q.0, spelling_of q.1) (sym one ∙ (ap text_at e ∙ two)) in
-    let key : p.0 ≡ q.0 = ap (λ (x : List ℕ × List ℕ). x.0) both in
-    let value : p.1 ≡ q.1 =
-    prefix_free p.1 q.1 [] well well'
-    (sym (ap (λ (x : List ℕ × List ℕ). x.1) both) ∙ sym (append-nil (spelling_of p.1))) in
-    ap (λ k. (k, p.1)) key ∙ ap (λ x. (q.0, x)) value
+pub equal_entries : {key key' : List ℕ} {value value' : Value} {bytes bytes' : List ℕ} {depth depth' : ℕ}
+    → IsEntry key value bytes depth → IsEntry key' value' bytes' depth' → bytes ≡ bytes' → (key ≡ key') × (value ≡ value')
+equal_entries {key} {key'} {value} {value'} one two e =
+    let both : ◌≡◌ {A = List ℕ × List ℕ} (key, spelling_of value) (key', spelling_of value') =
+    cc (text_again key (spelling_of value) (omega arith) one.text, text_again key' (spelling_of value') (omega arith) two.text) in
+    let spelled : spelling_of value ≡ spelling_of value' = ap (λ (x : List ℕ × List ℕ). x.1) both in (
+      ap (λ (x : List ℕ × List ℕ). x.0) both,
+      prefix_free value value' [] one.well two.well (cc (append-nil (spelling_of value))),
+    )
 
-pub equal_tables : (ps qs : List Pair) → IsWell (v.Table ps) → IsWell (v.Table qs) → length ps ≡ length qs
+pub equal_tables : {ps qs : List Pair} → IsWell (v.Table ps) → IsWell (v.Table qs) → length ps ≡ length qs
     → encodings ps ≡ encodings qs → ps ≡ qs
-equal_tables ps qs well well' len e =
-    let whole : spelling_of (v.Table ps) ≡ spelling_of (v.Table qs) =
-    spelling-Table ps
-    ∙ (ap (λ n. 3 ∷ (to_be_bytes w32 n ++ encodings ps)) len
-    ∙ (ap (λ (t : List ℕ). 3 ∷ (to_be_bytes w32 (length qs) ++ t)) e ∙ sym (spelling-Table qs))) in
+equal_tables {ps} {qs} well well' len e =
     let same : v.Table ps ≡ v.Table qs =
-    prefix_free (v.Table ps) (v.Table qs) [] well well' (sym whole ∙ sym (append-nil (spelling_of (v.Table ps)))) in
-    let layer : Value-F.Table ps ≡ Value-F.Table qs = sym (outs-Table ps) ∙ (ap out-Value same ∙ outs-Table qs) in
-    cc
+    prefix_free (v.Table ps) (v.Table qs) [] well well'
+    (cc (spelling-Table ps, spelling-Table qs, append-nil (spelling_of (v.Table ps)))) in
+    cc (outs-Table ps, outs-Table qs)

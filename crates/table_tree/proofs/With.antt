@@ -1,117 +1,138 @@
 -- A table in which a key has a value, by the parts of the table.
 use Rattle.std.proofs.Common.{◌≡◌, ℕ, ◌+◌, ◌<◌, ◌≤◌, Bool, true, false, cond, List, [], ◌∷◌, ◌++◌, length, map, sum, filter, find}
-use Rattle.std.proofs.Common.{max, Option, Some, None, refl, sym, ap, ◌∙◌, subst, append_assoc, arith, length-append}
-use Rattle.std.proofs.lemmas.Bool.{and_parts}
+use Rattle.std.proofs.Common.{max, Option, Some, None, refl, ap, append_assoc, arith, length-append}
+use Rattle.std.proofs.lemmas.Bool.{cond_both}
 use Rattle.std.proofs.lemmas.List.{append-nil}
 use Rattle.std.proofs.lemmas.List.Elements.{filter-append}
 use Rattle.std.proofs.lemmas.List.Folds.{find-append}
-use Rattle.std.proofs.lemmas.List.Sums.{sum_by-cons}
 use Rattle.std.specs.Option.{option_or}
 use Rattle.std.specs.Str.{is_utf8}
 use Rattle.std.specs.declared.cmp.Ordering.TheVariants.{Less, Equal, Greater}
 use Rattle.ag_value.specs.declared.value.Value.{Value}
 use Rattle.ag_value.specs.declared.value.Value.TheVariants as v
-use Rattle.ag_value.specs.Measure.{greatest, weight_of_pair, max_value_depth, max_weight}
-use Rattle.ag_value.specs.Well.{IsWell, all_true, is_item, is_item_pair}
+use Rattle.ag_value.specs.Measure.{greatest}
+use Rattle.ag_value.specs.Well.{IsWell, is_item, is_item_pair}
 use Rattle.ag_value.specs.operations.Tables.{pair_with, with_pair}
+use Rattle.ag_value.proofs.Layers.{depth-Table, weight-Table}
+use Rattle.table_tree.specs.Putting.{IsFaultOf}
 use Rattle.table_tree.specs.Splits.{IsSplit}
-use Rattle.table_tree.proofs.Keys.{Pair, AreAfter, AreBefore, AreSorted, after_filter_right, after_middle, after_trans}
-use Rattle.table_tree.proofs.Keys.{before_filter}
-use Rattle.table_tree.proofs.Keys.{before_greater, before_less, before_middle, before_then, found_same, is_left, is_right}
-use Rattle.table_tree.proofs.Keys.{is_same}
-use Rattle.table_tree.proofs.Keys.{left_of_after, left_of_before, left_of_same, none_of_after, none_of_before, not_back, order}
-use Rattle.table_tree.proofs.Keys.{right_of_after, right_of_before, right_of_same, same_equal, sorted_around, sorted_filter}
-use Rattle.table_tree.proofs.Tables.{all_append, depth_of_pair, greatest_append, is_text, sum_append, table_of, well_of}
+use Rattle.table_tree.proofs.Keys.{Pair, AreAfter, AreBefore, ArePassing, AreSorted, after_trans, before_greater, before_less}
+use Rattle.table_tree.proofs.Keys.{before_middle, before_then, filter_all, filter_passing, found_same, is_left, is_right}
+use Rattle.table_tree.proofs.Keys.{is_same, left_of_after, none_of_after, none_of_before, not_back, not_itself, order}
+use Rattle.table_tree.proofs.Keys.{passing_append, passing_filter, right_of_before, same_equal, sorted_around, sorted_filter}
+use Rattle.table_tree.proofs.Keys.{sorted_suffix}
+use Rattle.table_tree.proofs.Tables.{greatest_append, is_text, sum_append, sum_cons, table_of, well_of}
 use Rattle.table_tree.proofs.Tables.{well_prefix, well_suffix}
 
 -- pairs with smaller keys stay at the beginning
 with_prefix : (key : List ℕ) (x : Value) (ps qs : List Pair) → AreBefore key ps
     → with_pair key x (ps ++ qs) ≡ ps ++ with_pair key x qs
 with_prefix key x ps qs s =
-    rw (filter-append (is_left key) ps qs, filter-append (is_right key) ps qs, left_of_before key ps s, right_of_before key ps s)
-    (append_assoc ps (filter (is_left key) qs) ((key, x) ∷ filter (is_right key) qs))
+    rw (filter-append, filter-append, filter_all (is_left key) ps s, right_of_before key ps s, append_assoc)
 
 -- pairs with greater keys stay at the end
 with_suffix : (key : List ℕ) (x : Value) (ps qs : List Pair) → AreAfter key qs
     → with_pair key x (ps ++ qs) ≡ with_pair key x ps ++ qs
 with_suffix key x ps qs s =
-    rw (filter-append (is_left key) ps qs, filter-append (is_right key) ps qs, left_of_after key qs s, right_of_after key qs s)
-    (rw (append-nil (filter (is_left key) ps))
-    (sym (append_assoc (filter (is_left key) ps) ((key, x) ∷ filter (is_right key) ps) qs)))
+    rw (filter-append, filter-append, left_of_after key qs s, filter_all (is_right key) qs s, append-nil, append_assoc)
 
 -- the pair with the key is replaced
-with_same : (key : List ℕ) (x : Value) (p : Pair) → p.0 ≡ key → with_pair key x (p ∷ []) ≡ (key, x) ∷ []
-with_same key x p e = rw (left_of_same key p e, right_of_same key p e) refl
+with_same : (p : Pair) (x : Value) → with_pair p.0 x (p ∷ []) ≡ (p.0, x) ∷ []
+with_same p x = rw (not_itself p.0)
 
--- in a split table, the pairs before the pair have smaller keys, and those after it greater ones
-before_pair : (ps before : List Pair) (p : Pair) (after : List Pair) → IsSplit ps before p after → AreBefore p.0 before
-before_pair ps before p after s =
-    before_middle before p after (subst AreSorted s.parts (table_of ps s.well).sorted)
+-- no pair of the first list is found
+find_past : (test : Pair → Bool) (ps qs : List Pair) → find test ps ≡ None → find test (ps ++ qs) ≡ find test qs
+find_past test ps qs none = rw (find-append, none)
 
-after_pair : (ps before : List Pair) (p : Pair) (after : List Pair) → IsSplit ps before p after → AreAfter p.0 after
-after_pair ps before p after s =
-    after_middle before p after (subst AreSorted s.parts (table_of ps s.well).sorted)
-
--- ---- the table in which a key has a value
-
-pub with_less : (key : List ℕ) (x : Value) (ps before : List Pair) (p : Pair) (after : List Pair) → IsSplit ps before p after
-    → order key p.0 ≡ Less → with_pair key x ps ≡ with_pair key x before ++ p ∷ after
-with_less key x ps before p after s e =
-    let less = before_less key p.0 e in
-    ap (with_pair key x) s.parts
-    ∙ with_suffix key x before (p ∷ after) (less, after_trans key p.0 after less (after_pair ps before p after s))
-
-pub with_greater : (key : List ℕ) (x : Value) (ps before : List Pair) (p : Pair) (after : List Pair) → IsSplit ps before p after
-    → order key p.0 ≡ Greater → with_pair key x ps ≡ before ++ p ∷ with_pair key x after
-with_greater key x ps before p after s e =
-    let greater = before_greater key p.0 e in
-    ap (with_pair key x) s.parts
-    ∙ (with_prefix key x before (p ∷ after) (before_then p.0 key before greater (before_pair ps before p after s))
-    ∙ ap (λ (qs : List Pair). before ++ qs) (with_prefix key x (p ∷ []) after (greater, tt)))
-
-pub with_equal : (key : List ℕ) (x : Value) (ps before : List Pair) (p : Pair) (after : List Pair) → IsSplit ps before p after
-    → order key p.0 ≡ Equal → with_pair key x ps ≡ before ++ (key, x) ∷ after
-with_equal key x ps before p after s e =
-    let same : p.0 ≡ key = sym (same_equal key p.0 e) in
-    ap (with_pair key x) s.parts
-    ∙ (with_prefix key x before (p ∷ after) (subst (λ k. AreBefore k before) same (before_pair ps before p after s))
-    ∙ ap (λ (qs : List Pair). before ++ qs)
-    (with_suffix key x (p ∷ []) after (subst (λ k. AreAfter k after) same (after_pair ps before p after s))
-    ∙ ap (λ (qs : List Pair). qs ++ after) (with_same key x p same)))
-
--- ---- the pair with a key
-
-pub found_less : (key : List ℕ) (ps before : List Pair) (p : Pair) (after : List Pair) → IsSplit ps before p after
-    → order key p.0 ≡ Less → pair_with key ps ≡ pair_with key before
-found_less key ps before p after s e =
-    let less = before_less key p.0 e in
-    let none : find (is_same key) (p ∷ after) ≡ None =
-    none_of_after key (p ∷ after) (less, after_trans key p.0 after less (after_pair ps before p after s)) in
-    ap (pair_with key) s.parts ∙ (find-append (is_same key) before (p ∷ after) ∙ go (find (is_same key) before) none)
+-- no pair of the second list is found
+find_within : (test : Pair → Bool) (ps qs : List Pair) → find test qs ≡ None → find test (ps ++ qs) ≡ find test ps
+find_within test ps qs none = rw (find-append, none) (go (find test ps))
   where
-    go : (found : Option Pair) → find (is_same key) (p ∷ after) ≡ None
-        → option_or found (find (is_same key) (p ∷ after)) ≡ found
-    go None e = e
-    go (Some q) e = refl
+    go : (found : Option Pair) → option_or found None ≡ found
+    go None = refl
+    go (Some p) = refl
 
-pub found_greater : (key : List ℕ) (ps before : List Pair) (p : Pair) (after : List Pair) → IsSplit ps before p after
-    → order key p.0 ≡ Greater → pair_with key ps ≡ pair_with key after
-found_greater key ps before p after s e =
-    let greater = before_greater key p.0 e in
-    let none : find (is_same key) before ≡ None =
-    none_of_before key before (before_then p.0 key before greater (before_pair ps before p after s)) in
-    let not_here : find (is_same key) (p ∷ []) ≡ None = none_of_before key (p ∷ []) (greater, tt) in
-    ap (pair_with key) s.parts
-    ∙ (find-append (is_same key) before (p ∷ after) ∙ rw none (find-append (is_same key) (p ∷ []) after ∙ rw not_here refl))
+-- ---- split tables
 
-pub found_equal : (key : List ℕ) (ps before : List Pair) (p : Pair) (after : List Pair) → IsSplit ps before p after
-    → order key p.0 ≡ Equal → pair_with key ps ≡ Some p
-found_equal key ps before p after s e =
-    let same : p.0 ≡ key = sym (same_equal key p.0 e) in
-    let none : find (is_same key) before ≡ None =
-    none_of_before key before (subst (λ k. AreBefore k before) same (before_pair ps before p after s)) in
-    ap (pair_with key) s.parts
-    ∙ (find-append (is_same key) before (p ∷ after) ∙ rw (none, found_same key p same) refl)
+module _ {ps before : List Pair} {p : Pair} {after : List Pair} (s : IsSplit ps before p after) where
+  sorted_parts : AreSorted (before ++ p ∷ after)
+  sorted_parts = rw s.parts at (table_of ps s.well).sorted
+
+  -- the pairs before the pair have smaller keys, and those after it greater ones
+  before_pair : AreBefore p.0 before
+  before_pair = before_middle before p after sorted_parts
+
+  after_pair : AreAfter p.0 after
+  after_pair = (sorted_suffix before (p ∷ after) sorted_parts).0
+
+  pub well_left : IsWell (v.Table before)
+  well_left = well_prefix before (p ∷ after) (rw s.parts at s.well)
+
+  pub well_right : IsWell (v.Table after)
+  well_right = well_suffix (p ∷ []) after (well_suffix before (p ∷ after) (rw s.parts at s.well))
+
+  pub shorter_left : length before < length ps
+  shorter_left = omega (arith, ap length s.parts, length-append before (p ∷ after))
+
+  pub shorter_right : length after < length ps
+  shorter_right = omega (arith, ap length s.parts, length-append before (p ∷ after))
+
+  -- the table in which the key of a pair has its value
+  pub with_less : (q : Pair) → order q.0 p.0 ≡ Less → with_pair q.0 q.1 ps ≡ with_pair q.0 q.1 before ++ p ∷ after
+  with_less q e =
+      let less = before_less q.0 p.0 e in
+      cc (with_suffix q.0 q.1 before (p ∷ after) (less, after_trans q.0 p.0 after less after_pair))
+
+  pub with_greater : (q : Pair) → order q.0 p.0 ≡ Greater → with_pair q.0 q.1 ps ≡ before ++ p ∷ with_pair q.0 q.1 after
+  with_greater q e =
+      let greater = before_greater q.0 p.0 e in
+      cc (
+        with_prefix q.0 q.1 before (p ∷ after) (before_then p.0 q.0 before greater before_pair),
+        with_prefix q.0 q.1 (p ∷ []) after (greater, tt),
+      )
+
+  pub with_equal : (q : Pair) → order q.0 p.0 ≡ Equal → with_pair q.0 q.1 ps ≡ before ++ q ∷ after
+  with_equal q e =
+      rw (same_equal q.0 p.0 e)
+      (cc (
+        with_prefix p.0 q.1 before (p ∷ after) before_pair,
+        with_suffix p.0 q.1 (p ∷ []) after after_pair,
+        with_same p q.1,
+      ))
+
+  pub well_less : (q : Pair) → order q.0 p.0 ≡ Less → IsWell (v.Table (with_pair q.0 q.1 ps))
+      → IsWell (v.Table (with_pair q.0 q.1 before))
+  well_less q e well = well_prefix (with_pair q.0 q.1 before) (p ∷ after) (rw (with_less q e) at well)
+
+  pub well_greater : (q : Pair) → order q.0 p.0 ≡ Greater → IsWell (v.Table (with_pair q.0 q.1 ps))
+      → IsWell (v.Table (with_pair q.0 q.1 after))
+  well_greater q e well =
+      well_suffix (p ∷ []) (with_pair q.0 q.1 after)
+      (well_suffix before (p ∷ with_pair q.0 q.1 after) (rw (with_greater q e) at well))
+
+  -- the pair with a key
+  pub found_less : (key : List ℕ) → order key p.0 ≡ Less → pair_with key ps ≡ pair_with key before
+  found_less key e =
+      let less = before_less key p.0 e in
+      cc (find_within (is_same key) before (p ∷ after)
+      (none_of_after key (p ∷ after) (less, after_trans key p.0 after less after_pair)))
+
+  pub found_greater : (key : List ℕ) → order key p.0 ≡ Greater → pair_with key ps ≡ pair_with key after
+  found_greater key e =
+      let greater = before_greater key p.0 e in
+      cc (
+        find_past (is_same key) before (p ∷ after) (none_of_before key before (before_then p.0 key before greater before_pair)),
+        find_past (is_same key) (p ∷ []) after (none_of_before key (p ∷ []) (greater, tt)),
+      )
+
+  pub found_equal : (key : List ℕ) → order key p.0 ≡ Equal → pair_with key ps ≡ Some p
+  found_equal key e =
+      rw (
+        same_equal key p.0 e,
+        s.parts,
+        find_past (is_same p.0) before (p ∷ after) (none_of_before p.0 before before_pair),
+        found_same p,
+      )
 
 -- ---- measures of the table in which a key has a value
 
@@ -119,111 +140,60 @@ found_equal key ps before p after s e =
 sides_lighter : (key : List ℕ) (f : Pair → ℕ) (ps : List Pair)
     → sum (map f (filter (is_left key) ps)) + sum (map f (filter (is_right key) ps)) ≤ sum (map f ps)
 sides_lighter key f [] = omega arith
-sides_lighter key f (p ∷ ps) = go (is_left key p) (is_right key p) refl refl (sides_lighter key f ps)
+sides_lighter key f (p ∷ ps) = go (is_left key p) (is_right key p) (not_back p.0 key) (sides_lighter key f ps)
   where
-    whole : sum (map f (p ∷ ps)) ≡ f p + sum (map f ps)
-    whole = sum_by-cons (λ n. n) (f p) (map f ps)
-
-    go : (a b : Bool) → is_left key p ≡ a → is_right key p ≡ b
+    go : (a b : Bool) → (a ≡ true → b ≡ false)
         → sum (map f (filter (is_left key) ps)) + sum (map f (filter (is_right key) ps)) ≤ sum (map f ps)
         → sum (map f (cond a (p ∷ filter (is_left key) ps) (filter (is_left key) ps)))
         + sum (map f (cond b (p ∷ filter (is_right key) ps) (filter (is_right key) ps))) ≤ sum (map f (p ∷ ps))
-    go true true d e rest = let bad : true ≡ false = sym e ∙ not_back p.0 key d in let worse : ⊥ = cc in absurd worse
-    go true false d e rest =
-        let w = whole in
-        let l = sum_by-cons (λ n. n) (f p) (map f (filter (is_left key) ps)) in
-        omega arith
-    go false true d e rest =
-        let w = whole in
-        let r = sum_by-cons (λ n. n) (f p) (map f (filter (is_right key) ps)) in
-        omega arith
-    go false false d e rest = let w = whole in omega arith
+    go true true one rest = let bad = one refl in cc
+    go true false one rest = omega (arith, sum_cons f p ps, sum_cons f p (filter (is_left key) ps))
+    go false true one rest = omega (arith, sum_cons f p ps, sum_cons f p (filter (is_right key) ps))
+    go false false one rest = omega (arith, sum_cons f p ps)
 
-pub with_lighter : (key : List ℕ) (x : Value) (f : Pair → ℕ) (ps : List Pair)
-    → sum (map f (with_pair key x ps)) ≤ sum (map f ps) + f (key, x)
-with_lighter key x f ps =
-    let sides = sides_lighter key f ps in
-    let parts = sum_append f (filter (is_left key) ps) ((key, x) ∷ filter (is_right key) ps) in
-    let one = sum_by-cons (λ n. n) (f (key, x)) (map f (filter (is_right key) ps)) in
-    omega arith
+pub with_lighter : (p : Pair) (f : Pair → ℕ) (ps : List Pair) → sum (map f (with_pair p.0 p.1 ps)) ≤ sum (map f ps) + f p
+with_lighter p f ps =
+    let right : List Pair = filter (is_right p.0) ps in
+    omega (arith, sides_lighter p.0 f ps, sum_append f (filter (is_left p.0) ps) (p ∷ right), sum_cons f p right)
 
 filter_shallower : (f : Pair → ℕ) (test : Pair → Bool) (ps : List Pair)
     → greatest (map f (filter test ps)) ≤ greatest (map f ps)
 filter_shallower f test [] = omega arith
-filter_shallower f test (p ∷ ps) = go (test p) (filter_shallower f test ps)
-  where
-    go : (b : Bool) → greatest (map f (filter test ps)) ≤ greatest (map f ps)
-        → greatest (map f (cond b (p ∷ filter test ps) (filter test ps))) ≤ greatest (map f (p ∷ ps))
-    go true rest = omega arith
-    go false rest = omega arith
+filter_shallower f test (p ∷ ps) =
+    let rest = filter_shallower f test ps in
+    cond_both (test p) _ _ (λ (qs : List Pair). greatest (map f qs) ≤ greatest (map f (p ∷ ps))) (λ e. omega arith)
+    (λ e. omega arith)
 
-pub with_shallower : (key : List ℕ) (x : Value) (f : Pair → ℕ) (ps : List Pair)
-    → greatest (map f (with_pair key x ps)) ≤ max (f (key, x)) (greatest (map f ps))
-with_shallower key x f ps =
-    let left = filter_shallower f (is_left key) ps in
-    let right = filter_shallower f (is_right key) ps in
-    let parts = greatest_append f (filter (is_left key) ps) ((key, x) ∷ filter (is_right key) ps) in
-    omega arith
+pub with_shallower : (p : Pair) (f : Pair → ℕ) (ps : List Pair)
+    → greatest (map f (with_pair p.0 p.1 ps)) ≤ max (f p) (greatest (map f ps))
+with_shallower p f ps =
+    omega (
+      arith,
+      filter_shallower f (is_left p.0) ps,
+      filter_shallower f (is_right p.0) ps,
+      greatest_append f (filter (is_left p.0) ps) (p ∷ filter (is_right p.0) ps),
+    )
 
 -- ---- the table in which a key has a value is well if it is within the limits
 
-all_filter : (f test : Pair → Bool) (ps : List Pair) → all_true (map f ps) ≡ true → all_true (map f (filter test ps)) ≡ true
-all_filter f test [] all = refl
-all_filter f test (p ∷ ps) all =
-    let parts = and_parts (f p) (all_true (map f ps)) all in go (test p) parts.0 (all_filter f test ps parts.1)
-  where
-    go : (b : Bool) → f p ≡ true → all_true (map f (filter test ps)) ≡ true
-        → all_true (map f (cond b (p ∷ filter test ps) (filter test ps))) ≡ true
-    go true here rest = rw (here, rest) refl
-    go false here rest = rest
+passing_with : (test : Pair → Bool) (p : Pair) (ps : List Pair) → test p ≡ true → ArePassing test ps
+    → ArePassing test (with_pair p.0 p.1 ps)
+passing_with test p ps here all =
+    passing_append test (filter (is_left p.0) ps) (p ∷ filter (is_right p.0) ps) (passing_filter test (is_left p.0) ps all)
+    (here, passing_filter test (is_right p.0) ps all)
 
-all_with : (f : Pair → Bool) (key : List ℕ) (x : Value) (ps : List Pair) → f (key, x) ≡ true → all_true (map f ps) ≡ true
-    → all_true (map f (with_pair key x ps)) ≡ true
-all_with f key x ps here all =
-    all_append f (filter (is_left key) ps) ((key, x) ∷ filter (is_right key) ps) (all_filter f (is_left key) ps all)
-    (rw (here, all_filter f (is_right key) ps all) refl)
-
-pub well_with : (key : List ℕ) (x : Value) (ps : List Pair) → IsWell (v.Table ps) → is_utf8 key ≡ true → is_item x ≡ true
-    → 1 + greatest (map depth_of_pair (with_pair key x ps)) ≤ max_value_depth
-    → 5 + sum (map weight_of_pair (with_pair key x ps)) ≤ max_weight → IsWell (v.Table (with_pair key x ps))
-well_with key x ps well text item levels bytes =
+pub well_with : (p : Pair) (ps : List Pair) → IsWell (v.Table ps) → is_utf8 p.0 ≡ true → is_item p.1 ≡ true
+    → IsFaultOf (with_pair p.0 p.1 ps) None → IsWell (v.Table (with_pair p.0 p.1 ps))
+well_with p ps well text item fits =
     let t = table_of ps well in
-    well_of (with_pair key x ps) (record {
+    let left : List Pair = filter (is_left p.0) ps in
+    let right : List Pair = filter (is_right p.0) ps in
+    well_of (left ++ p ∷ right) (record {
       sorted =
-          sorted_around (filter (is_left key) ps) (key, x) (filter (is_right key) ps) (sorted_filter (is_left key) ps t.sorted)
-          (before_filter key ps) (after_filter_right key ps) (sorted_filter (is_right key) ps t.sorted);
-      texts = all_with is_text key x ps text t.texts;
-      items = all_with is_item_pair key x ps item t.items;
-      levels = levels;
-      bytes = bytes;
+          sorted_around left p right (sorted_filter (is_left p.0) ps t.sorted) (filter_passing (is_left p.0) ps)
+          (filter_passing (is_right p.0) ps) (sorted_filter (is_right p.0) ps t.sorted);
+      texts = passing_with is_text p ps text t.texts;
+      items = passing_with is_item_pair p ps item t.items;
+      levels = omega (arith, depth-Table (left ++ p ∷ right));
+      bytes = omega (arith, weight-Table (left ++ p ∷ right));
     })
-
--- ---- the parts of a split table
-
-pub well_left : (ps before : List Pair) (p : Pair) (after : List Pair) → IsSplit ps before p after → IsWell (v.Table before)
-well_left ps before p after s =
-    well_prefix before (p ∷ after) (subst (λ (qs : List Pair). IsWell (v.Table qs)) s.parts s.well)
-
-pub well_right : (ps before : List Pair) (p : Pair) (after : List Pair) → IsSplit ps before p after → IsWell (v.Table after)
-well_right ps before p after s =
-    well_suffix (p ∷ []) after
-    (well_suffix before (p ∷ after) (subst (λ (qs : List Pair). IsWell (v.Table qs)) s.parts s.well))
-
-pub well_less : (key : List ℕ) (x : Value) (ps before : List Pair) (p : Pair) (after : List Pair) → IsSplit ps before p after
-    → order key p.0 ≡ Less → IsWell (v.Table (with_pair key x ps)) → IsWell (v.Table (with_pair key x before))
-well_less key x ps before p after s e well =
-    well_prefix (with_pair key x before) (p ∷ after)
-    (subst (λ (qs : List Pair). IsWell (v.Table qs)) (with_less key x ps before p after s e) well)
-
-pub well_greater : (key : List ℕ) (x : Value) (ps before : List Pair) (p : Pair) (after : List Pair) → IsSplit ps before p after
-    → order key p.0 ≡ Greater → IsWell (v.Table (with_pair key x ps)) → IsWell (v.Table (with_pair key x after))
-well_greater key x ps before p after s e well =
-    well_suffix (p ∷ []) (with_pair key x after)
-    (well_suffix before (p ∷ with_pair key x after)
-    (subst (λ (qs : List Pair). IsWell (v.Table qs)) (with_greater key x ps before p after s e) well))
-
-pub shorter_left : (ps before : List Pair) (p : Pair) (after : List Pair) → IsSplit ps before p after → length before < length ps
-shorter_left ps before p after s = let e = ap length s.parts in let k = length-append before (p ∷ after) in omega arith
-
-pub shorter_right : (ps before : List Pair) (p : Pair) (after : List Pair) → IsSplit ps before p after → length after < length ps
-shorter_right ps before p after s = let e = ap length s.parts in let k = length-append before (p ∷ after) in omega arith

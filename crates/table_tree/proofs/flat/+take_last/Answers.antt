@@ -1,8 +1,6 @@
-use Rattle.std.proofs.Common.{◌≡◌, ◌∙◌, ◌∷◌, ◌++◌, [], List, ap, append_assoc, arith, length, length-append, subst, sym}
-use Rattle.ag_value.specs.Well.{IsWell}
-use Rattle.ag_value.specs.declared.value.Value.TheVariants as v
+use Rattle.std.proofs.Common.{◌≡◌, ◌∷◌, ◌++◌, [], List, ap, append_assoc, arith, length, length-append}
 use Rattle.table_tree.proofs.Keys.{Pair}
-use Rattle.table_tree.proofs.Tables.{member, well_prefix, well_suffix}
+use Rattle.table_tree.proofs.Tables.{member, well_prefix, well_same, well_suffix}
 use Rattle.table_tree.proofs.flat.+take_last.Goals as goal
 
 pub new-requires-2 : goal.new-requires-2
@@ -10,11 +8,8 @@ new-requires-2 t c =
     let p : Pair = (c.in-Some.key, c.in-Some.value) in
     let earlier : List Pair = c.pop.new.self.items in
     let whole : c.args.pairs.now.items ≡ earlier ++ p ∷ c.in_ok-right.right =
-    c.in_ok-right.ensures.parts
-    ∙ (ap (λ (ps : List Pair). ps ++ c.in_ok-right.right) c.in-Some.ensures.items
-    ∙ append_assoc earlier (p ∷ []) c.in_ok-right.right) in
-    let is =
-    member earlier p c.in_ok-right.right (subst (λ (ps : List Pair). IsWell (v.Table ps)) whole c.requires.well) in
+    cc (c.in_ok-right.ensures.parts, c.in-Some.ensures.items, append_assoc earlier (p ∷ []) c.in_ok-right.right) in
+    let is = member earlier p c.in_ok-right.right (well_same c.requires.well whole) in
     record { short = is.short; well = is.well; item = is.item }
 
 pub take_last-requires-2 : goal.take_last-requires-2
@@ -22,18 +17,11 @@ take_last-requires-2 t c =
     let p : Pair = (c.in-Some.key, c.in-Some.value) in
     let earlier : List Pair = c.pop.new.self.items in
     let whole : c.args.pairs.now.items ≡ earlier ++ p ∷ c.in_ok-right.right =
-    c.in_ok-right.ensures.parts
-    ∙ (ap (λ (ps : List Pair). ps ++ c.in_ok-right.right) c.in-Some.ensures.items
-    ∙ append_assoc earlier (p ∷ []) c.in_ok-right.right) in
-    let size = ap length whole in
-    let both = length-append earlier (p ∷ c.in_ok-right.right) in
-    let count = c.in_ok-right.ensures.count in
-    let within = c.requires.within in
-    let start = c.decreases in (
+    cc (c.in_ok-right.ensures.parts, c.in-Some.ensures.items, append_assoc earlier (p ∷ []) c.in_ok-right.right) in (
       omega arith,
       (
-        omega arith,
-        well_prefix earlier (p ∷ c.in_ok-right.right) (subst (λ (ps : List Pair). IsWell (v.Table ps)) whole c.requires.well),
+        omega (arith, ap length whole, length-append earlier (p ∷ c.in_ok-right.right), c.in_ok-right.ensures.count),
+        well_prefix earlier (p ∷ c.in_ok-right.right) (well_same c.requires.well whole),
       ),
     )
 
@@ -43,12 +31,13 @@ fork-requires t c =
     let earlier : List Pair = c.pop.new.self.items in
     let rest : List Pair = c.take_last-2.new.pairs.items in
     let right : List Pair = c.in_ok-right.right in
-    let entry : c.in_ok-entry.entry.value ≡ p = c.in_ok-entry.ensures.ok ∙ c.in_ok-new.ensures in
-    let whole : c.args.pairs.now.items ≡ rest ++ (c.in_ok-left.left ++ p ∷ right) =
-    c.in_ok-right.ensures.parts
-    ∙ (ap (λ (ps : List Pair). ps ++ right) c.in-Some.ensures.items
-    ∙ (append_assoc earlier (p ∷ []) right
-    ∙ (ap (λ (ps : List Pair). ps ++ p ∷ right) c.in_ok-left.ensures.parts
-    ∙ append_assoc rest c.in_ok-left.left (p ∷ right)))) in
-    subst (λ (q : Pair). IsWell (v.Table (c.in_ok-left.left ++ q ∷ right))) (sym entry)
-    (well_suffix rest (c.in_ok-left.left ++ p ∷ right) (subst (λ (ps : List Pair). IsWell (v.Table ps)) whole c.requires.well))
+    let entry : c.in_ok-entry.entry.value ≡ p = cc (c.in_ok-entry.ensures.ok, c.in_ok-new.ensures) in
+    let whole : c.args.pairs.now.items ≡ rest ++ (c.in_ok-left.left ++ c.in_ok-entry.entry.value ∷ right) =
+    cc (
+      c.in_ok-right.ensures.parts,
+      c.in-Some.ensures.items,
+      c.in_ok-left.ensures.parts,
+      append_assoc earlier (p ∷ []) right,
+      append_assoc rest c.in_ok-left.left (p ∷ right),
+    ) in
+    well_suffix rest (c.in_ok-left.left ++ c.in_ok-entry.entry.value ∷ right) (well_same c.requires.well whole)

@@ -3,7 +3,7 @@ use Rattle.ag_value.proofs.Layers.{depth-Table}
 use Rattle.table_tree.proofs.tree.TableTree.depth.Goals as goal
 
 pub overflow_add-result : goal.overflow_add-result
-overflow_add-result c = let shallow = c.totals.ensures.small.shallow in omega arith
+overflow_add-result c = omega arith
 
 pub returns : goal.returns
-returns c = let deepest = c.totals.ensures.totals.depth_is in let whole = depth-Table c.args.self.now in omega arith
+returns c = omega (arith, depth-Table c.args.self.now)

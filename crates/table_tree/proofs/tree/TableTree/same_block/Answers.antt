@@ -1,5 +1,5 @@
-use Rattle.std.proofs.Common.{rules, ◌≡◌, ◌∙◌, ap, sym}
-use Rattle.table_tree.proofs.Encoded.{encodings, equal_tables}
+use Rattle.std.proofs.Common.{rules, ◌≡◌}
+use Rattle.table_tree.proofs.Encoded.{equal_tables}
 use Rattle.table_tree.proofs.tree.TableTree.same_block.Goals as goal
 
 pub returns : goal.returns
@@ -7,7 +7,6 @@ returns c =
     let a = c.in-Some-Some.ensures.bytes in
     let b = c.in-Some-Some.ensures'.bytes in (
       λ t. let e : c.in-Some-Some.one.now ≡ c.in-Some-Some.another.now = search rules in
-          equal_tables c.args.self.now c.args.other.now c.in-Some-Some.ensures.well c.in-Some-Some.ensures'.well c.requires
-          (sym a ∙ (e ∙ b)),
-      λ e. let s : c.in-Some-Some.one.now ≡ c.in-Some-Some.another.now = a ∙ (ap encodings e ∙ sym b) in search rules,
+          equal_tables c.in-Some-Some.ensures.well c.in-Some-Some.ensures'.well c.requires (cc),
+      λ e. let s : c.in-Some-Some.one.now ≡ c.in-Some-Some.another.now = cc in search rules,
     )
