@@ -21,6 +21,7 @@ invariant_of-result c =
           c.joined-totals.ensures;
       bytes =
           bytes_around c.args.left c.args.entry.value c.args.right c.totals.ensures.bytes
-          (subst (λ (p : Pair). AreBytes (spelling_of_pair p)) c.as_ref.ensures c.totals-2.ensures.bytes) c.totals-3.ensures.bytes;
+          (subst (λ (p : Pair). AreBytes (spelling_of_pair p)) c.as_ref.ensures c.totals-2.ensures.bytes)
+          c.totals-3.ensures.bytes;
       block_is = rw c.as_ref-2.ensures at c.in_ok-block.ensures;
     })
