@@ -1,6 +1,6 @@
 -- Passes that are made for two of the sample grammars.
-use Rattle.std.proofs.Common.{ℕ, zero, suc, ◌≡◌, ◌≤◌, inl, inr, List, [], ◌∷◌, Some, None, slice_get, length, refl, subst, sym}
-use Rattle.std.proofs.Common.{◌∙◌, arith}
+use Rattle.std.proofs.Common.{ℕ, zero, suc, ◌≡◌, ◌≤◌, inl, inr, List, [], ◌∷◌, Some, None, slice_get, length, refl}
+use Rattle.std.proofs.Common.{arith}
 use Rattle.ag_grammar.specs.Lists.{Each}
 use Rattle.ag_grammar.specs.declared.grammar.Production.{Production}
 use Rattle.ag_grammar.specs.declared.grammar.Rule.{Rule}
@@ -69,32 +69,25 @@ record AllHave (m : Passes) (k : ℕ) : Type 0 where
 
 all_given : (rules : List Rule) (m : Passes) (k : ℕ) → AllHave m k → (s a p : ℕ) → partial_of m s a ≡ Some p
     → IsAttribute (grammar_of rules) s a × (p ≡ k)
-all_given rules m k h zero a p e = go a (subst (λ xs. slice_get xs a ≡ Some p) h.first e)
-  where
-    go : (a : ℕ) → slice_get (k ∷ []) a ≡ Some p → IsAttribute (grammar_of rules) 0 a × (p ≡ k)
-    go zero e = ((Synthesized, refl), cc)
-    go (suc a) e = cc
-all_given rules m k h (suc zero) a p e = go a (subst (λ xs. slice_get xs a ≡ Some p) h.second e)
-  where
-    go : (a : ℕ) → slice_get (k ∷ k ∷ []) a ≡ Some p → IsAttribute (grammar_of rules) 1 a × (p ≡ k)
-    go zero e = ((Synthesized, refl), cc)
-    go (suc zero) e = ((Inherited, refl), cc)
-    go (suc (suc a)) e = cc
-all_given rules m k h (suc (suc s)) a p e = let e' : slice_get [] a ≡ Some p =
-    subst (λ xs. slice_get xs a ≡ Some p) (h.more s) e in cc
+all_given rules m k h zero zero p e = let f = rw h.first at e in ((Synthesized, refl), cc)
+all_given rules m k h zero (suc a) p e = let f = rw h.first at e in cc
+all_given rules m k h (suc zero) zero p e = let f = rw h.second at e in ((Synthesized, refl), cc)
+all_given rules m k h (suc zero) (suc zero) p e = let f = rw h.second at e in ((Inherited, refl), cc)
+all_given rules m k h (suc zero) (suc (suc a)) p e = let f = rw h.second at e in cc
+all_given rules m k h (suc (suc s)) a p e = let f = rw (h.more s) at e in cc
 
 -- a property of the three attributes holds of each
 each_attribute : (rules : List Rule) (P : Attributes) → P 0 0 → P 1 0 → P 1 1 → (s a : ℕ) → IsAttribute (grammar_of rules) s a
     → P s a
 each_attribute rules P x y z zero zero i = x
-each_attribute rules P x y z zero (suc a) i = let bad = i.1 in cc
+each_attribute rules P x y z zero (suc a) i = cc i.1
 each_attribute rules P x y z (suc zero) zero i = y
 each_attribute rules P x y z (suc zero) (suc zero) i = z
-each_attribute rules P x y z (suc zero) (suc (suc a)) i = let bad = i.1 in cc
-each_attribute rules P x y z (suc (suc s)) a i = let bad = i.1 in cc
+each_attribute rules P x y z (suc zero) (suc (suc a)) i = cc i.1
+each_attribute rules P x y z (suc (suc s)) a i = cc i.1
 
 some_given : (xs : List ℕ) (ys : List ℕ) (a p : ℕ) → xs ≡ ys → slice_get ys a ≡ Some p → slice_get xs a ≡ None → ⊥
-some_given xs ys a p e f h = let bad : Some p ≡ None = sym f ∙ subst (λ zs. slice_get zs a ≡ None) e h in cc
+some_given xs ys a p e f h = cc
 
 -- a pass that strikes nothing is assigned to all three attributes
 last_pass : (rules : List Rule) (m : Passes) (k : ℕ) → AllHave m k
@@ -103,7 +96,7 @@ last_pass : (rules : List Rule) (m : Passes) (k : ℕ) → AllHave m k
 last_pass rules m k h quiet = record {
   good = tt;
   finished = quiet;
-  kept = λ s a p e. let bad : None ≡ Some p = e in let worse : ⊥ = cc in absurd worse;
+  kept = λ s a p e. cc e;
   gained = λ s a p e f. let is = all_given rules m k h s a p f in (is.0, is.1, λ i. i);
   left =
       λ s a gap e. each_attribute rules (λ s a. partial_of m s a ≡ None → IsStruckBy [] s a)
@@ -167,7 +160,7 @@ first_right = record {
   good = right_good;
   finished = λ x gap is. all_struck x.symbol x.attr gap.0;
   kept = λ s a p e. cc;
-  gained = λ s a p e f. let bad : None ≡ Some p = f in let worse : ⊥ = cc in absurd worse;
+  gained = λ s a p e f. cc f;
   left = λ s a gap e. all_struck s a gap.0;
 }
 

@@ -1,5 +1,5 @@
 -- A least assignment has the fewest passes.
-use Rattle.std.proofs.Common.{ℕ, ◌≡◌, ◌≤◌, ◌⊎◌, inl, inr, List, [], Some, slice_get, length, sym, subst, ◌∙◌, arith}
+use Rattle.std.proofs.Common.{ℕ, ◌≡◌, ◌≤◌, ◌⊎◌, inl, inr, List, [], Some, slice_get, length, arith}
 use Rattle.std.proofs.lemmas.Bool.{cases_lt}
 use Rattle.std.proofs.lemmas.List.{get_or_past}
 use Rattle.std.proofs.lemmas.Option.{slice_get-get_or, get_or_from_slice_get}
@@ -14,8 +14,7 @@ use Rattle.passassign.specs.Rows.{passes_of, AreAtMost, IsGreatest}
 pub given_at_most : (rows : List (List ℕ)) (k s a p : ℕ) → AreAtMost k rows → slice_get (passes_of rows s) a ≡ Some p → p ≤ k
 given_at_most rows k s a p most e = elim (cases_lt s (length rows)) [
   | inl lt ↦ most s (passes_of rows s) (slice_get-get_or rows s [] lt) a p e
-  | inr le ↦ absurd (let bad : slice_get {X = ℕ} [] a ≡ Some p =
-      subst (λ row. slice_get row a ≡ Some p) (get_or_past rows s [] le) e in let worse : ⊥ = cc in worse)
+  | inr le ↦ (let bad = rw (get_or_past rows s [] le) at e in cc)
 ]
 
 pub least_fewest : (g : Grammar) (rows other : List (List ℕ)) (n k : ℕ) → IsLeast g (passes_of rows) → IsLegal g (passes_of other)
@@ -25,9 +24,9 @@ least_fewest g rows other n k least legal own greatest = go own.there
     go : (n ≡ 0) ⊎ ((row : List ℕ) × Has rows row × Has row n) → n ≤ k
     go (inl e) = omega arith
     go (inr (row, (s, at), (a, has))) =
-        let mine : slice_get (passes_of rows s) a ≡ Some n =
-        subst (λ r. slice_get r a ≡ Some n) (sym (get_or_from_slice_get rows s row [] at)) has in
-        let there = counterpart (passes_of rows s) (passes_of other s) a n (least.legal.whole s ∙ sym (legal.whole s)) mine in
+        let here = get_or_from_slice_get rows s row [] at in
+        let mine : slice_get (passes_of rows s) a ≡ Some n = rw here has in
+        let there = counterpart (passes_of rows s) (passes_of other s) a n (cc (least.legal.whole s, legal.whole s)) mine in
         let low = least.least (passes_of other) legal s a n there.0 mine there.1 in
         let high = given_at_most other k s a there.0 greatest.most there.1 in
         omega arith

@@ -1,7 +1,7 @@
 -- A pass that the program makes is a pass as `IsPass` defines it.
-use Rattle.std.proofs.Common.{ℕ, suc, ◌≡◌, ◌<◌, ◌+◌, ◌↔◌, Bool, true, false, cond, ◌&&◌, nat_lt, List, [], Some, None, length}
-use Rattle.std.proofs.Common.{refl, ap, ◌∙◌, sym, subst, add-one}
-use Rattle.std.proofs.lemmas.Bool.{lt-ltb, ltb-true, false≢true}
+use Rattle.std.proofs.Common.{ℕ, suc, ◌≡◌, ◌<◌, ◌+◌, ◌↔◌, Bool, true, false, ◌&&◌, nat_lt, List, [], None, length}
+use Rattle.std.proofs.Common.{inl, inr, arith, refl}
+use Rattle.std.proofs.lemmas.Bool.{cases_Bool, lt-ltb, ltb-true}
 use Rattle.ag_grammar.specs.grammars.AttributeGrammar.{Grammar}
 use Rattle.ag_grammar.specs.grammars.Passes.{direction_of, other}
 use Rattle.passassign.specs.Least.{AssignsOnlyAttributes}
@@ -21,7 +21,7 @@ use Rattle.passassign.proofs.making.Marked.{pass_by_marks}
 absent_after : (k : ℕ) (x : State) (b : Bool) → (after_pass k x b ≡ Absent) ↔ (x ≡ Absent)
 absent_after k Absent b = ((λ e. refl), (λ e. refl))
 absent_after k Open true = ((λ e. e), (λ e. e))
-absent_after k Open false = ((λ e. absurd (let bad : ⊥ = cc in bad)), (λ e. absurd (let bad : ⊥ = cc in bad)))
+absent_after k Open false = ((λ e. cc), (λ e. cc))
 absent_after k (Assigned p) b = ((λ e. e), (λ e. e))
 
 given_after : (k : ℕ) (x : State) (b : Bool) → (x ≡ Absent → ⊥)
@@ -39,110 +39,93 @@ open_after k (Assigned p) b e = e
 
 -- only marked attributes are left open
 marked_after : (k : ℕ) (x : State) (b : Bool) → after_pass k x b ≡ Open → b ≡ true
-marked_after k Absent b e = absurd (let bad : ⊥ = cc in bad)
+marked_after k Absent b e = cc
 marked_after k Open true e = refl
-marked_after k Open false e = absurd (let bad : ⊥ = cc in bad)
-marked_after k (Assigned p) b e = absurd (let bad : ⊥ = cc in bad)
+marked_after k Open false e = cc
+marked_after k (Assigned p) b e = cc
 
-given_there : (x : State) (p : ℕ) → pass_of_state x ≡ Some p → x ≡ Absent → ⊥
-given_there x p e f = let bad : Some p ≡ None = sym e ∙ ap pass_of_state f in cc
-
-pub over : (g : Grammar) (all : List Dependency) (states : List State) → BelongTo g all states
+over : {g : Grammar} {all : List Dependency} {states : List State} → BelongTo g all states
     → AssignsOnlyAttributes g (table_passes states)
-over g all states of s a p e = (of.table.there s a).0 (given_there (state_of states s a) p e)
+over {states = states} of s a p e = (of.table.there s a).0 (λ f. let bad : table_passes states s a ≡ None = rw f in cc)
 
 module _ (old new : List State) (marks : List Bool) (k : ℕ)
     (after : (i : ℕ) → state_at new i ≡ after_pass k (state_at old i) (is_marked marks i)) where
   -- the state of an attribute after the pass
   after_of : (s a : ℕ) → state_of new s a ≡ after_pass k (state_of old s a) (is_marked marks (slot_of s a))
-  after_of s a = go (nat_lt a 16)
-    where
-      go : (b : Bool) → cond b (state_at new (slot_of s a)) Absent ≡ after_pass k (cond b (state_at old (slot_of s a)) Absent)
-          (is_marked marks (slot_of s a))
-      go true = after (slot_of s a)
-      go false = refl
+  after_of s a = elim (cases_Bool (nat_lt a 16)) [ inl e ↦ rw e (after (slot_of s a)) | inr e ↦ rw e ]
 
   pub open_in : KeepPasses new old
-  open_in i e = open_after k (state_at old i) (is_marked marks i) (sym (after i) ∙ e)
+  open_in i e = open_after k (state_at old i) (is_marked marks i) (cc (after i))
 
-  module _ (g : Grammar) (all : List Dependency) (of : BelongTo g all old) (len : length new ≡ length old) (xs : List Strike)
+  module _ {g : Grammar} {all : List Dependency} (of : BelongTo g all old) (len : length new ≡ length old) {xs : List Strike}
       (s : IsSearch all (direction_of k) old xs marks) where
     pub of_new : BelongTo g all new
     of_new = record {
       accepted = of.accepted;
       dependencies = of.dependencies;
       table = record {
-        len = len ∙ of.table.len;
+        len = cc;
         there = λ s a. (
-          (λ h.
-              (of.table.there s a).0
-              (λ e. h (after_of s a ∙ (absent_after k (state_of old s a) (is_marked marks (slot_of s a))).1 e))),
+          (λ h. (of.table.there s a).0
+              (λ e. h (cc (after_of s a, (absent_after k (state_of old s a) (is_marked marks (slot_of s a))).1 e)))),
           (λ d e. (of.table.there s a).1 d
-              ((absent_after k (state_of old s a) (is_marked marks (slot_of s a))).0 (sym (after_of s a) ∙ e))),
+              ((absent_after k (state_of old s a) (is_marked marks (slot_of s a))).0 (cc (after_of s a)))),
         );
       };
       led = λ u h e.
-          let m = marked_after k (state_at old u.argument) (is_marked marks u.argument) (sym (after u.argument) ∙ e) in
-          after (target_of u) ∙ ap (λ x. after_pass k x (is_marked marks (target_of u))) (of.led u h (open_in u.argument e))
-          ∙ ap (after_pass k Open) (s.closed u h m);
+          let m = marked_after k (state_at old u.argument) (is_marked marks u.argument) (cc (after u.argument)) in
+          rw (after (target_of u), of.led u h (open_in u.argument e), s.closed u h m);
     }
 
     hit_in : (s a : ℕ) → a < 16 → (nat_lt a 16 && is_marked marks (slot_of s a)) ≡ is_marked marks (slot_of s a)
-    hit_in s a lt = ap (λ b. b && is_marked marks (slot_of s a)) (lt-ltb a 16 lt)
+    hit_in s a lt = rw (lt-ltb a 16 lt)
 
     hit_small : (s a : ℕ) → (nat_lt a 16 && is_marked marks (slot_of s a)) ≡ true → a < 16
-    hit_small s a e = go (nat_lt a 16) refl
-      where
-        go : (b : Bool) → nat_lt a 16 ≡ b → a < 16
-        go true h = ltb-true a 16 h
-        go false h = absurd (false≢true (sym (ap (λ b. b && is_marked marks (slot_of s a)) h) ∙ e))
+    hit_small s a e = elim (cases_Bool (nat_lt a 16)) [ inl h ↦ ltb-true a 16 h | inr h ↦ (let bad = rw h at e in cc) ]
 
     are_marks : AreMarks (λ s a. nat_lt a 16 && is_marked marks (slot_of s a)) xs
     are_marks u a = (
       (λ e. (let lt = hit_small u a e in
-          at_struck g all (direction_of k) old xs of (s.good g of) u a lt
-          ((s.marked (slot_of u a)).0 (sym (hit_in u a lt) ∙ e)))),
+          at_struck (direction_of k) xs of (s.good g of) u a lt ((s.marked (slot_of u a)).0 (cc (hit_in u a lt))))),
       (λ h. (
-          let lt =
-          (open_state g all old of u a
-          (strikes_open g (direction_of k) (IsOpen g (table_passes old)) [] xs (s.good g of) u a h)).0 in
-          hit_in u a lt ∙ (s.marked (slot_of u a)).1 (struck_at g all (direction_of k) old xs of (s.good g of) u a h))),
+          let o = strikes_open g (direction_of k) (IsOpen g (table_passes old)) [] xs (s.good g of) u a h in
+          let lt = (open_state of u a o).0 in
+          cc (hit_in u a lt, (s.marked (slot_of u a)).1 (struck_at (direction_of k) xs of (s.good g of) u a h)))),
     )
 
     pub is_pass : IsPass g k (table_passes old) (table_passes new) xs
     is_pass =
         pass_by_marks g k (table_passes old) (table_passes new) xs (λ s a. nat_lt a 16 && is_marked marks (slot_of s a))
-        (over g all old of) (over g all new of_new) (s.good g of) (s.finished g of) are_marks
+        (over of) (over of_new) (s.good g of) (s.finished g of) are_marks
         (λ u a i.
         let lt = (attribute_within g u a of.accepted i).0 in
-        ap pass_of_state (after_of u a)
-        ∙ given_after k (state_of old u a) (is_marked marks (slot_of u a)) ((of.table.there u a).1 i)
-        ∙ ap (pass_after k (pass_of_state (state_of old u a))) (sym (hit_in u a lt)))
+        rw (after_of u a, hit_in u a lt)
+        (given_after k (state_of old u a) (is_marked marks (slot_of u a)) ((of.table.there u a).1 i)))
 
-pub next_made : (g : Grammar) (all : List Dependency) (old new : PassesSoFar) (xs : List Strike) (marks : List Bool)
+pub next_made : {g : Grammar} {all : List Dependency} {old new : PassesSoFar} {xs : List Strike} {marks : List Bool}
     → ((i : ℕ) → state_at new.states.items i ≡ after_pass old.next (state_at old.states.items i) (is_marked marks i))
     → length new.states.items ≡ length old.states.items → new.next ≡ old.next + 1
     → new.direction ≡ other old.direction → IsSearch all old.direction old.states.items xs marks → IsProgress g all old
     → IsNext g all old new xs
-next_made g all old new xs marks after len next turned s p =
+next_made {g} {all} {old} {new} {xs} {marks} after len next turned s p =
     record { progress = record { of = now; made = made; turned = turn }; pass = pass }
   where
     found : IsSearch all (direction_of old.next) old.states.items xs marks
-    found = subst (λ d. IsSearch all d old.states.items xs marks) p.turned s
+    found = rw p.turned at s
 
     now : BelongTo g all new.states.items
-    now = of_new old.states.items new.states.items marks old.next after g all p.of len xs found
+    now = of_new old.states.items new.states.items marks old.next after p.of len found
 
     pass : IsPass g old.next (table_passes old.states.items) (table_passes new.states.items) xs
-    pass = is_pass old.states.items new.states.items marks old.next after g all p.of len xs found
+    pass = is_pass old.states.items new.states.items marks old.next after p.of len found
 
     one_more : new.next ≡ suc old.next
-    one_more = next ∙ add-one old.next
+    one_more = omega arith
 
     made : IsMade g new.next (table_passes new.states.items)
     made =
-        subst (λ k. IsMade g k (table_passes new.states.items)) (sym one_more)
+        rw one_more
         (passed old.next (table_passes old.states.items) (table_passes new.states.items) xs p.made pass)
 
     turn : new.direction ≡ direction_of new.next
-    turn = turned ∙ ap other p.turned ∙ ap direction_of (sym one_more)
+    turn = rw (one_more, turned, p.turned)

@@ -1,6 +1,6 @@
 -- If two passes of the program assign nothing, its fault is A1, and A1 is true of the grammar.
 use Rattle.std.proofs.Common.{ℕ, zero, suc, ◌≡◌, ◌<◌, ◌≤◌, ◌+◌, ◌/◌, ◌%◌, ◌↔◌, cond, List, [], ◌∷◌, None, length, inl, inr, refl}
-use Rattle.std.proofs.Common.{ap, ◌∙◌, sym, subst, arith, add-one}
+use Rattle.std.proofs.Common.{arith, add-one}
 use Rattle.std.proofs.lemmas.Bool.{cases_order}
 use Rattle.std.proofs.lemmas.List.Sums.{sum_by-cons}
 use Rattle.ag_grammar.specs.Lists.{Has, Differ}
@@ -10,9 +10,9 @@ use Rattle.ag_grammar.specs.declared.direction.Direction.TheVariants.{LeftToRigh
 use Rattle.ag_grammar.specs.grammars.Passes.{direction_of, other}
 use Rattle.passassign.specs.Answer.{IsInDeclaredOrder, IsRefused}
 use Rattle.passassign.specs.Certificate.{Members, IsCertificate, stuck_of}
-use Rattle.passassign.specs.Making.{IsOpen, IsPass, AreIdle}
+use Rattle.passassign.specs.Making.{IsOpen, AreIdle}
 use Rattle.passassign.specs.PassesSoFar.{IsProgress, IsNext, KeepPasses, open_count}
-use Rattle.passassign.specs.Tables.{slot_of, state_at, state_of, pass_of_state, is_open, table_passes}
+use Rattle.passassign.specs.Tables.{slot_of, state_at, state_of, is_open, table_passes}
 use Rattle.passassign.specs.declared.assigning.PassesSoFar.{PassesSoFar}
 use Rattle.passassign.specs.declared.dependency.Dependency.{Dependency}
 use Rattle.passassign.specs.declared.stuck.Strike.{Strike}
@@ -25,29 +25,20 @@ use Rattle.passassign.proofs.making.Whole.{certified_refused, stuck_left}
 
 -- a list in declared order has no duplicates
 differ : (set : List (ℕ × ℕ)) → IsInDeclaredOrder set → Differ set
-differ set ordered i j x y ex ey same = elim (cases_order i j) [
-  | inl e ↦ e
-  | inr o ↦ elim o [
-    | inl lt ↦ absurd
-        (elim (ordered i j x y ex ey lt) [
-          | inl l ↦ (let e = ap (λ (z : ℕ × ℕ). z.0) same in omega arith)
-          | inr l ↦
-              (let e = ap (λ (z : ℕ × ℕ). z.1) same in let m = l.1 in omega arith)
-        ])
-    | inr gt ↦ absurd
-        (elim (ordered j i y x ey ex gt) [
-          | inl l ↦ (let e = ap (λ (z : ℕ × ℕ). z.0) same in omega arith)
-          | inr l ↦
-              (let e = ap (λ (z : ℕ × ℕ). z.1) same in let m = l.1 in omega arith)
-        ])
-  ]
-]
+differ set ordered i j x y ex ey same =
+    let first : x.0 ≡ y.0 = cc in
+    let second : x.1 ≡ y.1 = cc in
+    elim (cases_order i j) [
+      | inl e ↦ e
+      | inr (inl lt) ↦ (let o = ordered i j x y ex ey lt in grind arith)
+      | inr (inr gt) ↦ (let o = ordered j i y x ey ex gt in grind arith)
+    ]
 
 abbrev pub bit : State → ℕ
 bit x = cond (is_open x) 1 0
 
 bit_open : (x : State) → x ≡ Open → bit x ≡ 1
-bit_open x e = ap (λ x. cond (is_open x) 1 0) e
+bit_open x e = rw e
 
 pub open_step : (x : State) (xs : List State) → open_count (x ∷ xs) ≡ bit x + open_count xs
 open_step x xs = sum_by-cons (λ x. cond (is_open x) 1 0) x xs
@@ -55,42 +46,40 @@ open_step x xs = sum_by-cons (λ x. cond (is_open x) 1 0) x xs
 bit_le : (x y : State) → (y ≡ Open → x ≡ Open) → bit y ≤ bit x
 bit_le x Absent h = omega arith
 bit_le x (Assigned p) h = omega arith
-bit_le x Open h = let e : bit x ≡ 1 = bit_open x (h refl) in omega (arith, e)
+bit_le x Open h = omega (arith, bit_open x (h refl))
 
 bit_same : (x y : State) → x ≡ Open → bit x ≤ bit y → y ≡ Open
-bit_same x Absent e le = let f : bit x ≡ 1 = bit_open x e in absurd (omega (arith, f, le))
-bit_same x (Assigned p) e le = let f : bit x ≡ 1 = bit_open x e in absurd (omega (arith, f, le))
+bit_same x Absent e le = absurd (omega (arith, bit_open x e))
+bit_same x (Assigned p) e le = absurd (omega (arith, bit_open x e))
 bit_same x Open e le = refl
 
 count_le : (xs ys : List State) → length ys ≡ length xs → KeepPasses ys xs → open_count ys ≤ open_count xs
 count_le [] [] len h = omega arith
-count_le [] (y ∷ ys) len h = absurd (omega arith)
-count_le (x ∷ xs) [] len h = absurd (omega arith)
-count_le (x ∷ xs) (y ∷ ys) len h = let a = bit_le x y (h zero) in let b = count_le xs ys (omega arith) (λ k. h (suc k)) in
-    omega (arith, open_step x xs, open_step y ys, a, b)
+count_le (x ∷ xs) (y ∷ ys) len h =
+    omega (arith, open_step x xs, open_step y ys, bit_le x y (h zero), count_le xs ys (omega arith) (λ k. h (suc k)))
+count_le _ _ len h = absurd (omega arith)
 
 -- If no slot becomes open from the table xs to the table ys, and at least as many slots are open in ys as in xs, each slot that
 -- is open in xs is open in ys.
 same_open : (xs ys : List State) → length ys ≡ length xs → KeepPasses ys xs → open_count xs ≤ open_count ys → KeepPasses xs ys
 same_open [] [] len h le k e = e
-same_open [] (y ∷ ys) len h le k e = absurd (omega arith)
-same_open (x ∷ xs) [] len h le k e = absurd (omega arith)
-same_open (x ∷ xs) (y ∷ ys) len h le zero e = let b = count_le xs ys (omega arith) (λ k. h (suc k)) in
-    bit_same x y e (omega (arith, open_step x xs, open_step y ys, b, le))
-same_open (x ∷ xs) (y ∷ ys) len h le (suc k) e = let a = bit_le x y (h zero) in
-    same_open xs ys (omega arith) (λ k. h (suc k)) (omega (arith, open_step x xs, open_step y ys, a, le)) k e
+same_open (x ∷ xs) (y ∷ ys) len h le zero e =
+    bit_same x y e (omega (arith, open_step x xs, open_step y ys, count_le xs ys (omega arith) (λ k. h (suc k))))
+same_open (x ∷ xs) (y ∷ ys) len h le (suc k) e =
+    same_open xs ys (omega arith) (λ k. h (suc k)) (omega (arith, open_step x xs, open_step y ys, bit_le x y (h zero))) k e
+same_open _ _ len h le k e = absurd (omega arith)
 
 some_open : (xs : List State) → 0 < open_count xs → (k : ℕ) × (state_at xs k ≡ Open)
 some_open [] lt = absurd (omega arith)
 some_open (Open ∷ xs) lt = (0, refl)
-some_open (Absent ∷ xs) lt = let o = some_open xs (omega (arith, open_step Absent xs, lt)) in (suc o.0, o.1)
-some_open (Assigned p ∷ xs) lt = let o = some_open xs (omega (arith, open_step (Assigned p) xs, lt)) in (suc o.0, o.1)
+some_open (Absent ∷ xs) lt = let o = some_open xs (omega (arith, open_step Absent xs)) in (suc o.0, o.1)
+some_open (Assigned p ∷ xs) lt = let o = some_open xs (omega (arith, open_step (Assigned p) xs)) in (suc o.0, o.1)
 
 turned_twice : (d : Direction) → other (other d) ≡ d
 turned_twice LeftToRight = refl
 turned_twice RightToLeft = refl
 
-module _ (g : Grammar) (all : List Dependency) (old new last : PassesSoFar) (first second : List Strike)
+module _ {g : Grammar} {all : List Dependency} {old new last : PassesSoFar} {first second : List Strike}
     (one : IsNext g all old new first) (two : IsNext g all new last second) (before : IsProgress g all old)
     (next : new.next ≡ old.next + 1) (next_two : last.next ≡ new.next + 1)
     (len : length last.states.items ≡ length old.states.items) (kept : KeepPasses last.states.items old.states.items)
@@ -103,50 +92,48 @@ module _ (g : Grammar) (all : List Dependency) (old new last : PassesSoFar) (fir
   none_given s a e = go (state_of last.states.items s a) refl
     where
       go : (x : State) → state_of last.states.items s a ≡ x → table_passes last.states.items s a ≡ None
-      go Absent f = ap pass_of_state f
-      go Open f = ap pass_of_state f
+      go Absent f = rw f
+      go Open f = rw f
       go (Assigned p) f =
-          let is = (two.progress.of.table.there s a).0 (λ h. let bad : Assigned p ≡ Absent = sym f ∙ h in cc) in
-          let o = open_state g all old.states.items before.of s a (is, e) in
-          (open_there g all last.states.items two.progress.of s a o.0 (still (slot_of s a) o.1)).1
+          let is = (two.progress.of.table.there s a).0 (λ h. cc) in
+          let o = open_state before.of s a (is, e) in (open_there two.progress.of s a o.0 (still (slot_of s a) o.1)).1
 
   one_more : new.next ≡ suc old.next
-  one_more = next ∙ add-one old.next
+  one_more = omega arith
 
   are_idle : AreIdle g old.next (table_passes old.states.items) first second
   are_idle = record {
     between = table_passes new.states.items;
     last = table_passes last.states.items;
     one = one.pass;
-    other = subst (λ k. IsPass g k (table_passes new.states.items) (table_passes last.states.items) second) one_more two.pass;
+    other = rw one_more at two.pass;
     idle = none_given;
   }
 
   direction : last.direction ≡ direction_of old.next
-  direction =
-      two.progress.turned ∙ ap direction_of (next_two ∙ add-one new.next ∙ ap suc one_more) ∙ turned_twice (direction_of old.next)
+  direction = rw (two.progress.turned, next_two, add-one, one_more, turned_twice)
 
   module _ (c : Stuck) (strikes : c ≡ stuck_of last.direction c.set first second)
       (members : (s a : ℕ) → Has c.set (s, a) ↔ ((a < 16) × (state_at last.states.items (slot_of s a) ≡ Open)))
       (ordered : IsInDeclaredOrder c.set) (some : 0 < open_count old.states.items) where
     open_members : (s a : ℕ) → Members c.set s a ↔ IsOpen g (table_passes old.states.items) s a
     open_members s a = (
-      (λ h. let m = (members s a).0 h in open_there g all old.states.items before.of s a m.0 (kept (slot_of s a) m.1)),
-      (λ i. let o = open_state g all old.states.items before.of s a i in (members s a).1 (o.0, still (slot_of s a) o.1)),
+      (λ h. let m = (members s a).0 h in open_there before.of s a m.0 (kept (slot_of s a) m.1)),
+      (λ i. let o = open_state before.of s a i in (members s a).1 (o.0, still (slot_of s a) o.1)),
     )
 
     is_stuck : c ≡ stuck_of (direction_of old.next) c.set first second
-    is_stuck = strikes ∙ ap (λ d. stuck_of d c.set first second) direction
+    is_stuck = rw direction at strikes
 
     member : (x : ℕ × ℕ) × Has c.set x
     member =
         let o = some_open old.states.items some in
         let e : slot_of (o.0 / 16) (o.0 % 16) ≡ o.0 = omega arith in
-        ((o.0 / 16, o.0 % 16), (members (o.0 / 16) (o.0 % 16)).1 (omega arith, ap (state_at last.states.items) e ∙ still o.0 o.1))
+        ((o.0 / 16, o.0 % 16), (members (o.0 / 16) (o.0 % 16)).1 (omega arith, rw e (still o.0 o.1)))
 
     certificate : IsCertificate g c
     certificate =
-        subst (IsCertificate g) (sym is_stuck)
+        rw is_stuck
         (rest_certified g old.next (table_passes old.states.items) first second are_idle c.set
         (differ c.set ordered) member open_members)
 

@@ -1,12 +1,11 @@
 -- Assignments of all attributes, and grammars that have no legal one.
 use Rattle.std.proofs.Common.{ℕ, zero, suc, ◌≡◌, ◌↔◌, inl, inr, List, [], ◌∷◌, Option, Some, None, slice_get, length, refl, sym}
-use Rattle.std.proofs.Common.{◌∙◌, subst}
 use Rattle.ag_grammar.specs.Lists.{Each}
 use Rattle.ag_grammar.specs.declared.grammar.Item.TheVariants as item
 use Rattle.ag_grammar.specs.declared.grammar.Item.{Item}
 use Rattle.ag_grammar.specs.declared.grammar.Production.{Production}
 use Rattle.ag_grammar.specs.declared.grammar.Terminal.TheVariants.{Literal, Class}
-use Rattle.ag_grammar.specs.grammars.AttributeGrammar.{Grammar, item_at, item_kinds, defined_kind, IsProduction, symbol_kinds}
+use Rattle.ag_grammar.specs.grammars.AttributeGrammar.{Grammar, item_at, defined_kind, IsProduction, symbol_kinds}
 use Rattle.ag_grammar.specs.grammars.Accepted.{IsComplete, IsNormal}
 use Rattle.ag_grammar.specs.declared.direction.Direction.{Direction}
 use Rattle.ag_grammar.specs.declared.direction.Direction.TheVariants.{RightToLeft}
@@ -18,7 +17,6 @@ use Rattle.passassign.specs.Certificate.{Attributes, Members, IsStruckBy, AreGoo
 use Rattle.passassign.specs.Least.{Partial, partial_of, pass_at, HasPassIn, IsAttribute, IsLegalPartial, IsStuck, IsLeast}
 use Rattle.passassign.specs.Least.{IsAlternating}
 use Rattle.passassign.specs.Making.{IsMade, AreIdle}
-use Rattle.passassign.proofs.slots.Options.{some_none}
 use Rattle.passassign.proofs.making.Made.{made_at_most}
 use Rattle.passassign.proofs.making.Legal.{made_legal}
 use Rattle.passassign.proofs.making.Rest.{members_stuck, rest_stuck}
@@ -43,8 +41,8 @@ partial_legal g m legal = record { known = known; positive = λ s a p e. legal.p
 
     allowed : (i : ℕ) (q : Production) → IsProduction g i q → IsLegalFor (HasPassIn (partial_of m)) q
     allowed i q get r o k rule arg has =
-        let l = legal.allowed i q get r o k rule arg (sym (same (item_at q r.target.place) r.target.attr) ∙ has) in
-        (l.0, same (item_at q o.place) o.attr ∙ l.1, l.2)
+        let l = legal.allowed i q get r o k rule arg (cc (same (item_at q r.target.place) r.target.attr)) in
+        (l.0, cc (l.1, same (item_at q o.place) o.attr), l.2)
 
 pub whole_least : (g : Grammar) (k : ℕ) (n : Partial) (m : Passes) → Each (IsComplete g) g.productions
     → Each (IsNormal g) g.productions → IsMade g k n → ((s : ℕ) → length (m s) ≡ length (symbol_kinds (slice_get g.symbols s)))
@@ -52,10 +50,10 @@ pub whole_least : (g : Grammar) (k : ℕ) (n : Partial) (m : Passes) → Each (I
     → IsLeast g m
 whole_least g k n m complete normal made whole is =
     record {
-      legal = record { whole = whole; positive = λ s a p e. legal.positive s a p (sym (is s a) ∙ e); allowed = allowed };
+      legal = record { whole = whole; positive = λ s a p e. legal.positive s a p (cc (is s a)); allowed = allowed };
       least =
           λ other h s a p q e f. made_at_most g k n (partial_of other) made (partial_legal g other h) s a p q
-          (sym (is s a) ∙ e) f;
+          (cc (is s a)) f;
     }
   where
     legal : IsLegalPartial g n
@@ -66,36 +64,24 @@ whole_least g k n m complete normal made whole is =
 
     allowed : (i : ℕ) (q : Production) → IsProduction g i q → IsLegalFor (HasPass m) q
     allowed i q get r o k rule arg has =
-        let l = legal.allowed i q get r o k rule arg (same (item_at q r.target.place) r.target.attr ∙ has) in
-        (l.0, sym (same (item_at q o.place) o.attr) ∙ l.1, l.2)
+        let l = legal.allowed i q get r o k rule arg (cc (same (item_at q r.target.place) r.target.attr)) in
+        (l.0, cc (l.1, same (item_at q o.place) o.attr), l.2)
 
 pub stuck_refused : (g : Grammar) (s a : ℕ) → IsAttribute g s a → IsStuck g s a → IsAlternating g → ⊥
 stuck_refused g s a is stuck (m, legal) =
     let c = counterpart (symbol_kinds (slice_get g.symbols s)) (m s) a is.0 (sym (legal.whole s)) is.1 in
-    some_none (partial_of m s a) c.0 c.1 (stuck (partial_of m) (partial_legal g m legal))
+    cc (c.1, stuck (partial_of m) (partial_legal g m legal))
 
 -- the names that good strikes strike are attributes, since a complete production has only rules of attributes
-struck_known : (g : Grammar) → Each (IsComplete g) g.productions
-    → (d : Direction) (candidate : Attributes) (struck xs : List Strike) → AreGood g d candidate struck xs → (s a : ℕ)
-    → IsStruckBy xs s a → IsAttribute g s a
-struck_known g complete d candidate struck [] good s a hit = absurd hit
-struck_known g complete d candidate struck (x ∷ xs) (is, new, one, more) s a hit =
-    go hit (struck_known g complete d candidate (x ∷ struck) xs more s a)
-  where
-    target : (s a : ℕ) → (x.symbol ≡ s) × (x.attr ≡ a) → IsAttribute g s a
-    target s a (u, b) = (
-      defined_kind one.rule.target.place,
-      subst (λ s. slice_get (symbol_kinds (slice_get g.symbols s)) a ≡ Some (defined_kind one.rule.target.place)) u
-          (subst (λ y. slice_get (item_kinds g y) a ≡ Some (defined_kind one.rule.target.place)) one.symbol
-          (subst
-          (λ a. slice_get (item_kinds g (item_at one.production one.rule.target.place)) a ≡ Some
-          (defined_kind one.rule.target.place)) (one.attr ∙ b)
-          ((complete x.production one.production one.is_production).no_other x.rule one.rule one.is_rule))),
-    )
-
-    go : IsStruckBy (x ∷ xs) s a → (IsStruckBy xs s a → IsAttribute g s a) → IsAttribute g s a
-    go (inl h) later = target s a h
-    go (inr h) later = later h
+module _ (g : Grammar) (complete : Each (IsComplete g) g.productions) (d : Direction) (candidate : Attributes) where
+  struck_known : (struck xs : List Strike) → AreGood g d candidate struck xs → (s a : ℕ) → IsStruckBy xs s a → IsAttribute g s a
+  struck_known struck [] good s a hit = absurd hit
+  struck_known struck (x ∷ xs) (is, new, one, more) s a (inl (u, b)) = (
+    defined_kind one.rule.target.place,
+    rw (one.symbol, one.attr, u, b) at
+        ((complete x.production one.production one.is_production).no_other x.rule one.rule one.is_rule),
+  )
+  struck_known struck (x ∷ xs) (is, new, one, more) s a (inr h) = struck_known (x ∷ struck) xs more s a h
 
 pub certified_refused : (g : Grammar) (c : Stuck) → Each (IsComplete g) g.productions → IsCertificate g c → IsAlternating g → ⊥
 certified_refused g c complete is =

@@ -1,15 +1,14 @@
 -- A production has few rules and a rule has few arguments: each is for a different attribute, and a
 -- production has few places with few attributes each.
 use Rattle.std.proofs.Common.{ℕ, zero, suc, ◌≡◌, ◌+◌, ◌*◌, ◌<◌, ◌≤◌, true, List, [], ◌∷◌, Option, Some, None, map, slice_get}
-use Rattle.std.proofs.Common.{get_or, length, inl, inr, refl, ap, ◌∙◌, sym, subst, eqb, arith}
+use Rattle.std.proofs.Common.{get_or, length, inl, inr, refl, sym, eqb, arith}
 use Rattle.std.specs.List.{list_any, IsDistinct}
-use Rattle.std.specs.Prelude.{◌||◌}
 use Rattle.std.proofs.lemmas.Bool.{cases_order}
 use Rattle.std.proofs.lemmas.Bool.Decides.{eqb_tells}
 use Rattle.std.proofs.lemmas.List.{length-map}
 use Rattle.std.proofs.lemmas.Map.Keys.{IsDistinct-from_apart}
 use Rattle.std.proofs.lemmas.Map.Steps.{length-le_from_distinct_below}
-use Rattle.std.proofs.lemmas.Option.{get_or_from_slice_get, slice_get_within, slice_get-get_or}
+use Rattle.std.proofs.lemmas.Option.{slice_get_within, slice_get-get_or}
 use Rattle.ag_grammar.specs.declared.grammar.Item.TheVariants as item
 use Rattle.ag_grammar.specs.declared.grammar.Item.{Item}
 use Rattle.ag_grammar.specs.declared.grammar.Production.{Production}
@@ -20,90 +19,73 @@ use Rattle.ag_grammar.specs.declared.syntax.occurrence.Occ.{Occ}
 use Rattle.ag_grammar.specs.expressions.Occurrences.{AreDifferent}
 use Rattle.ag_grammar.specs.grammars.Accepted.{IsAccepted}
 use Rattle.ag_grammar.specs.grammars.AttributeGrammar.{Grammar, IsProduction, IsRule, Kind, Synthesized, HasKind, RefersTo}
-use Rattle.ag_grammar.specs.grammars.AttributeGrammar.{used_kind, defined_kind, item_at, item_kinds, item_names, stored_items}
+use Rattle.ag_grammar.specs.grammars.AttributeGrammar.{used_kind, defined_kind, item_at, item_kinds, stored_items}
+use Rattle.closure.proofs.Positions.{mapped_at}
 use Rattle.passassign.proofs.slots.Linked.{attribute_within, same_parts}
 
 -- a number for a place and an attribute
 abbrev slot : Target → ℕ
 slot o = o.place * 16 + o.attr
 
--- The list xs is short if each of its members belongs to a different attribute at a place (`of`). Places are at most 16, and the
--- numbers of attributes are below 16.
+-- these numbers for the members of a list, each of which belongs to an attribute at a place (`of`)
+abbrev slots : {X : Type 0} → (X → Target) → List X → List ℕ
+slots of xs = map (λ x. slot (of x)) xs
+
+below : {X : Type 0} (of : X → Target) (ys : List X) → ((i : ℕ) (x : X) → slice_get ys i ≡ Some x → slot (of x) < 272) → (n : ℕ)
+    → list_any (eqb n) (slots of ys) ≡ true → n < 272
+below of [] h n e = cc
+below of (y ∷ ys) h n e = elim (eqb_tells n (slot (of y))) [
+  | inl same ↦ omega (arith, h 0 y refl)
+  | inr other ↦ below of ys (λ i. h (suc i)) n (rw other.0 at e)
+]
+
+-- The list xs is short if each of its members belongs to a different attribute at a place. Places are at most 16, and the numbers
+-- of attributes are below 16.
 module _ {X : Type 0} (of : X → Target) (xs : List X)
     (single : (i j : ℕ) (x y : X) → slice_get xs i ≡ Some x → slice_get xs j ≡ Some y → of x ≡ of y → i ≡ j)
     (small : (i : ℕ) (x : X) → slice_get xs i ≡ Some x → ((of x).place ≤ 16) × ((of x).attr < 16)) where
-  mapped : (ys : List X) (i : ℕ) (x : X) → slice_get ys i ≡ Some x → slice_get (map (λ x. slot (of x)) ys) i ≡ Some (slot (of x))
-  mapped [] i x e = absurd (let bad : ⊥ = cc in bad)
-  mapped (y ∷ ys) zero x e = let same : y ≡ x = cc in ap (λ (w : X). Some (slot (of w))) same
-  mapped (y ∷ ys) (suc i) x e = mapped ys i x e
-
-  member : (ys : List X) (i : ℕ) → i < length ys → (x : X) × (slice_get ys i ≡ Some x)
-  member [] i lt = absurd (omega arith)
-  member (y ∷ ys) zero lt = (y, refl)
-  member (y ∷ ys) (suc i) lt = member ys i (omega arith)
-
   one : (i j : ℕ) (x y : X) → slice_get xs i ≡ Some x → slice_get xs j ≡ Some y → slot (of x) ≡ slot (of y) → i ≡ j
   one i j x y e f same =
       let a = (small i x e).1 in
       let b = (small j y f).1 in
       single i j x y e f (same_parts (of x) (of y) (omega arith) (omega arith))
 
-  distinct : IsDistinct eqb (map (λ x. slot (of x)) xs)
-  distinct = IsDistinct-from_apart eqb (map (λ x. slot (of x)) xs) (λ i j d less lt.
-      let len : length (map (λ x. slot (of x)) xs) ≡ length xs = length-map xs (λ x. slot (of x)) in
-      let x = member xs i (omega arith) in
-      let y = member xs j (omega arith) in
-      let a : get_or (map (λ x. slot (of x)) xs) i d ≡ slot (of x.0) =
-      get_or_from_slice_get (map (λ x. slot (of x)) xs) i (slot (of x.0)) d (mapped xs i x.0 x.1) in
-      let b : get_or (map (λ x. slot (of x)) xs) j d ≡ slot (of y.0) =
-      get_or_from_slice_get (map (λ x. slot (of x)) xs) j (slot (of y.0)) d (mapped xs j y.0 y.1) in
-      elim (eqb_tells (get_or (map (λ x. slot (of x)) xs) i d) (get_or (map (λ x. slot (of x)) xs) j d)) [
-        | inl same ↦ absurd (let both : i ≡ j = one i j x.0 y.0 x.1 y.1 (sym a ∙ same.1 ∙ b) in omega arith)
+  distinct : IsDistinct eqb (slots of xs)
+  distinct = IsDistinct-from_apart eqb (slots of xs) (λ i j d less lt.
+      let here = get_or (slots of xs) i d in
+      let there = get_or (slots of xs) j d in
+      let (x, at_x, is_x) = mapped_at (λ x. slot (of x)) xs i here (slice_get-get_or (slots of xs) i d (omega arith)) in
+      let (y, at_y, is_y) = mapped_at (λ x. slot (of x)) xs j there (slice_get-get_or (slots of xs) j d lt) in
+      elim (eqb_tells here there) [
+        | inl same ↦ absurd (let both : i ≡ j = one i j x y at_x at_y (cc same.1) in omega arith)
         | inr other ↦ other.0
       ])
 
-  below : (ys : List X) → ((i : ℕ) (x : X) → slice_get ys i ≡ Some x → slot (of x) < 272) → (n : ℕ)
-      → list_any (eqb n) (map (λ x. slot (of x)) ys) ≡ true → n < 272
-  below [] h n e = absurd (let bad : ⊥ = cc in bad)
-  below (y ∷ ys) h n e = elim (eqb_tells n (slot (of y))) [
-    | inl same ↦ (let w = h 0 y refl in let f = same.1 in omega arith)
-    | inr other ↦ below ys (λ i x f. h (suc i) x f) n
-        (ap (λ b. b || list_any (eqb n) (map (λ x. slot (of x)) ys)) (sym other.0) ∙ e)
-  ]
-
   few : length xs ≤ 65536
   few =
-      let len : length (map (λ x. slot (of x)) xs) ≤ 272 =
-      length-le_from_distinct_below (map (λ x. slot (of x)) xs) 272 distinct
-      (below xs (λ i x e. let s = small i x e in let a = s.0 in let b = s.1 in omega arith)) in
-      let same = length-map xs (λ x. slot (of x)) in
-      omega arith
+      let len =
+      length-le_from_distinct_below (slots of xs) 272 distinct
+      (below of xs (λ i x e. let s = small i x e in let a = s.0 in let b = s.1 in omega arith)) in
+      let same = length-map xs (λ x. slot (of x)) in omega arith
 
 module _ (g : Grammar) (accepted : IsAccepted g) (p : ℕ) (q : Production) (at : IsProduction g p q) where
   place_few : (j : ℕ) (x : Item) → item_at q j ≡ Some x → j ≤ 16
   place_few zero x e = omega arith
-  place_few (suc j) x e = let w = slice_get_within (stored_items q.items) j x e in
-      let most = accepted.limits.stored_count p q at in omega arith
+  place_few (suc j) x e = omega (arith, slice_get_within (stored_items q.items) j x e, accepted.limits.stored_count p q at)
 
   small_parts : (o : Target) (k : Kind) → HasKind g q o k → (o.place ≤ 16) × (o.attr < 16)
-  small_parts o k is = go (item_at q o.place) refl
+  small_parts o k is = go (item_at q o.place) refl is
     where
-      there : (x : Option Item) → item_at q o.place ≡ x → slice_get (item_kinds g x) o.attr ≡ Some k
-      there x f = subst (λ x. slice_get (item_kinds g x) o.attr ≡ Some k) f is
-
       lex : (a : ℕ) → slice_get (Synthesized ∷ []) a ≡ Some k → a < 16
       lex zero f = omega arith
-      lex (suc a) f = absurd (let bad : ⊥ = cc in bad)
+      lex (suc a) f = cc
 
-      go : (x : Option Item) → item_at q o.place ≡ x → (o.place ≤ 16) × (o.attr < 16)
-      go None f = absurd (let bad : slice_get {X = Kind} [] o.attr ≡ Some k = there None f in let worse : ⊥ = cc in worse)
-      go (Some (item.Symbol s)) f =
-          (place_few o.place (item.Symbol s) f, (attribute_within g s o.attr accepted (k, there (Some (item.Symbol s)) f)).0)
-      go (Some (item.Terminal (Class c))) f =
-          (place_few o.place (item.Terminal (Class c)) f, lex o.attr (there (Some (item.Terminal (Class c))) f))
-      go (Some (item.Terminal (Literal l))) f =
-          absurd (let bad : slice_get {X = Kind} [] o.attr ≡ Some k = there (Some (item.Terminal (Literal l))) f in
-          let worse : ⊥ = cc in worse)
+      go : (x : Option Item) → item_at q o.place ≡ x → slice_get (item_kinds g x) o.attr ≡ Some k → (o.place ≤ 16) × (o.attr < 16)
+      go None f there = cc
+      go (Some (item.Symbol s)) f there =
+          (place_few o.place (item.Symbol s) f, (attribute_within g s o.attr accepted (k, there)).0)
+      go (Some (item.Terminal (Class c))) f there = (place_few o.place (item.Terminal (Class c)) f, lex o.attr there)
+      go (Some (item.Terminal (Literal l))) f there = cc
 
   pub few_rules : length q.rules ≤ 65536
   few_rules =
@@ -127,11 +109,10 @@ module _ (g : Grammar) (accepted : IsAccepted g) (p : ℕ) (q : Production) (at 
           let d : Occ = record { place = 0; attr = []; at = 0 } in
           let x = get_or r.expr.1 i d in
           let y = get_or r.expr.1 j d in
-          let first : RefersTo g q x o = named i x o (slice_get-get_or r.expr.1 i d (omega (arith, long))) e in
-          let second : RefersTo g q y w = named j y w (slice_get-get_or r.expr.1 j d (omega (arith, long))) f in
-          let places : x.place ≡ y.place = sym first.place ∙ ap (λ (o : Target). o.place) same ∙ second.place in
-          let names : Some x.attr ≡ Some y.attr =
-          sym first.name ∙ ap (λ (o : Target). slice_get (item_names g (item_at q o.place)) o.attr) same ∙ second.name in
+          let first = named i x o (slice_get-get_or r.expr.1 i d (omega (arith, long))) e in
+          let second = named j y w (slice_get-get_or r.expr.1 j d (omega (arith, long))) f in
+          let places : x.place ≡ y.place = cc in
+          let names : Some x.attr ≡ Some y.attr = cc in
           let attrs : x.attr ≡ y.attr = cc in
           different i j d less (omega (arith, long)) places attrs
 

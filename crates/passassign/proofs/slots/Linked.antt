@@ -1,6 +1,6 @@
 -- The slots of a table and the dependencies in a list, for a grammar's attributes and arguments.
-use Rattle.std.proofs.Common.{ℕ, zero, suc, ◌≡◌, ◌<◌, ◌*◌, cond, List, Option, Some, None, slice_get, length, map, refl, ap, ◌∙◌}
-use Rattle.std.proofs.Common.{sym, subst, arith}
+use Rattle.std.proofs.Common.{ℕ, zero, suc, ◌≡◌, ◌<◌, ◌*◌, List, Option, Some, None, slice_get, length, map, refl, ap, ◌∙◌}
+use Rattle.std.proofs.Common.{sym, arith}
 use Rattle.std.proofs.lemmas.Bool.{lt-ltb}
 use Rattle.std.proofs.lemmas.Option.{slice_get_within}
 use Rattle.std.proofs.lemmas.List.{length-map}
@@ -13,7 +13,7 @@ use Rattle.ag_grammar.specs.declared.grammar.Rule.{Rule}
 use Rattle.ag_grammar.specs.declared.grammar.Symbol.{Symbol}
 use Rattle.ag_grammar.specs.declared.grammar.Target.{Target}
 use Rattle.ag_grammar.specs.grammars.Accepted.{IsAccepted}
-use Rattle.ag_grammar.specs.grammars.AttributeGrammar.{Grammar, Synthesized, Inherited, IsProduction, item_at, item_kinds}
+use Rattle.ag_grammar.specs.grammars.AttributeGrammar.{Grammar, Synthesized, Inherited, IsProduction, item_at}
 use Rattle.ag_grammar.specs.grammars.AttributeGrammar.{used_kind, defined_kind, symbol_kinds, symbol_names, places_of}
 use Rattle.passassign.specs.Dependencies.{symbol_of, table_slot, IsDependency, AreDependencies}
 use Rattle.passassign.specs.Least.{IsAttribute}
@@ -30,21 +30,21 @@ kinds_names None = refl
 kinds_names (Some s) =
     length-append (map (λ n. Synthesized) s.syn) (map (λ n. Inherited) s.inh)
     ∙ (let a = length-map s.syn (λ n. Synthesized) in let b = length-map s.inh (λ n. Inherited) in
-    let c = length-append s.syn s.inh in omega arith)
+    omega (arith, length-append s.syn s.inh))
 
 -- an attribute's numbers are within the limits
 pub attribute_within : (g : Grammar) (s a : ℕ) → IsAccepted g → IsAttribute g s a → (a < 16) × (s < length g.symbols)
 attribute_within g s a accepted is = go (slice_get g.symbols s) refl
   where
     go : (o : Option Symbol) → slice_get g.symbols s ≡ o → (a < 16) × (s < length g.symbols)
-    go None e =
-        absurd (let bad : slice_get (symbol_kinds None) a ≡ Some is.0 = ap (λ o. slice_get (symbol_kinds o) a) (sym e) ∙ is.1 in
-        let worse : ⊥ = cc in worse)
+    go None e = let bad = rw e at is.1 in cc
     go (Some x) e = (
-      (let w = slice_get_within (symbol_kinds (Some x)) a is.0 (ap (λ o. slice_get (symbol_kinds o) a) (sym e) ∙ is.1) in
-          let n = kinds_names (Some x) in
-          let m = accepted.limits.attribute_count s x e in
-          omega arith),
+      omega (
+        arith,
+        slice_get_within (symbol_kinds (Some x)) a is.0 (rw e at is.1),
+        kinds_names (Some x),
+        accepted.limits.attribute_count s x e,
+      ),
       slice_get_within g.symbols s x e,
     )
 
@@ -57,43 +57,36 @@ pub slot_same : (s a t b : ℕ) → a < 16 → b < 16 → slot_of s a ≡ slot_o
 slot_same s a t b la lb e = (omega arith, omega arith)
 
 pub state_in : (states : List State) (s a : ℕ) → a < 16 → state_of states s a ≡ state_at states (slot_of s a)
-state_in states s a lt = ap (λ b. cond b (state_at states (slot_of s a)) Absent) (lt-ltb a 16 lt)
-
-open_given : (x : State) → x ≡ Open → pass_of_state x ≡ None
-open_given x e = ap pass_of_state e
+state_in states s a lt = rw (lt-ltb a 16 lt)
 
 is_open_state : (x : State) → pass_of_state x ≡ None → (x ≡ Absent → ⊥) → x ≡ Open
 is_open_state Absent e there = absurd (there refl)
 is_open_state Open e there = refl
-is_open_state (Assigned p) e there = absurd (let bad : ⊥ = cc in bad)
-
-not_absent : (x : State) → x ≡ Open → x ≡ Absent → ⊥
-not_absent x e f = let bad : Open ≡ Absent = sym e ∙ f in cc
+is_open_state (Assigned p) e there = cc
 
 -- an attribute has no pass if the table has it as open
-pub open_there : (g : Grammar) (all : List Dependency) (states : List State) → BelongTo g all states → (s a : ℕ) → a < 16
+pub open_there : {g : Grammar} {all : List Dependency} {states : List State} → BelongTo g all states → (s a : ℕ) → a < 16
     → state_at states (slot_of s a) ≡ Open → IsOpen g (table_passes states) s a
-open_there g all states of s a lt e =
-    let f : state_of states s a ≡ Open = state_in states s a lt ∙ e in
-    ((of.table.there s a).0 (not_absent (state_of states s a) f), open_given (state_of states s a) f)
+open_there {states} of s a lt e =
+    let f : state_of states s a ≡ Open = cc (state_in states s a lt) in ((of.table.there s a).0 (λ bad. cc), rw f)
 
-pub open_state : (g : Grammar) (all : List Dependency) (states : List State) → BelongTo g all states → (s a : ℕ)
+pub open_state : {g : Grammar} {all : List Dependency} {states : List State} → BelongTo g all states → (s a : ℕ)
     → IsOpen g (table_passes states) s a → (a < 16) × (state_at states (slot_of s a) ≡ Open)
-open_state g all states of s a i =
+open_state {g} {states = states} of s a i =
     let lt = (attribute_within g s a of.accepted i.0).0 in
-    (lt, sym (state_in states s a lt) ∙ is_open_state (state_of states s a) i.1 ((of.table.there s a).1 i.0))
+    let now = is_open_state (state_of states s a) i.1 ((of.table.there s a).1 i.0) in (lt, cc (state_in states s a lt))
 
 pub places_item : (q : Production) (j : ℕ) → slice_get (places_of q) j ≡ item_at q j
 places_item q zero = refl
 places_item q (suc j) = refl
 
 pub symbol_is : (x : Option Item) (s : ℕ) → symbol_of x ≡ Some s → x ≡ Some (item.Symbol s)
-symbol_is None s e = absurd (let bad : ⊥ = cc in bad)
-symbol_is (Some (item.Symbol t)) s e = let f : t ≡ s = cc in ap (λ t. Some (item.Symbol t)) f
-symbol_is (Some (item.Terminal t)) s e = absurd (let bad : ⊥ = cc in bad)
+symbol_is None s e = cc
+symbol_is (Some (item.Symbol t)) s e = let f : t ≡ s = cc in cc
+symbol_is (Some (item.Terminal t)) s e = cc
 
 slot_symbol : (y : Option ℕ) (a k : ℕ) → table_slot y a ≡ Some k → (s : ℕ) × (y ≡ Some s) × (k ≡ slot_of s a)
-slot_symbol None a k e = absurd (let bad : ⊥ = cc in bad)
+slot_symbol None a k e = cc
 slot_symbol (Some s) a k e = (s, refl, cc)
 
 -- The parts of a dependency in its grammar.
@@ -115,7 +108,7 @@ pub record Parts (g : Grammar) (u : Dependency) : Type 0 where
 pub parts : (g : Grammar) (u : Dependency) → IsDependency g.productions u → Parts g u
 parts g u (p, q, is_q, (r, rule, is_rule, (s, is_s, (i, o, is_o, (k, is_k, e))))) =
     let w = slot_symbol (symbol_of (slice_get (places_of q) o.place)) o.attr k is_k in
-    subst (Parts g) (sym e) (record {
+    rw e (record {
       production = q;
       rule = rule;
       argument = o;
@@ -131,24 +124,21 @@ parts g u (p, q, is_q, (r, rule, is_rule, (s, is_s, (i, o, is_o, (k, is_k, e))))
       at = w.2;
     })
 
-module _ (g : Grammar) (u : Dependency) (accepted : IsAccepted g) (p : Parts g u) where
+module _ {g : Grammar} {u : Dependency} (accepted : IsAccepted g) (p : Parts g u) where
   -- the target of a dependency is an attribute, and so is its argument
   pub target_is : IsAttribute g u.strike.symbol u.strike.attr
-  target_is =
-      let k = (accepted.complete u.strike.production p.production p.is_production).no_other u.strike.rule p.rule p.is_rule in (
-        defined_kind p.rule.target.place,
-        subst (λ a. slice_get (symbol_kinds (slice_get g.symbols u.strike.symbol)) a ≡ Some (defined_kind p.rule.target.place))
-            p.attr
-            (subst (λ x. slice_get (item_kinds g x) p.rule.target.attr ≡ Some (defined_kind p.rule.target.place)) p.symbol
-            k),
-      )
+  target_is = (
+    defined_kind p.rule.target.place,
+    rw (p.symbol, p.attr) at
+        ((accepted.complete u.strike.production p.production p.is_production).no_other u.strike.rule p.rule p.is_rule),
+  )
 
   argument_is : IsAttribute g p.of p.argument.attr
   argument_is = (
     used_kind p.argument.place,
-    subst (λ x. slice_get (item_kinds g x) p.argument.attr ≡ Some (used_kind p.argument.place)) p.is_symbol
-        (accepted.normal u.strike.production p.production p.is_production u.strike.rule p.rule p.is_rule u.strike.arg
-        p.argument p.is_argument),
+    rw p.is_symbol at
+        (accepted.normal u.strike.production p.production p.is_production u.strike.rule p.rule p.is_rule u.strike.arg p.argument
+        p.is_argument),
   )
 
   pub argument_within : p.argument.attr < 16
@@ -160,8 +150,8 @@ module _ (g : Grammar) (u : Dependency) (accepted : IsAccepted g) (p : Parts g u
       let t = attribute_within g u.strike.symbol u.strike.attr accepted target_is in
       let a = attribute_within g p.of p.argument.attr accepted argument_is in
       let at = p.at in
-      (omega (arith, t.0, t.1, a.0, a.1, at, e), omega (arith, t.0, t.1, e))
+      (omega arith, omega arith)
 
 pub all_in_table : (g : Grammar) (all : List Dependency) → IsAccepted g → AreDependencies g.productions all → (count : ℕ)
     → count ≡ length g.symbols * 16 → (u : Dependency) → Has all u → (u.argument < count) × (target_of u < count)
-all_in_table g all accepted are count e u h = in_table g u accepted (parts g u ((are u).0 h)) count e
+all_in_table g all accepted are count e u h = in_table accepted (parts g u ((are u).0 h)) count e

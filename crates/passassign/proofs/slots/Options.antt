@@ -1,11 +1,9 @@
 -- Facts about a pass that an attribute may have.
-use Rattle.std.proofs.Common.{ℕ, ◌≡◌, Option, Some, None, refl, sym, ◌∙◌}
+use Rattle.std.proofs.Common.{ℕ, ◌≡◌, ◌⊎◌, inl, inr, Option, Some, None, refl}
 
-pub some_none : {A : Type 0} (x : Option ℕ) (p : ℕ) → x ≡ Some p → x ≡ None → A
-some_none x p e f = let bad : Some p ≡ None = sym e ∙ f in let worse : ⊥ = cc in absurd worse
-
-pub one_pass : (x : Option ℕ) (p j : ℕ) → x ≡ Some p → x ≡ Some j → p ≡ j
-one_pass x p j e f = let both : Some p ≡ Some j = sym e ∙ f in cc
+pub some_or_none : (x : Option ℕ) → ((p : ℕ) × (x ≡ Some p)) ⊎ (x ≡ None)
+some_or_none None = inr refl
+some_or_none (Some p) = inl (p, refl)
 
 pub none_of : (x : Option ℕ) → ((p : ℕ) → x ≡ Some p → ⊥) → x ≡ None
 none_of None h = refl

@@ -1,6 +1,6 @@
 -- The rows of a table, as they are made one after the other.
-use Rattle.std.proofs.Common.{ℕ, ◌≡◌, ◌<◌, ◌≤◌, ◌+◌, ◌*◌, ◌++◌, List, [], ◌∷◌, Some, slice_get, length, unwrap_or, inl, inr, ap}
-use Rattle.std.proofs.Common.{◌∙◌, sym, subst, arith}
+use Rattle.std.proofs.Common.{ℕ, ◌≡◌, ◌<◌, ◌≤◌, ◌+◌, ◌*◌, ◌++◌, List, [], ◌∷◌, Some, slice_get, length, unwrap_or, inl, inr}
+use Rattle.std.proofs.Common.{arith}
 use Rattle.std.proofs.lemmas.Bool.{cases_eq, cases_lt}
 use Rattle.std.proofs.lemmas.List.{get_or_append_left, get_or_push, map-append}
 use Rattle.std.proofs.lemmas.Option.{slice_get_past, slice_get_within}
@@ -27,32 +27,31 @@ rows_push : (rows : List (List ℕ)) (row : List ℕ) (symbols : List Symbol) (s
     → AreRowsBelow symbols states n rows
     → AreRowsBelow symbols states (n + 1) (rows ++ row ∷ [])
 rows_push rows row symbols states n symbol is count has h =
-    record { count = more; within = let w = slice_get_within symbols n symbol is in omega arith; len = len; passes = passes }
+    record { count = more; within = omega (arith, slice_get_within symbols n symbol is); len = len; passes = passes }
   where
     more : length (rows ++ row ∷ []) ≡ n + 1
-    more = length-append rows (row ∷ []) ∙ (let e = h.count in omega arith)
+    more = omega (arith, length-append rows (row ∷ []), h.count)
 
     same : (s : ℕ) → s < n → passes_of (rows ++ row ∷ []) s ≡ passes_of rows s
-    same s lt = get_or_append_left rows (row ∷ []) [] s (let e = h.count in omega arith)
+    same s lt = get_or_append_left rows (row ∷ []) [] s (omega arith)
 
     here : (s : ℕ) → s ≡ n → passes_of (rows ++ row ∷ []) s ≡ row
-    here s e = get_or_push rows row [] s (h.count ∙ sym e)
+    here s e = get_or_push rows row [] s cc
 
     symbol_here : (s : ℕ) → s ≡ n → attribute_count (slice_get symbols s) ≡ length (attribute_names symbol)
-    symbol_here s e = ap (λ s. attribute_count (slice_get symbols s)) e ∙ ap attribute_count is
+    symbol_here s e = rw (e, is)
 
     len : (s : ℕ) → s < n + 1 → length (passes_of (rows ++ row ∷ []) s) ≡ attribute_count (slice_get symbols s)
     len s lt = elim (cases_eq s n) [
-      | inl e ↦ ap length (here s e) ∙ count ∙ sym (symbol_here s e)
-      | inr ne ↦ (let l : s < n = omega arith in ap length (same s l) ∙ h.len s l)
+      | inl e ↦ cc (here s e, symbol_here s e)
+      | inr ne ↦ (let l : s < n = omega arith in rw (same s l) (h.len s l))
     ]
 
     passes : (s a : ℕ) → s < n + 1 → a < attribute_count (slice_get symbols s)
         → slice_get (passes_of (rows ++ row ∷ []) s) a ≡ Some (unwrap_or (pass_of_state (state_at states (slot_of s a))) 0)
     passes s a lt less = elim (cases_eq s n) [
-      | inl e ↦ ap (λ r. slice_get r a) (here s e) ∙ has a (subst (λ m. a < m) (symbol_here s e) less)
-          ∙ ap (λ s. Some (unwrap_or (pass_of_state (state_at states (s * 16 + a))) 0)) (sym e)
-      | inr ne ↦ (let l : s < n = omega arith in ap (λ r. slice_get r a) (same s l) ∙ h.passes s a l less)
+      | inl e ↦ rw (here s e, e) (has a (rw (symbol_here s e) at less))
+      | inr ne ↦ (let l : s < n = omega arith in rw (same s l) (h.passes s a l less))
     ]
 
 pub rows_more : (table rest : List (Vec ℕ)) (row : Vec ℕ) (symbols : List Symbol) (states : List State) (n : ℕ) (symbol : Symbol)
@@ -62,26 +61,26 @@ pub rows_more : (table rest : List (Vec ℕ)) (row : Vec ℕ) (symbols : List Sy
     → AreRowsBelow symbols states n (numbers_of table)
     → AreRowsBelow symbols states (n + 1) (numbers_of rest)
 rows_more table rest row symbols states n symbol e is count has h =
-    subst (AreRowsBelow symbols states (n + 1)) (sym (ap numbers_of e ∙ map-append (λ (v : Vec ℕ). v.items) table (row ∷ [])))
+    rw (e, map-append)
     (rows_push (numbers_of table) row.items symbols states n symbol is count has h)
 
-pub rows_end : (symbols : List Symbol) (states : List State) (n : ℕ) (rows : List (List ℕ)) → length symbols ≤ n
+pub rows_end : {symbols : List Symbol} {states : List State} {n : ℕ} {rows : List (List ℕ)} → length symbols ≤ n
     → AreRowsBelow symbols states n rows → AreRowsOfTable symbols states rows
-rows_end symbols states n rows most h =
-    record { count = let e = h.count in let w = h.within in omega arith; len = len; passes = passes }
+rows_end {symbols} {states} {n} {rows} most h =
+    record { count = omega arith; len = len; passes = passes }
   where
     none : (s : ℕ) → n ≤ s → attribute_count (slice_get symbols s) ≡ 0
-    none s le = ap attribute_count (slice_get_past symbols s (omega arith))
+    none s le = rw (slice_get_past symbols s (omega arith))
 
     len : (s : ℕ) → length (passes_of rows s) ≡ attribute_count (slice_get symbols s)
     len s = elim (cases_lt s n) [
       | inl lt ↦ h.len s lt
-      | inr le ↦ ap length (get_or-eq_default rows [] (let e = h.count in omega arith)) ∙ sym (none s le)
+      | inr le ↦ cc (get_or-eq_default rows [] {n = s} (omega arith), none s le)
     ]
 
     passes : (s a : ℕ) → a < attribute_count (slice_get symbols s)
         → slice_get (passes_of rows s) a ≡ Some (unwrap_or (pass_of_state (state_at states (slot_of s a))) 0)
     passes s a less = elim (cases_lt s n) [
       | inl lt ↦ h.passes s a lt less
-      | inr le ↦ absurd (let e = none s le in omega arith)
+      | inr le ↦ absurd (omega (arith, none s le))
     ]

@@ -1,5 +1,5 @@
 -- Lists to which members are added.
-use Rattle.std.proofs.Common.{ℕ, ◌≡◌, ◌≤◌, ◌+◌, ◌↔◌, ◌++◌, List, [], ◌∷◌, Some, slice_get, length, inl, inr, ap, ◌∙◌, sym, subst}
+use Rattle.std.proofs.Common.{ℕ, ◌≡◌, ◌≤◌, ◌+◌, ◌↔◌, ◌++◌, List, [], ◌∷◌, Some, slice_get, length, inl, inr, sym}
 use Rattle.std.proofs.Common.{arith}
 use Rattle.std.proofs.lemmas.Bool.{cases_eq}
 use Rattle.std.proofs.lemmas.Option.{slice_get_within}
@@ -10,17 +10,16 @@ use Rattle.passassign.proofs.slots.Lists.{has_kept, has_put, has_cases}
 pub adds_push : {X : Type 0} (xs : List X) (y : X) → Adds (λ u. u ≡ y) xs (xs ++ y ∷ [])
 adds_push xs y = record {
   kept = λ x h. has_kept xs y x h;
-  all = λ x e. subst (Has (xs ++ y ∷ [])) (sym e) (has_put xs y);
+  all = λ x e. rw e (has_put xs y);
   only = λ x h. elim (has_cases xs y x h) [ inl old ↦ inl old | inr e ↦ inr (sym e) ];
 }
 
-pub adds_more : {X Y : Type 0} (R : ℕ → X → Y → Type 0) (xs : List X) (i : ℕ) (x : X) (a b c : List Y) → slice_get xs i ≡ Some x
-    → Adds (OfPrefix R xs i) a b → Adds (R i x) b c → Adds (OfPrefix R xs (i + 1)) a c
-adds_more R xs i x a b c is m n = record {
+pub adds_more : {X Y : Type 0} {R : ℕ → X → Y → Type 0} (xs : List X) (i : ℕ) {x : X} {a b c : List Y}
+    → slice_get xs i ≡ Some x → Adds (OfPrefix R xs i) a b → Adds (R i x) b c → Adds (OfPrefix R xs (i + 1)) a c
+adds_more {R = R} xs i {x} is m n = record {
   kept = λ y h. n.kept y (m.kept y h);
   all = λ y h. elim (cases_eq h.0 i) [
-    | inl same ↦ (let e : Some h.1 ≡ Some x = sym h.3 ∙ ap (slice_get xs) same ∙ is in let f : h.1 ≡ x = cc in
-        n.all y (subst (λ k. R k x y) same (subst (λ z. R h.0 z y) f h.4)))
+    | inl same ↦ (let f : h.1 ≡ x = cc in n.all y (rw (same, f) at h.4))
     | inr other ↦ (let l = h.2 in n.kept y (m.all y (h.0, h.1, omega arith, h.3, h.4)))
   ];
   only = λ y h. elim (n.only y h) [
@@ -32,30 +31,30 @@ adds_more R xs i x a b c is m n = record {
   ];
 }
 
-pub adds_all : {X Y : Type 0} (R : ℕ → X → Y → Type 0) (xs : List X) (i : ℕ) (a b : List Y) → length xs ≤ i
+pub adds_all : {X Y : Type 0} {R : ℕ → X → Y → Type 0} (xs : List X) (i : ℕ) {a b : List Y} → length xs ≤ i
     → Adds (OfPrefix R xs i) a b → Adds (OfEach R xs) a b
-adds_all R xs i a b most m = record {
+adds_all xs i most m = record {
   kept = m.kept;
   all = λ y h. let w = slice_get_within xs h.0 h.1 h.2 in m.all y (h.0, h.1, omega arith, h.2, h.3);
   only = λ y h. elim (m.only y h) [ inl old ↦ inl old | inr e ↦ inr (e.0, e.1, e.3, e.4) ];
 }
 
 -- adding by equivalent properties is the same
-pub adds_same : {Y : Type 0} (P Q : Y → Type 0) (a b : List Y) → ((y : Y) → P y ↔ Q y) → Adds P a b → Adds Q a b
-adds_same P Q a b same m = record {
+pub adds_same : {Y : Type 0} {P Q : Y → Type 0} {a b : List Y} → ((y : Y) → P y ↔ Q y) → Adds P a b → Adds Q a b
+adds_same same m = record {
   kept = m.kept;
   all = λ y h. m.all y ((same y).1 h);
   only = λ y h. elim (m.only y h) [ inl old ↦ inl old | inr e ↦ inr ((same y).0 e) ];
 }
 
-pub adds_none : {Y : Type 0} (P : Y → Type 0) (a : List Y) → ((y : Y) → P y → ⊥) → Adds P a a
-adds_none P a none = record { kept = λ y h. h; all = λ y h. absurd (none y h); only = λ y h. inl h }
+pub adds_none : {Y : Type 0} {P : Y → Type 0} {a : List Y} → ((y : Y) → P y → ⊥) → Adds P a a
+adds_none none = record { kept = λ y h. h; all = λ y h. absurd (none y h); only = λ y h. inl h }
 
 -- elements added to an empty list are all its elements
-pub adds_only : {Y : Type 0} (P : Y → Type 0) (a : List Y) → Adds P [] a → (y : Y) → Has a y ↔ P y
-adds_only {Y} P a m y = (
+pub adds_only : {Y : Type 0} {P : Y → Type 0} {a : List Y} → Adds P [] a → (y : Y) → Has a y ↔ P y
+adds_only m y = (
   (λ h. elim (m.only y h) [
-    | inl old ↦ absurd (let e : slice_get {X = Y} [] old.0 ≡ Some y = old.1 in let bad : ⊥ = cc in bad)
+    | inl old ↦ (let bad = old.1 in cc)
     | inr e ↦ e
   ]),
   m.all y,

@@ -1,7 +1,6 @@
 -- The certificate of the grammar `both_ways`, whose productions need both directions.
-use Rattle.std.proofs.Common.{ℕ, ◌+◌, ◌≡◌, inl, inr, [], ◌∷◌, Some, slice_get, refl, ap, sym, subst, arith}
+use Rattle.std.proofs.Common.{ℕ, ◌+◌, ◌≡◌, inl, inr, [], ◌∷◌, refl, ap, arith}
 use Rattle.ag_grammar.specs.Lists.{Each, Differ}
-use Rattle.ag_grammar.specs.declared.grammar.Production.{Production}
 use Rattle.ag_grammar.specs.declared.grammar.Rule.{Rule}
 use Rattle.ag_grammar.specs.declared.grammar.Target.{Target}
 use Rattle.ag_grammar.specs.grammars.AttributeGrammar.{Synthesized}
@@ -35,7 +34,7 @@ all_of d p r first =
     (λ s a i. all_struck p r i.0 (s, a) i.1)
 
 apart : (x y : ℕ × ℕ) → (x.0 + x.1 ≡ y.0 + y.1 → ⊥) → x ≡ y → ⊥
-apart x y h e = h (ap (λ z. z.0 + z.1) e)
+apart x y h e = h cc
 
 single : Differ both_ways_stuck.set
 single =
@@ -81,11 +80,9 @@ pub exchanged_refused : IsCertificate both_ways exchanged → ⊥
 exchanged_refused h =
     let one = h.odd.good.2 in
     let first = production_r (rule_out ∷ rule_first ∷ rule_second ∷ []) in
-    let q : first ≡ one.production = let e : Some first ≡ Some one.production = one.is_production in cc in
-    let r : rule_first ≡ one.rule = let e : Some rule_first ≡ Some one.rule =
-    subst (λ (q : Production). slice_get q.rules 1 ≡ Some one.rule) (sym q) one.is_rule in cc in
-    let o : attribute 2 0 ≡ one.argument = let e : Some (attribute 2 0) ≡ Some one.argument =
-    subst (λ (r : Rule). slice_get r.args 0 ≡ Some one.argument) (sym r) one.is_argument in cc in
+    let q : first ≡ one.production = cc one.is_production in
+    let r : rule_first ≡ one.rule = cc (rw (← q) at one.is_rule) in
+    let o : attribute 2 0 ≡ one.argument = cc (rw (← r) at one.is_argument) in
     let target : 1 ≡ one.rule.target.place = ap (λ (r : Rule). r.target.place) r in
     let place : 2 ≡ one.argument.place = ap (λ (o : Target). o.place) o in
     no_reason RightToLeft (Members exchanged.set) one.production one.rule.target.place one.argument (λ pos e. omega arith)

@@ -1,16 +1,15 @@
 -- Struck attributes, named by their numbers and by their slots in the table.
-use Rattle.std.proofs.Common.{ℕ, zero, suc, ◌≡◌, ◌<◌, ◌⊎◌, List, [], ◌∷◌, slice_get, Some, inl, inr, refl, ap, ◌∙◌, sym, subst}
+use Rattle.std.proofs.Common.{ℕ, zero, suc, ◌≡◌, ◌<◌, ◌⊎◌, List, [], ◌∷◌, slice_get, Some, inl, inr, refl}
 use Rattle.ag_grammar.specs.Lists.{Has}
-use Rattle.ag_grammar.specs.grammars.AttributeGrammar.{Grammar, item_at}
+use Rattle.ag_grammar.specs.grammars.AttributeGrammar.{Grammar}
 use Rattle.ag_grammar.specs.declared.direction.Direction.{Direction}
-use Rattle.passassign.specs.Certificate.{Attributes, IsStruckBy, IsOneOf, IsSameOrLater, IsReason, IsGood, AreGood}
+use Rattle.passassign.specs.Certificate.{Attributes, IsStruckBy, IsReason, IsGood, AreGood}
 use Rattle.passassign.specs.Making.{IsOpen}
 use Rattle.passassign.specs.Searching.{IsBarred, IsStruckAt, BelongTo}
-use Rattle.passassign.specs.Tables.{slot_of, state_at, table_passes}
+use Rattle.passassign.specs.Tables.{slot_of, table_passes}
 use Rattle.passassign.specs.declared.dependency.Dependency.{Dependency}
 use Rattle.passassign.specs.declared.stuck.Strike.{Strike}
 use Rattle.passassign.specs.declared.table.State.{State}
-use Rattle.passassign.specs.declared.table.State.TheVariants.{Open}
 use Rattle.passassign.proofs.slots.Linked.{Parts, argument_within, slot_same, open_there, open_state}
 
 pub strikes_has : (xs : List Strike) (s a : ℕ) → IsStruckBy xs s a → (x : Strike) × Has xs x × (x.symbol ≡ s) × (x.attr ≡ a)
@@ -21,8 +20,8 @@ strikes_has (x ∷ xs) s a h = elim h [
 ]
 
 has_strikes_at : (xs : List Strike) (i : ℕ) (x : Strike) → slice_get xs i ≡ Some x → IsStruckBy xs x.symbol x.attr
-has_strikes_at [] i x e = absurd (let bad : ⊥ = cc in bad)
-has_strikes_at (y ∷ xs) zero x e = let f : y ≡ x = cc in inl (ap (λ (z : Strike). z.symbol) f, ap (λ (z : Strike). z.attr) f)
+has_strikes_at [] i x e = cc
+has_strikes_at (y ∷ xs) zero x e = let f : y ≡ x = cc in inl (cc, cc)
 has_strikes_at (y ∷ xs) (suc i) x e = inr (has_strikes_at xs i x e)
 
 pub has_strikes : (xs : List Strike) (x : Strike) → Has xs x → IsStruckBy xs x.symbol x.attr
@@ -31,28 +30,25 @@ has_strikes xs x h = has_strikes_at xs h.0 x h.1
 pub strikes_open : (g : Grammar) (d : Direction) (candidate : Attributes) (struck xs : List Strike)
     → AreGood g d candidate struck xs → (s a : ℕ) → IsStruckBy xs s a → candidate s a
 strikes_open g d candidate struck [] good s a h = absurd h
-strikes_open g d candidate struck (x ∷ xs) (is, new, one, more) s a h =
-    go h (λ m. strikes_open g d candidate (x ∷ struck) xs more s a m)
-  where
-    go : IsStruckBy (x ∷ xs) s a → (IsStruckBy xs s a → candidate s a) → candidate s a
-    go (inl e) later = subst (λ s. candidate s a) e.0 (subst (candidate x.symbol) e.1 is)
-    go (inr m) later = later m
+strikes_open g d candidate struck (x ∷ xs) (is, new, one, more) s a (inl e) = rw (← e.0, ← e.1) is
+strikes_open g d candidate struck (x ∷ xs) (is, new, one, more) s a (inr m) =
+    strikes_open g d candidate (x ∷ struck) xs more s a m
 
 -- the attributes that a search has struck, named in both ways
-module _ (g : Grammar) (all : List Dependency) (d : Direction) (states : List State) (xs : List Strike)
+module _ {g : Grammar} {all : List Dependency} (d : Direction) {states : List State} (xs : List Strike)
     (of : BelongTo g all states) (good : AreGood g d (IsOpen g (table_passes states)) [] xs) where
   pub struck_within : (x : Strike) → Has xs x → x.attr < 16
   struck_within x h =
-      (open_state g all states of x.symbol x.attr
+      (open_state of x.symbol x.attr
       (strikes_open g d (IsOpen g (table_passes states)) [] xs good x.symbol x.attr (has_strikes xs x h))).0
 
   pub struck_at : (s a : ℕ) → IsStruckBy xs s a → IsStruckAt xs (slot_of s a)
-  struck_at s a h = let o = strikes_has xs s a h in (o.0, o.1, ap (λ s. slot_of s o.0.attr) o.2 ∙ ap (slot_of s) o.3)
+  struck_at s a h = let o = strikes_has xs s a h in (o.0, o.1, cc (o.2, o.3))
 
   pub at_struck : (s a : ℕ) → a < 16 → IsStruckAt xs (slot_of s a) → IsStruckBy xs s a
   at_struck s a lt h =
       let e = slot_same h.0.symbol h.0.attr s a (struck_within h.0 h.1) lt h.2 in
-      subst (λ s. IsStruckBy xs s a) e.0 (subst (IsStruckBy xs h.0.symbol) e.1 (has_strikes xs h.0 h.1))
+      rw (← e.0, ← e.1) (has_strikes xs h.0 h.1)
 
   -- the strike of a dependency is good if the dependency bars its target from the pass, or if its argument is struck
   pub good_by : (u : Dependency) → Parts g u → IsBarred d states u ⊎ IsStruckAt xs u.argument
@@ -71,17 +67,13 @@ module _ (g : Grammar) (all : List Dependency) (d : Direction) (states : List St
       }
     where
       lt : p.argument.attr < 16
-      lt = argument_within g u of.accepted p
-
-      is_one : (P : Attributes) → P p.of p.argument.attr → IsOneOf P (item_at p.production p.argument.place) p.argument.attr
-      is_one P h = subst (λ y. IsOneOf P y p.argument.attr) (sym p.is_symbol) h
+      lt = argument_within of.accepted p
 
       reason : IsReason d (IsOpen g (table_passes states)) xs p.production p.rule.target.place p.argument
       reason = elim why [
         | inl b ↦ inr (
-          subst (λ j. IsSameOrLater d j p.argument.place) p.place (subst (IsSameOrLater d u.place) p.from b.0),
-          is_one (IsOpen g (table_passes states))
-              (open_there g all states of p.of p.argument.attr lt (subst (λ k. state_at states k ≡ Open) p.at b.1)),
+          rw (p.place, p.from) at b.0,
+          rw p.is_symbol (open_there of p.of p.argument.attr lt (rw p.at at b.1)),
         )
-        | inr h ↦ inl (is_one (IsStruckBy xs) (at_struck p.of p.argument.attr lt (subst (IsStruckAt xs) p.at h)))
+        | inr h ↦ inl (rw p.is_symbol (at_struck p.of p.argument.attr lt (rw p.at at h)))
       ]

@@ -8,27 +8,23 @@ use Rattle.passassign.specs.Least.{Partial}
 use Rattle.passassign.specs.Making.{IsOpen}
 use Rattle.passassign.proofs.strikes.Reasons.{good_more}
 
-grow : (g : Grammar) (d : Direction) (candidate : Attributes) (earlier xs : List Strike) → AreGood g d candidate earlier xs
-    → (x : Strike) → candidate x.symbol x.attr → (IsStruckBy earlier x.symbol x.attr → ⊥) → (IsStruckBy xs x.symbol x.attr → ⊥)
-    → (struck : List Strike) → ((s a : ℕ) → IsStruckBy struck s a → IsStruckBy earlier s a ⊎ IsStruckBy xs s a)
-    → IsGood g d candidate struck x → AreGood g d candidate earlier (xs ++ x ∷ [])
-grow g d candidate earlier [] good x is new fresh struck h one = (
-  is,
-  new,
-  good_more g d candidate candidate (λ s a i. i) struck earlier
-      (λ s a i. elim (h s a i) [ inl e ↦ e | inr bad ↦ absurd bad ]) x one,
-  tt,
-)
-grow g d candidate earlier (y ∷ ys) (first, new_y, is_y, more) x is new fresh struck h one = (
-  first,
-  new_y,
-  is_y,
-  grow g d candidate (y ∷ earlier) ys more x is (λ i. elim i [ inl e ↦ fresh (inl e) | inr e ↦ new e ])
-      (λ i. fresh (inr i)) struck
-      (λ s a i. elim (h s a i) [ inl e ↦ inl (inr e) | inr t ↦ elim t [ inl e ↦ inl (inl e) | inr e ↦ inr e ] ]) one,
-)
+-- one more strike x, which is good after the strikes `struck`, at the end of a list that has these
+module _ (g : Grammar) (d : Direction) (candidate : Attributes) (x : Strike) (is : candidate x.symbol x.attr)
+    (struck : List Strike) (one : IsGood g d candidate struck x) where
+  grow : (earlier xs : List Strike) → AreGood g d candidate earlier xs → (IsStruckBy earlier x.symbol x.attr → ⊥)
+      → (IsStruckBy xs x.symbol x.attr → ⊥) → ((s a : ℕ) → IsStruckBy struck s a → IsStruckBy earlier s a ⊎ IsStruckBy xs s a)
+      → AreGood g d candidate earlier (xs ++ x ∷ [])
+  grow earlier [] good new fresh h =
+      (is, new, good_more one (λ s a i. i) (λ s a i. elim (h s a i) [ inl e ↦ e | inr bad ↦ absurd bad ]), tt)
+  grow earlier (y ∷ ys) (first, new_y, is_y, more) new fresh h = (
+    first,
+    new_y,
+    is_y,
+    grow (y ∷ earlier) ys more (λ i. elim i [ inl e ↦ fresh (inl e) | inr e ↦ new e ]) (λ i. fresh (inr i))
+        (λ s a i. elim (h s a i) [ inl e ↦ inl (inr e) | inr (inl e) ↦ inl (inl e) | inr (inr e) ↦ inr e ]),
+  )
 
 pub strikes_grow : (g : Grammar) (d : Direction) (m : Partial) (xs : List Strike) (x : Strike) → AreGood g d (IsOpen g m) [] xs
     → IsOpen g m x.symbol x.attr → (IsStruckBy xs x.symbol x.attr → ⊥) → IsGood g d (IsOpen g m) xs x
     → AreGood g d (IsOpen g m) [] (xs ++ x ∷ [])
-strikes_grow g d m xs x good is fresh one = grow g d (IsOpen g m) [] xs good x is (λ i. i) fresh xs (λ s a i. inr i) one
+strikes_grow g d m xs x good is fresh one = grow g d (IsOpen g m) x is xs one [] xs good (λ i. i) fresh (λ s a i. inr i)

@@ -1,7 +1,5 @@
 -- Strikes in the sample grammars.
-use Rattle.std.proofs.Common.{ℕ, ◌≡◌, ◌≤◌, inl, inr, List, [], ◌∷◌, Option, Some, None, refl, arith}
-use Rattle.ag_grammar.specs.declared.grammar.Item.TheVariants as item
-use Rattle.ag_grammar.specs.declared.grammar.Item.{Item}
+use Rattle.std.proofs.Common.{ℕ, ◌≡◌, ◌≤◌, inl, inr, List, [], ◌∷◌, refl, arith}
 use Rattle.ag_grammar.specs.declared.grammar.Production.{Production}
 use Rattle.ag_grammar.specs.declared.grammar.Rule.{Rule}
 use Rattle.ag_grammar.specs.declared.grammar.Target.{Target}
@@ -9,19 +7,15 @@ use Rattle.ag_grammar.specs.grammars.AttributeGrammar.{Grammar, IsProduction, it
 use Rattle.ag_grammar.specs.declared.direction.Direction.{Direction}
 use Rattle.ag_grammar.specs.grammars.Passes.{IsBefore}
 use Rattle.ag_grammar.specs.grammars.Sample.{attribute, production_r, production_a, rule_out, rule_s}
-use Rattle.passassign.specs.Certificate.{Attributes, IsStruckBy, IsOneOf, IsReason, AreGood}
+use Rattle.passassign.specs.Certificate.{Attributes, IsStruckBy, IsReason, AreGood}
 use Rattle.passassign.specs.Sample.{strike}
-
-none_struck : (x : Option Item) (a : ℕ) → IsOneOf (IsStruckBy []) x a → ⊥
-none_struck None a i = i
-none_struck (Some (item.Symbol s)) a i = i
-none_struck (Some (item.Terminal t)) a i = i
+use Rattle.passassign.proofs.strikes.Reasons.{one_is}
 
 -- if no attribute is struck yet, an argument that is neither at the target's child nor at a later one is not
 -- a reason
 pub no_reason : (d : Direction) (candidate : Attributes) (q : Production) (j : ℕ) (o : Target) → (1 ≤ j → o.place ≡ j → ⊥)
     → (1 ≤ j → IsBefore d j o.place → ⊥) → IsReason d candidate [] q j o → ⊥
-no_reason d candidate q j o own later (inl i) = none_struck (item_at q o.place) o.attr i
+no_reason d candidate q j o own later (inl i) = (one_is (IsStruckBy []) (item_at q o.place) o.attr i).2
 no_reason d candidate q j o own later (inr ((pos, some, w), i)) = elim w [ inl e ↦ own pos e | inr b ↦ later pos b ]
 
 -- if A.i is struck, so are A.s and R.out
@@ -30,7 +24,7 @@ pub others_good : (g : Grammar) (rules : List Rule) → IsProduction g 0 (produc
     → AreGood g d candidate (strike 1 1 p r ∷ []) (strike 1 0 1 0 ∷ strike 0 0 0 0 ∷ [])
 others_good g rules first second d candidate p r s out = (
   s,
-  (λ i. elim i [ inl e ↦ (let b = e.1 in omega arith) | inr i ↦ i ]),
+  (λ i. elim i [ inl e ↦ omega (arith, e.1) | inr i ↦ i ]),
   record {
     production = production_a;
     rule = rule_s;
@@ -44,7 +38,7 @@ others_good g rules first second d candidate p r s out = (
   },
   (
     out,
-    (λ i. elim i [ inl e ↦ (let b = e.0 in omega arith) | inr i ↦ elim i [ inl e ↦ (let b = e.0 in omega arith) | inr i ↦ i ] ]),
+    (λ i. elim i [ inl e ↦ omega (arith, e.0) | inr (inl e) ↦ omega (arith, e.0) | inr (inr i) ↦ i ]),
     record {
       production = production_r (rule_out ∷ rules);
       rule = rule_out;

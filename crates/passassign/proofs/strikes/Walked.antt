@@ -1,6 +1,6 @@
 -- A walk down the strikes of a list, from each to the one that it waits for.
 use Rattle.std.proofs.Common.{ℕ, ◌≡◌, ◌<◌, ◌++◌, List, [], ◌∷◌, Option, None, Some, Result, Ok, Err, IfOk, IfSome, slice_get}
-use Rattle.std.proofs.Common.{get_or, take, length, ap, ◌∙◌, inl, inr, sym, subst, refl}
+use Rattle.std.proofs.Common.{get_or, take, length, inl, inr, refl}
 use Rattle.std.proofs.lemmas.Option.{slice_get-get_or, get_or_from_slice_get}
 use Rattle.ag_grammar.specs.Lists.{Has}
 use Rattle.ag_grammar.specs.grammars.AttributeGrammar.{Grammar}
@@ -19,7 +19,7 @@ none = record { symbol = 0; attr = 0; production = 0; rule = 0; arg = 0 }
 prefix_at : (xs : List Strike) (n j : ℕ) → j < length (take n xs) → (j < n) × (strike_at (take n xs) j ≡ strike_at xs j)
 prefix_at xs n j lt =
     let e = in_take n xs j (get_or (take n xs) j none) (slice_get-get_or (take n xs) j none lt) in
-    (e.0, sym (get_or_from_slice_get xs j (get_or (take n xs) j none) none e.1))
+    (e.0, cc (get_or_from_slice_get xs j (get_or (take n xs) j none) none e.1))
 
 module _ (g : Grammar) (d : Direction) (xs : List Strike) (at s a : ℕ) where
   -- if the prefix has a strike of the awaited attribute at index i, the strike at index `at` waits for the attribute of strike i
@@ -29,13 +29,7 @@ module _ (g : Grammar) (d : Direction) (xs : List Strike) (at s a : ℕ) where
       → IfSome r (λ i. (i < at) × WaitsFor g d (strike_at xs at) (strike_at xs i).symbol (strike_at xs i).attr)
   found_before waits None h = tt
   found_before waits (Some i) (lt, symbol, attr) =
-      let here = prefix_at xs at i lt in
-      let first : s ≡ (strike_at xs i).symbol = sym symbol ∙ ap (λ (z : Strike). z.symbol) here.1 in
-      let second : a ≡ (strike_at xs i).attr = sym attr ∙ ap (λ (z : Strike). z.attr) here.1 in (
-        here.0,
-        subst (λ a. WaitsFor g d (strike_at xs at) (strike_at xs i).symbol a) second
-            (subst (λ s. WaitsFor g d (strike_at xs at) s a) first waits),
-      )
+      let here = prefix_at xs at i lt in (here.0, rw (← here.1, symbol, attr) waits)
 
   -- if awaited attributes are struck before, the prefix has such a strike, so the case `None` does not occur
   pub none_before : at < length xs → WaitsFor g d (strike_at xs at) s a → (r : Option ℕ)
@@ -46,26 +40,19 @@ module _ (g : Grammar) (d : Direction) (xs : List Strike) (at s a : ℕ) where
 -- links that are among some strikes, and one more of these
 pub among_more : (xs links more : List Strike) (y : Strike) → more ≡ links ++ y ∷ [] → Has xs y
     → ((i : ℕ) (x : Strike) → slice_get links i ≡ Some x → Has xs x) → (i : ℕ) (x : Strike) → slice_get more i ≡ Some x → Has xs x
-among_more xs links more y items has before i x e =
-    elim (get_push_cases links y x i (subst (λ l. slice_get l i ≡ Some x) items e))
-    [ inl old ↦ before i x old | inr new ↦ subst (Has xs) new.1 has ]
+among_more xs links more y items has before i x e = elim (get_push_cases links y x i (rw items at e)) [
+  | inl old ↦ before i x old
+  | inr new ↦ rw new.1 at has
+]
 
 -- links of which the first is the strike of an attribute
 pub starts : (xs links : List Strike) (at s a : ℕ) → at < length xs → (strike_at xs at).symbol ≡ s → (strike_at xs at).attr ≡ a
     → slice_get links 0 ≡ slice_get xs at → StartsWith s a links
-starts xs [] at s a lt symbol attr e =
-    absurd (let here = slice_get-get_or xs at none lt in let bad : None ≡ Some (strike_at xs at) = e ∙ here in
-    let worse : ⊥ = cc in worse)
+starts xs [] at s a lt symbol attr e = cc (slice_get-get_or xs at none lt)
 starts xs (y ∷ ys) at s a lt symbol attr e =
-    let both : Some y ≡ Some (strike_at xs at) = e ∙ slice_get-get_or xs at none lt in
+    let here = slice_get-get_or xs at none lt in
     let same : y ≡ strike_at xs at = cc in
-    record {
-      first = y;
-      others = ys;
-      is = refl;
-      symbol = ap (λ (z : Strike). z.symbol) same ∙ symbol;
-      attr = ap (λ (z : Strike). z.attr) same ∙ attr;
-    }
+    record { first = y; others = ys; is = refl; symbol = cc; attr = cc }
 
 -- The result of a walk down good strikes is a chain.
 pub walked : (g : Grammar) (d : Direction) (candidate : Attributes) (xs links : List Strike) (s a : ℕ)

@@ -1,4 +1,3 @@
-use Rattle.std.proofs.Common.{sym}
 use Rattle.passassign.proofs.assigning.assign.Goals as goal
 
 pub assign_all-requires-clause-accepted : goal.assign_all-requires-clause-accepted
@@ -6,8 +5,8 @@ assign_all-requires-clause-accepted c = (
   c.args.grammar.now,
   record {
     accepted = c.symbols.ensures.accepted;
-    symbols_are = sym c.symbols.ensures.lent;
-    productions_are = sym c.productions.ensures.lent;
+    symbols_are = cc;
+    productions_are = cc;
   },
 )
 
@@ -16,6 +15,6 @@ returns-clause-few c =
     c.in_ok-assignment.ensures.few c.args.grammar.now
     (record {
       accepted = c.symbols.ensures.accepted;
-      symbols_are = sym c.symbols.ensures.lent;
-      productions_are = sym c.productions.ensures.lent;
+      symbols_are = cc;
+      productions_are = cc;
     })

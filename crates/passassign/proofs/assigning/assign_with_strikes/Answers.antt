@@ -1,4 +1,4 @@
-use Rattle.std.proofs.Common.{ℕ, List, sym}
+use Rattle.std.proofs.Common.{ℕ, List}
 use Rattle.std.proofs.lemmas.Result.{IfOk-weaker}
 use Rattle.ag_grammar.specs.grammars.AttributeGrammar.{Grammar}
 use Rattle.passassign.specs.PassesSoFar.{IsAcceptedWith}
@@ -11,8 +11,8 @@ assign_all-requires-clause-accepted c = (
   c.args.grammar.now,
   record {
     accepted = c.symbols.ensures.accepted;
-    symbols_are = sym c.symbols.ensures.lent;
-    productions_are = sym c.productions.ensures.lent;
+    symbols_are = cc;
+    productions_are = cc;
   },
 )
 
@@ -24,6 +24,6 @@ returns-clause-few c =
     (λ x few. few c.args.grammar.now
     (record {
       accepted = c.symbols.ensures.accepted;
-      symbols_are = sym c.symbols.ensures.lent;
-      productions_are = sym c.productions.ensures.lent;
+      symbols_are = cc;
+      productions_are = cc;
     })) c.assign_all.ensures.few

@@ -1,7 +1,7 @@
-use Rattle.std.proofs.Common.{◌≡◌, ◌<◌, ◌++◌, [], ◌∷◌, Some, slice_get, length, ap, ◌∙◌, sym, subst, refl, append_assoc, arith}
+use Rattle.std.proofs.Common.{◌≡◌, ◌<◌, ◌++◌, [], ◌∷◌, Some, slice_get, length, refl, append_assoc, arith}
 use Rattle.std.proofs.lemmas.List.{append-nil}
 use Rattle.std.proofs.lemmas.Option.{slice_get-get_or}
-use Rattle.passassign.specs.Chains.{AreLinked, strike_at}
+use Rattle.passassign.specs.Chains.{strike_at}
 use Rattle.passassign.proofs.slots.Lists.{get_push_front}
 use Rattle.passassign.proofs.strikes.Walked.{among_more, none}
 use Rattle.passassign.proofs.chain.chain_from.Goals as goal
@@ -16,23 +16,17 @@ loop-before-preserved c =
     let y = strike_at xs j in
     let items : c.push-in-Some.new.self.items ≡ links ++ y ∷ [] = c.in_ok-push-2.ensures.items in
     let first : slice_get xs c.args.at ≡ Some (strike_at xs c.args.at) = slice_get-get_or xs c.args.at none c.requires in
-    let within : j < length xs = let lt = c.in-Some.ensures.found.0 in let most = c.loop-before.invariant.within in
-    omega (arith, lt, most) in
+    let within : j < length xs = omega (arith, c.in-Some.ensures.found.0, c.loop-before.invariant.within) in
     record {
       within = within;
-      first =
-          ap (λ l. slice_get l 0) items ∙ get_push_front links y (strike_at xs c.args.at) 0
-          (c.loop-before.invariant.first ∙ first) ∙ sym first;
+      first = rw items (cc (get_push_front links y (strike_at xs c.args.at) 0 (cc)));
       among =
           among_more xs links c.push-in-Some.new.self.items y items
           (j, slice_get-get_or xs j none within) c.loop-before.invariant.among;
       linked =
-          λ ys h. subst (λ l. AreLinked g d (l ++ ys)) (sym items)
-          (subst (AreLinked g d) (sym (append_assoc links (y ∷ []) ys))
-          (c.loop-before.invariant.linked (y ∷ ys) (c.in-Some.ensures.found.1, h)));
+          λ ys h. rw (items, append_assoc) (c.loop-before.invariant.linked (y ∷ ys) (c.in-Some.ensures.found.1, h));
     }
 
 pub returns-clause-linked : goal.returns-clause-linked
 returns-clause-linked c =
-    λ order. subst (AreLinked c.args.grammar.now c.args.direction) (append-nil c.loop-before.links.items)
-    (c.loop-before.invariant.linked [] (c.in_default.ensures.none refl order, tt))
+    λ order. rw append-nil at (c.loop-before.invariant.linked [] (c.in_default.ensures.none refl order, tt))

@@ -3,12 +3,10 @@ use Rattle.passassign.specs.declared.stuck.Strike.{Strike}
 use Rattle.passassign.proofs.slots.Lists.{whole_prefix, prefix_more}
 use Rattle.passassign.proofs.strikes.Following.{strikes_has}
 use Rattle.passassign.proofs.chain.index_of.Goals as goal
-
-abbrev none : Strike
-none = record { symbol = 0; attr = 0; production = 0; rule = 0; arg = 0 }
+use Rattle.passassign.proofs.strikes.Walked.{none}
 
 is_no : {Q : Type 0} → (IsTrue false ↔ Q) → Q → ⊥
-is_no h q = let e = h.1 q in let bad : ⊥ = cc in bad
+is_no h q = cc (h.1 q)
 
 pub loop-index-preserved : goal.loop-index-preserved
 loop-index-preserved c =

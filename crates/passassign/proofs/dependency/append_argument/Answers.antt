@@ -1,7 +1,7 @@
-use Rattle.std.proofs.Common.{ℕ, ◌≡◌, ◌↔◌, List, Some, None, slice_get, sym, subst, ◌∙◌}
+use Rattle.std.proofs.Common.{ℕ, ◌≡◌, ◌↔◌, List, Some, slice_get}
 use Rattle.ag_grammar.specs.declared.grammar.Item.{Item}
 use Rattle.ag_grammar.specs.declared.grammar.Target.{Target}
-use Rattle.passassign.specs.Dependencies.{Adds, IsByArgument, dependency_of, symbol_of, table_slot}
+use Rattle.passassign.specs.Dependencies.{IsByArgument, dependency_of, symbol_of, table_slot}
 use Rattle.passassign.specs.declared.dependency.Dependency.{Dependency}
 use Rattle.passassign.specs.declared.stuck.Strike.{Strike}
 use Rattle.passassign.proofs.strikes.Adding.{adds_none, adds_push, adds_same}
@@ -12,23 +12,16 @@ by_slot : (places : List Item) (head : Strike) (j i : ℕ) (o : Target) (k : ℕ
     → (u ≡ dependency_of head j i k o.place) ↔ IsByArgument places head j i o u
 by_slot places head j i o k is u = (
   (λ e. (k, is, e)),
-  (λ h. let e : Some h.0 ≡ Some k = sym h.1 ∙ is in let f : h.0 ≡ k = cc in
-      subst (λ k. u ≡ dependency_of head j i k o.place) f h.2),
+  (λ h. let f : h.0 ≡ k = cc in rw f at h.2),
 )
 
 pub returns-in_ok-push-in-Some : goal.returns-in_ok-push-in-Some
 returns-in_ok-push-in-Some c =
-    adds_same _ (IsByArgument c.args.places.now c.args.strike c.args.place c.args.strike.arg c.args.argument)
-    c.args.found.now.items c.push.new.self.items
-    (by_slot c.args.places.now c.args.strike c.args.place c.args.strike.arg c.args.argument c.in-Some.slot
-    (sym c.slot_at.ensures ∙ c.in-Some.is))
-    (subst
-    (Adds (λ u. u ≡ dependency_of c.args.strike c.args.place c.args.strike.arg c.in-Some.slot c.args.argument.place)
-    c.args.found.now.items) (sym c.in_ok-push-in-Some.ensures.items)
+    adds_same
+    (by_slot c.args.places.now c.args.strike c.args.place c.args.strike.arg c.args.argument c.in-Some.slot (cc))
+    (rw c.in_ok-push-in-Some.ensures.items
     (adds_push c.args.found.now.items
     (dependency_of c.args.strike c.args.place c.args.strike.arg c.in-Some.slot c.args.argument.place)))
 
 pub returns-in-None : goal.returns-in-None
-returns-in-None c =
-    adds_none (IsByArgument c.args.places.now c.args.strike c.args.place c.args.strike.arg c.args.argument) c.args.found.now.items
-    (λ u h. let e : None ≡ Some h.0 = sym c.in-None.is ∙ c.slot_at.ensures ∙ h.1 in let bad : ⊥ = cc in bad)
+returns-in-None c = adds_none (λ u h. cc h.1)

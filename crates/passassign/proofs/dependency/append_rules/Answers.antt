@@ -1,14 +1,12 @@
-use Rattle.std.proofs.Common.{◌≡◌, Some, slice_get, length, refl, ap, subst, sym, arith}
+use Rattle.std.proofs.Common.{length, refl, ap, arith}
 use Rattle.std.proofs.lemmas.Option.{slice_get_read}
-use Rattle.passassign.specs.Dependencies.{IsByRule}
 use Rattle.passassign.proofs.strikes.Adding.{adds_all, adds_more}
 use Rattle.passassign.proofs.slots.Few.{few_rules}
 use Rattle.passassign.proofs.dependency.append_rules.Goals as goal
 
 pub loop-index-preserved : goal.loop-index-preserved
 loop-index-preserved c =
-    adds_more (IsByRule c.args.places.now c.args.production) c.args.rules.now c.loop-index.index c.index-rules-index.result
-    c.args.found.now.items c.loop-index.found.items c.append_rule.new.found.items
+    adds_more c.args.rules.now c.loop-index.index
     (slice_get_read c.args.rules.now _ c.loop-index.index c.index-rules-index.result refl c.loop-index-test.true
     c.index-rules-index.is) c.loop-index.invariant
     c.in_ok-append_rule.ensures
@@ -16,10 +14,9 @@ loop-index-preserved c =
 pub overflow_cast-index : goal.overflow_cast-index
 overflow_cast-index c =
     let of = c.requires.accepted.1 in
-    let few = few_rules of.0 of.2 of.1 c.requires.accepted.0 of.3 in
-    let same = ap length c.requires.accepted.2 in
-    let within = c.loop-index-test.true in
-    record { fits = omega (arith, few, same, within) }
+    record {
+      fits = omega (arith, few_rules of.0 of.2 of.1 c.requires.accepted.0 of.3, ap length c.requires.accepted.2);
+    }
 
 pub append_rule-requires : goal.append_rule-requires
 append_rule-requires c = record {
@@ -28,7 +25,7 @@ append_rule-requires c = record {
     c.requires.accepted.1,
     (
       c.loop-index.index,
-      subst (λ rules. slice_get rules c.loop-index.index ≡ Some c.index-rules-index.result) (sym c.requires.accepted.2)
+      rw c.requires.accepted.2
           (slice_get_read c.args.rules.now _ c.loop-index.index c.index-rules-index.result refl c.loop-index-test.true
           c.index-rules-index.is),
     ),
@@ -36,6 +33,4 @@ append_rule-requires c = record {
 }
 
 pub returns : goal.returns
-returns c =
-    adds_all (IsByRule c.args.places.now c.args.production) c.args.rules.now c.loop-index.index c.args.found.now.items
-    c.loop-index.found.items c.loop-index-test.false c.loop-index.invariant
+returns c = adds_all c.args.rules.now c.loop-index.index c.loop-index-test.false c.loop-index.invariant

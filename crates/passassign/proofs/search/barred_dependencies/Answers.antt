@@ -1,4 +1,4 @@
-use Rattle.std.proofs.Common.{ℕ, ◌≡◌, ◌↔◌, List, [], Some, slice_get, refl, sym, subst}
+use Rattle.std.proofs.Common.{ℕ, ◌≡◌, ◌↔◌, List, refl}
 use Rattle.std.proofs.lemmas.Option.{slice_get-get_or}
 use Rattle.ag_grammar.specs.Lists.{Has}
 use Rattle.passassign.specs.Dependencies.{OfEach}
@@ -10,19 +10,16 @@ use Rattle.passassign.proofs.search.barred_dependencies.Goals as goal
 among : (all : List Dependency) (B : Dependency → Type 0) (u : Dependency)
     → OfEach (λ (i : ℕ) (x u : Dependency). (u ≡ x) × B u) all u ↔ (Has all u × B u)
 among all B u =
-    ((λ h. ((h.0, subst (λ x. slice_get all h.0 ≡ Some x) (sym h.3.0) h.2), h.3.1)), (λ h. (h.0.0, u, h.0.1, (refl, h.1))))
+    ((λ h. ((h.0, cc (h.2, h.3.0)), h.3.1)), (λ h. (h.0.0, u, h.0.1, (refl, h.1))))
 
 pub loop-one-preserved : goal.loop-one-preserved
 loop-one-preserved c =
-    adds_more (λ (i : ℕ) (x u : Dependency). (u ≡ x) × IsBarred c.args.direction c.args.states.now u) c.args.all.now
-    c.loop-one.one-index _ [] c.loop-one.barred.items c.append_barred.new.barred.items
+    adds_more c.args.all.now c.loop-one.one-index
     (slice_get-get_or c.args.all.now c.loop-one.one-index _ c.loop-one-test.true) c.loop-one.invariant
     c.in_ok-append_barred.ensures
 
 pub returns : goal.returns
 returns c =
-    adds_only (λ u. Has c.args.all.now u × IsBarred c.args.direction c.args.states.now u) c.loop-one.barred.items
-    (adds_same (OfEach (λ (i : ℕ) (x u : Dependency). (u ≡ x) × IsBarred c.args.direction c.args.states.now u) c.args.all.now) _
-    [] c.loop-one.barred.items (among c.args.all.now (IsBarred c.args.direction c.args.states.now))
-    (adds_all (λ (i : ℕ) (x u : Dependency). (u ≡ x) × IsBarred c.args.direction c.args.states.now u) c.args.all.now
-    c.loop-one.one-index [] c.loop-one.barred.items c.loop-one-test.false c.loop-one.invariant))
+    adds_only
+    (adds_same (among c.args.all.now (IsBarred c.args.direction c.args.states.now))
+    (adds_all c.args.all.now c.loop-one.one-index c.loop-one-test.false c.loop-one.invariant))

@@ -1,6 +1,5 @@
-use Rattle.std.proofs.Common.{subst, sym, arith}
+use Rattle.std.proofs.Common.{arith}
 use Rattle.std.proofs.lemmas.Option.{slice_get-get_or, slice_get_within}
-use Rattle.passassign.specs.Searching.{IsStrikeOf}
 use Rattle.passassign.proofs.strikes.ReportedStrikes.{strike_more}
 use Rattle.passassign.proofs.search.strikes_of.Goals as goal
 
@@ -10,16 +9,15 @@ dependency_for-requires c =
 
 pub loop-one-preserved : goal.loop-one-preserved
 loop-one-preserved c = record {
-  len = let l = c.loop-one.invariant.len in omega (arith, l, c.in_ok-push.ensures.len);
-  exact = λ i x lt e. subst (λ xs. IsStrikeOf c.args.all.now c.args.barred.now xs i x) (sym c.in_ok-push.ensures.items)
+  len = omega (arith, c.loop-one.invariant.len, c.in_ok-push.ensures.len);
+  exact = λ i x lt e. rw c.in_ok-push.ensures.items
       (strike_more c.args.all.now c.args.barred.now c.args.added.now c.loop-one.strikes.items c.loop-one.one-index _
       c.dependency_for.result c.loop-one.invariant.len c.dependency_for.ensures c.loop-one.invariant.exact i x lt e);
 }
 
 pub returns : goal.returns
 returns c = record {
-  len = let l = c.loop-one.invariant.len in let e = c.loop-one.auto.one-index-end in omega (arith, l, e, c.loop-one-test.false);
+  len = omega (arith, c.loop-one.invariant.len, c.loop-one.auto.one-index-end, c.loop-one-test.false);
   exact =
-      λ i x e. (let w = slice_get_within c.args.added.now i x e in
-      c.loop-one.invariant.exact i x (omega (arith, w, c.loop-one-test.false)) e);
+      λ i x e. c.loop-one.invariant.exact i x (omega (arith, slice_get_within c.args.added.now i x e, c.loop-one-test.false)) e;
 }

@@ -11,5 +11,5 @@ loop-index-preserved c =
 pub returns-clause-all : goal.returns-clause-all
 returns-clause-all c = λ s a. (
   (λ m. let o = (c.loop-index.invariant.all s a).0 m in (o.0, o.2)),
-  (λ m. (c.loop-index.invariant.all s a).1 (m.0, (let w = open_within c.args.states.now (slot_of s a) m.1 in omega arith), m.1)),
+  (λ m. (c.loop-index.invariant.all s a).1 (m.0, omega (arith, open_within c.args.states.now (slot_of s a) m.1), m.1)),
 )

@@ -1,4 +1,3 @@
-use Rattle.std.proofs.Common.{sym, subst}
 use Rattle.ag_grammar.specs.grammars.Passes.{direction_of}
 use Rattle.passassign.specs.Chains.{AreAwaitedBefore, AreLinked}
 use Rattle.passassign.specs.PassStrikes.{AreStrikesAt, HasPassFrom}
@@ -17,10 +16,9 @@ returns c = record {
       let xs = c.of_pass-2.result.now in
       of_three c.chain_in.result _ _ _ _ (λ links linked among first rows are from later.
       let at : AreStrikesAt g (passes_of rows) k xs =
-      subst (AreStrikesAt g (passes_of rows) k) (sym c.of_pass-2.ensures)
-      (strikes_at g rows c.args.self.now.lists are k s a from later) in
+      rw c.of_pass-2.ensures (strikes_at g rows c.args.self.now.lists are k s a from later) in
       let link : AreAwaitedBefore g (direction_of k) xs → AreLinked g (direction_of k) links.items =
-      subst (λ d. AreAwaitedBefore g d xs → AreLinked g d links.items) c.of_pass.ensures linked in
+      rw c.of_pass.ensures at linked in
       walked g (direction_of k) (HasPassFrom (passes_of rows) k) xs links.items s a at.good
       (at.all s a later) link among first) c.chain_in.ensures.linked c.chain_in.ensures.among c.chain_in.ensures.first;
 }

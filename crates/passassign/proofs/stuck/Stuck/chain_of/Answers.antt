@@ -1,6 +1,5 @@
-use Rattle.std.proofs.Common.{sym, subst}
 use Rattle.passassign.specs.Certificate.{Members, StrikesAll}
-use Rattle.passassign.proofs.making.NoEarlier.{all_for}
+use Rattle.passassign.proofs.making.Rest.{all_for}
 use Rattle.passassign.proofs.strikes.Walked.{of_three, walked}
 use Rattle.passassign.proofs.stuck.Stuck.chain_of.Goals as goal
 
@@ -14,8 +13,7 @@ returns c = record {
       let a = c.args.attribute.1 in
       let xs = c.of_direction.result.now in
       of_three c.chain_in.result _ _ _ _ (λ links linked among first is member.
-      let all : StrikesAll g d (Members set) xs =
-      subst (StrikesAll g d (Members set)) (sym c.of_direction.ensures) (all_for g c.args.self.now is d) in
+      let all : StrikesAll g d (Members set) xs = rw c.of_direction.ensures (all_for g c.args.self.now is d) in
       walked g d (Members set) xs links.items s a all.good
       (all.all s a member) linked among first) c.chain_in.ensures.linked c.chain_in.ensures.among c.chain_in.ensures.first;
 }
