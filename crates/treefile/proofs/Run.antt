@@ -1,11 +1,9 @@
 -- Passes over files, one after the other.
-use Rattle.std.proofs.Common.{◌≡◌, suc, ◌<◌, ◌≤◌, subst, arith}
+use Rattle.std.proofs.Common.{◌≡◌, suc, ◌<◌, ◌≤◌, arith}
 use Rattle.ag_grammar.specs.declared.grammar.Item.TheVariants as item
-use Rattle.ag_grammar.specs.grammars.Solution.{Same}
 use Rattle.ag_grammar.proofs.grammars.EachNode.{same_weaker}
 use Rattle.ag_grammar.proofs.grammars.Running.{run_begins, run_goes_on}
 use Rattle.treefile.specs.Laws.{RunContinues, RefusalGoesBack, RefusalWithinGoesBack, RunBegins}
-use Rattle.treefile.specs.records.Records.{IsFileOfTree}
 use Rattle.treefile.proofs.SameFile.{same_file}
 
 pub starts_run : RunBegins
@@ -20,8 +18,7 @@ pub goes_on_run : RunContinues
 goes_on_run version g m k last start now before next legal le runs pass t u tree is =
     let run = runs t u tree is in
     let one = pass t run.values tree run.file in
-    let kept : Same (λ p. p ≤ last) g m t run.values one.values =
-    same_weaker (λ p. p < suc last) (λ p. p ≤ last) g m (λ p h. omega arith) t run.values one.values one.kept in
+    let kept = same_weaker (λ p. p < suc last) (λ p. p ≤ last) g m (λ p h. omega arith) t run.values one.values one.kept in
     record {
       values = one.values;
       ran =
@@ -29,8 +26,8 @@ goes_on_run version g m k last start now before next legal le runs pass t u tree
           (omega arith) run.ran one.kept one.solved;
       file = one.file;
       other =
-          λ n from e. subst (λ j. IsFileOfTree version g m j t one.values now) (let same : last ≡ n = omega arith in same)
-          (same_file version g m last t run.values one.values now kept run.file);
+          λ n from e. let same : n ≡ last = omega arith in
+          rw same (same_file version g m last t run.values one.values now kept run.file);
     }
 
 pub refusal_goes_back : RefusalGoesBack

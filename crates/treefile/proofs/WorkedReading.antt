@@ -1,5 +1,5 @@
 -- Reading the file of pass 0 of `1` from its end, worked out.
-use Rattle.std.proofs.Common.{◌≡◌, ℕ, inl, inr, pos, false, List, [], ◌∷◌, Some, None, Ok, slice_get, refl, ap, sym, subst, ◌∙◌}
+use Rattle.std.proofs.Common.{◌≡◌, ℕ, inl, inr, pos, false, List, [], ◌∷◌, None, refl, ap, sym}
 use Rattle.std.proofs.Common.{arith}
 use Rattle.std.proofs.lemmas.Option.{same_Some}
 use Rattle.ag_value.specs.declared.value.Value.{Value, Num}
@@ -12,7 +12,7 @@ use Rattle.ag_grammar.specs.grammars.AttributeGrammar.{IsProduction, stored_item
 use Rattle.ag_grammar.specs.grammars.Sample.{iffy, token_sample}
 use Rattle.ag_grammar.specs.grammars.Tree.{depth_of, max_depth, max_nodes}
 use Rattle.ag_grammar.proofs.grammars.samples.TokenSample.{text as token_text}
-use Rattle.treefile.specs.framing.ExpectedRecords.{AreThere, Expects, Breaks, HasNoTree, HasNoTreeWithin, IsNoRecord}
+use Rattle.treefile.specs.framing.ExpectedRecords.{AreThere, Expects, HasNoTree, HasNoTreeWithin, IsNoRecord}
 use Rattle.treefile.specs.framing.ExpectedRecords.{IsNodeRecord, ReadSoFar, IsRecordOf, pending_root, children_with_copies}
 use Rattle.treefile.specs.framing.Backward.{next_before}
 use Rattle.treefile.specs.framing.Ending.{body_before, fits_before, version_one_usable}
@@ -32,24 +32,20 @@ abbrev numbers : ℕ → Value
 numbers a = Num (pos 65536)
 
 -- a record of a node with these values
-abbrev known : (k p s : ℕ) (q : Production) (body : List ℕ) → IsProduction binary p q → q.left ≡ s
+abbrev recorded : (k p s : ℕ) (q : Production) (body : List ℕ) → IsProduction binary p q → q.left ≡ s
     → body ≡ node_body version_one binary binary_passes k p numbers []
-    → IsNodeRecord version_one binary binary_passes k s body p q numbers
-known k p s q body is left occurs =
-    record {
+    → IsRecordOf version_one binary binary_passes k (item.Symbol s, None) body
+    (children_with_copies false binary binary_passes k (stored_items q.items) [])
+recorded k p s q body is left occurs =
+    let known : IsNodeRecord version_one binary binary_passes k s body p q numbers = record {
       production = is;
       left = left;
       well = λ a n has le. well_number 65536 (omega arith);
       copies = [];
       are_copies = refl;
       occurs = occurs;
-    }
-
-recorded : (k p s : ℕ) (q : Production) (body : List ℕ) → IsProduction binary p q → q.left ≡ s
-    → body ≡ node_body version_one binary binary_passes k p numbers []
-    → IsRecordOf version_one binary binary_passes k (item.Symbol s, None) body
-    (children_with_copies false binary binary_passes k (stored_items q.items) [])
-recorded k p s q body is left occurs = (p, q, numbers, known k p s q body is left occurs, refl, tt)
+    } in
+    (p, q, numbers, known, refl, tt)
 
 pub t_is_record : IsRecordOf version_one binary binary_passes 1 (item.Symbol 3, None) record_of_t []
 t_is_record = recorded 1 4 3 (production_of 3 []) record_of_t refl refl (simp spellings)
@@ -63,11 +59,9 @@ q_is_none ys is =
     let one =
     same_node version_one binary binary_passes 0 0 1 is.0 1 (0 ∷ 0 ∷ 1 ∷ []) is.1
     (production_of 1 []) is.2 numbers binary_numbered is.3
-    (known 0 1 1 (production_of 1 []) (0 ∷ 0 ∷ 1 ∷ []) refl refl refl) in
-    let same : is.1 ≡ production_of 1 [] =
-    same_Some is.1 (production_of 1 []) (sym is.3.production ∙ ap (slice_get binary.productions) one.0) in
-    let left : ◌≡◌ {A = ℕ} 0 1 = sym is.3.left ∙ ap (λ (q : Production). q.left) same in
-    omega (arith, left)
+    (recorded 0 1 1 (production_of 1 []) (0 ∷ 0 ∷ 1 ∷ []) refl refl refl).3 in
+    let same = same_Some (production_of 1 []) is.1 (rw one.0 at is.3.production) in
+    omega (arith, rw (← same) at is.3.left)
 
 pub one_awaited : Expects version_one binary binary_passes 0 RightToLeft 3 (pending_root binary) bodies_of_one
 one_awaited =
@@ -86,46 +80,34 @@ one_is_deep expected =
     let one =
     leading_tree version_one binary binary_passes 0 RightToLeft (item.Symbol 0) are.0 tree_of_one are.1 values_of_one are.2
     [] binary_numbered are.3 (one_recorded 0) (sym are.5) in
-    let deep : depth_of are.0 ≡ 3 = ap depth_of one.0 in
-    let low = are.4 in
-    omega arith
-
--- the results of reading before three offsets
-at_end : next_before version_one pass_0_of_one 41 ≡ Ok (Some (0 ∷ 0 ∷ 0 ∷ []))
-unfolding next_before body_before fits_before
-at_end = refl
-
-before_n : next_before version_one pass_0_of_one 34 ≡ Ok (Some (0 ∷ 0 ∷ 1 ∷ []))
-unfolding next_before body_before fits_before
-before_n = refl
-
-before_q : next_before version_one pass_0_of_one 27 ≡ Ok (Some (0 ∷ 0 ∷ 3 ∷ []))
-unfolding next_before body_before fits_before
-before_q = refl
+    omega (arith, ap depth_of one.0, are.4)
 
 pub root_comes : ReadSoFar version_one binary binary_passes 0 pass_0_of_one 41 0 (pending_root binary)
 root_comes = reading_begins version_one binary binary_passes 0 pass_0_of_one version_one_usable binary_fits
 
 pub children_come : ReadSoFar version_one binary binary_passes 0 pass_0_of_one 34 1
     ((2, (item.Symbol 1, None)) ∷ (2, (item.Symbol 2, None)) ∷ [])
+unfolding next_before body_before fits_before
 children_come =
     let q = production_of 0 (item.Symbol 2 ∷ item.Symbol 1 ∷ []) in
     reading_continues version_one binary binary_passes 0 pass_0_of_one (0 ∷ 0 ∷ 0 ∷ []) 41 0 1 (item.Symbol 0, None)
-    ((item.Symbol 2, None) ∷ (item.Symbol 1, None) ∷ []) [] binary_numbered root_comes at_end
+    ((item.Symbol 2, None) ∷ (item.Symbol 1, None) ∷ []) [] binary_numbered root_comes refl
     (recorded 0 0 0 q (0 ∷ 0 ∷ 0 ∷ []) refl refl refl)
 
 l_comes : ReadSoFar version_one binary binary_passes 0 pass_0_of_one 27 2 ((2, (item.Symbol 2, None)) ∷ [])
+unfolding next_before body_before fits_before
 l_comes =
     reading_continues version_one binary binary_passes 0 pass_0_of_one (0 ∷ 0 ∷ 1 ∷ []) 34 1 2 (item.Symbol 1, None) []
-    ((2, (item.Symbol 2, None)) ∷ []) binary_numbered children_come before_n
+    ((2, (item.Symbol 2, None)) ∷ []) binary_numbered children_come refl
     (recorded 0 1 1 (production_of 1 []) (0 ∷ 0 ∷ 1 ∷ []) refl refl refl)
 
 t_comes : ReadSoFar version_one binary binary_passes 0 pass_0_of_one 20 3
     ((3, (item.Symbol 3, None)) ∷ (3, (item.Symbol 4, None)) ∷ [])
+unfolding next_before body_before fits_before
 t_comes =
     let q = production_of 2 (item.Symbol 4 ∷ item.Symbol 3 ∷ []) in
     reading_continues version_one binary binary_passes 0 pass_0_of_one (0 ∷ 0 ∷ 3 ∷ []) 27 2 2 (item.Symbol 2, None)
-    ((item.Symbol 4, None) ∷ (item.Symbol 3, None) ∷ []) [] binary_numbered l_comes before_q
+    ((item.Symbol 4, None) ∷ (item.Symbol 3, None) ∷ []) [] binary_numbered l_comes refl
     (recorded 0 3 2 q (0 ∷ 0 ∷ 3 ∷ []) refl refl refl)
 
 pub none_within_levels : HasNoTreeWithin 2 max_nodes version_one binary binary_passes 0 pass_0_of_one
@@ -138,28 +120,22 @@ none_within_nodes =
     reading_is_too_long version_one binary binary_passes 0 pass_0_of_one 20 3 3 max_depth 3 (item.Symbol 3, None)
     ((3, (item.Symbol 4, None)) ∷ []) t_comes (inr (omega arith))
 
-before_header : next_before version_one (header version_one 0) 6 ≡ Ok None
-unfolding next_before
-before_header = refl
-
 pub header_alone : HasNoTree version_one binary binary_passes 0 (header version_one 0)
+unfolding next_before
 header_alone =
     way_breaks version_one binary binary_passes 0 (header version_one 0) 6 0 (pending_root binary)
     (reading_begins version_one binary binary_passes 0 (header version_one 0) version_one_usable binary_fits)
-    (subst (Breaks version_one binary binary_passes 0 (pending_root binary)) (sym before_header) tt)
-
-q_at_end : next_before version_one (file version_one 0 ((0 ∷ 0 ∷ 1 ∷ []) ∷ [])) 13 ≡ Ok (Some (0 ∷ 0 ∷ 1 ∷ []))
-unfolding next_before body_before fits_before
-q_at_end = refl
+    tt
 
 pub q_alone : HasNoTree version_one binary binary_passes 0 (file version_one 0 ((0 ∷ 0 ∷ 1 ∷ []) ∷ []))
+unfolding next_before body_before fits_before
 q_alone =
     let content = file version_one 0 ((0 ∷ 0 ∷ 1 ∷ []) ∷ []) in
     way_breaks version_one binary binary_passes 0 content 13 0 (pending_root binary)
     (reading_begins version_one binary binary_passes 0 content version_one_usable binary_fits)
-    (subst (Breaks version_one binary binary_passes 0 (pending_root binary)) (sym q_at_end) q_is_none)
+    q_is_none
 
 pub other_pass : HasNoTree version_one binary binary_passes 1 pass_0_of_one
 other_pass =
     no_file_has_no_tree version_one binary binary_passes 1 pass_0_of_one version_one_usable (omega arith)
-    (λ is. let bad : 0 ≡ 1 = is.1 in omega arith)
+    (λ is. omega (arith, is.1))

@@ -1,6 +1,6 @@
 -- Recorded trees, passes over a file, and the values of records, worked out.
-use Rattle.std.proofs.Common.{◌≡◌, ℕ, zero, suc, ◌^◌, ◌<◌, ◌≤◌, pos, All, List, [], ◌∷◌, ◌++◌, length, Option, Some, None, Ok}
-use Rattle.std.proofs.Common.{IsUtf8, codes, lit<, refl, ap, sym, subst, ◌∙◌, arith}
+use Rattle.std.proofs.Common.{◌≡◌, ℕ, zero, suc, ◌^◌, ◌<◌, ◌≤◌, pos, All, List, [], ◌∷◌, ◌++◌, length, None, Ok}
+use Rattle.std.proofs.Common.{IsUtf8, codes, lit<, refl, rules, ap, sym, ◌∙◌, arith}
 use Rattle.std.proofs.lemmas.Bool.{lt-ltb}
 use Rattle.std.proofs.lemmas.List.Elements.{All-cons, All-nil}
 use Rattle.std.proofs.lemmas.Str.{encode_ascii, is_utf8-from_IsUtf8}
@@ -23,7 +23,7 @@ use Rattle.treefile.specs.framing.Ending.{last_body_of, version_one_usable}
 use Rattle.treefile.specs.records.Listed.{AreSpelled, BeginsNoValue, HasReadValues, IsListedRecord}
 use Rattle.treefile.specs.records.OneTree.{IsNumbered, IsRecorded}
 use Rattle.treefile.specs.records.Records.{FitsVersion, IsFileOfTree, node_body}
-use Rattle.treefile.specs.Runs.{HasRun, RanPass, RunsPass, RunsPasses}
+use Rattle.treefile.specs.Runs.{RunsPass, RunsPasses}
 use Rattle.treefile.specs.records.TreeFile.{version_one}
 use Rattle.treefile.specs.Worked.{binary, binary_passes, file_of_x_x, iffy_passes, pass_2_of_one, production_of, record_of_n}
 use Rattle.treefile.specs.Worked.{record_of_t, spelled_number, tree_of_one, values_of_one, values_of_t}
@@ -36,8 +36,8 @@ use Rattle.treefile.proofs.WorkedFiles.{worked_2}
 pub well_number : (n : ℕ) → n < 2 ^ 63 → IsWell (Num (pos n))
 well_number n small = record {
   formed = formed (Num (pos n)) (item-Num (pos n) ∙ lt-ltb n (2 ^ 63) small);
-  shallow = let d = depth-Num (pos n) in omega (arith, d);
-  light = let w = weight-Num (pos n) in omega (arith, w);
+  shallow = omega (arith, depth-Num (pos n));
+  light = omega (arith, weight-Num (pos n));
 }
 
 pub binary_numbered : IsNumbered binary
@@ -71,13 +71,7 @@ one_fits = (
 )
 
 one_texts : Solves NoRule binary tree_of_one values_of_one
-one_texts = (
-  (λ r rule bad. absurd bad),
-  (
-    ((λ r rule bad. absurd bad), (((λ r rule bad. absurd bad), tt), (((λ r rule bad. absurd bad), tt), tt))),
-    (((λ r rule bad. absurd bad), tt), tt),
-  ),
-)
+one_texts = search rules
 
 well_of_t : (a : ℕ) → IsWell (values_of_t a)
 well_of_t zero = well_number 65536 (omega arith)
@@ -87,17 +81,11 @@ well_of_t (suc (suc a)) = well_number 32768 (omega arith)
 out_utf8 : IsUtf8 (codes "65536")
 out_utf8 = (codes "65536", (refl, rw (encode_ascii 54 (lit< tt), encode_ascii 53 (lit< tt), encode_ascii 51 (lit< tt)) refl))
 
+out_well : IsWell (Text (codes "65536"))
+out_well = well_text (codes "65536") (is_utf8-from_IsUtf8 (codes "65536") out_utf8) (omega arith)
+
 one_well : (k : ℕ) → IsWellOn (λ p. p ≤ k) binary binary_passes tree_of_one values_of_one
-one_well k = (
-  (λ a p is le. well_text (codes "65536") (is_utf8-from_IsUtf8 (codes "65536") out_utf8) (omega arith)),
-  (
-    (
-      (λ a p is le. well_number 65536 (omega arith)),
-      (((λ a p is le. well_number 1 (omega arith)), tt), (((λ a p is le. well_of_t a), tt), tt)),
-    ),
-    (((λ a p is le. well_number 0 (omega arith)), tt), tt),
-  ),
-)
+one_well k = search (arith, out_well, well_of_t, well_number)
 
 pub one_recorded : (k : ℕ) → IsRecorded binary binary_passes k (item.Symbol 0) tree_of_one values_of_one
 one_recorded k = record { fits = one_fits; texts = one_texts; well = one_well k }
@@ -112,18 +100,15 @@ one_alone t v tree is =
     binary_numbered one_fits tree one_occurs is
 
 pub iffy_recorded : IsRecorded token_sample iffy_passes 0 (item.Symbol 0) token_tree (token_values iffy)
-iffy_recorded = record {
+iffy_recorded = let text = well_text iffy token_text.utf8 (omega arith) in record {
   fits = token_fits;
-  texts = ((λ r rule bad. absurd bad), (refl, tt));
-  well = (
-    (λ a p is le. well_text iffy token_text.utf8 (omega arith)),
-    ((λ a p is le. well_text iffy token_text.utf8 (omega arith)), tt),
-  );
+  texts = search rules;
+  well = ((λ a p is le. text), ((λ a p is le. text), tt));
 }
 
 -- values with an empty text for the leaf can't be recorded
 pub iffy_unrecorded : IsRecorded token_sample iffy_passes 0 (item.Symbol 0) token_tree (λ path a. Text []) → ⊥
-iffy_unrecorded is = let same : [] ≡ iffy = text_same [] iffy is.texts.1.0 in cc
+iffy_unrecorded is = cc (text_same [] iffy is.texts.1.0)
 
 sample_numbered : IsNumbered sample
 sample_numbered = omega arith
@@ -163,25 +148,21 @@ sample_alone t u tree is =
 
 pub sample_pass : RunsPass version_one sample sample_passes 0 (file_of_x_x 0) (file_of_x_x 1)
 sample_pass t u tree is =
-    let ran : RanPass version_one sample sample_passes 0 sample_tree u (file_of_x_x 1) = record {
+    rw (← sample_alone t u tree is) (record {
       values = sample_values 2;
       file = sample_file 1;
       kept = (sample_ran u).kept;
       solved = (sample_ran u).solved 1 (omega arith) (omega arith);
-    } in
-    subst (λ s. RanPass version_one sample sample_passes 0 s u (file_of_x_x 1)) (sample_alone t u tree is) ran
+    })
 
 pub sample_run : RunsPasses version_one sample sample_passes 0 1 (file_of_x_x 0) (file_of_x_x 1) (file_of_x_x 0)
 sample_run t u tree is =
-    let ran : HasRun version_one sample sample_passes sample_tree u 1 1 (file_of_x_x 1) (file_of_x_x 0) = record {
+    rw (← sample_alone t u tree is) (record {
       values = sample_values 2;
       ran = sample_ran u;
       file = sample_file 1;
-      other =
-          λ k from e. subst (λ j. IsFileOfTree version_one sample sample_passes j sample_tree (sample_values 2) (file_of_x_x 0))
-          (let same : 0 ≡ k = omega arith in same) (sample_file 0);
-    } in
-    subst (λ s. HasRun version_one sample sample_passes s u 1 1 (file_of_x_x 1) (file_of_x_x 0)) (sample_alone t u tree is) ran
+      other = λ k from e. let first : k ≡ 0 = omega arith in rw first (sample_file 0);
+    })
 
 -- the values of T's record in pass 1
 abbrev number : List Value
@@ -205,10 +186,7 @@ unfolding value_at
 nine_is_nothing = refl
 
 pub nine_begins : BeginsNoValue (9 ∷ [])
-nine_begins v rest well e =
-    let bad : ◌≡◌ {A = Option (Value × List ℕ)} None (Some (v, rest)) =
-    sym nine_is_nothing ∙ ap (value_at 64) e ∙ well_is_read v rest well in
-    cc
+nine_begins v rest well e = cc (nine_is_nothing, well_is_read v rest well)
 
 pub number_alone : AreSpelled 2 (spelled_number ++ 9 ∷ []) → ⊥
 number_alone = value_is_missing (spelled_number ++ 9 ∷ []) number (9 ∷ []) 2 number_read (omega arith) nine_begins

@@ -1,5 +1,5 @@
 -- Bytes appended to a content, one part after another.
-use Rattle.std.proofs.Common.{◌≡◌, ℕ, ◌+◌, ◌⊎◌, inl, inr, List, [], ◌∷◌, ◌++◌, length, take, Result, Ok, Err, refl, ap, sym, ◌∙◌}
+use Rattle.std.proofs.Common.{◌≡◌, ℕ, ◌+◌, ◌⊎◌, inl, inr, List, [], ◌∷◌, ◌++◌, length, take, Result, Ok, Err, refl, sym, ◌∙◌}
 use Rattle.std.proofs.Common.{append_assoc, append-nil}
 use Rattle.std.specs.List.{All, flat_map}
 use Rattle.std.proofs.Math.Seq.{take-append-add, take-length}
@@ -25,7 +25,7 @@ header_begins pass content put =
     record {
       bodies = [];
       sound = no_body;
-      prefix = (put.0, put.1 ∙ ap (take put.0) (sym (append-nil (header version_two pass))));
+      prefix = (put.0, cc (append-nil (header version_two pass)));
     }
 
 pub not_begun : (pass : ℕ) (old now : List ℕ) (f : DeviceFault)
@@ -47,9 +47,7 @@ module _ (E : Type 0) where
   added old between now (Ok u) first next = (
     first.0 ++ next.0,
     All-append (IsBody version_two) first.0 next.0 first.1 next.1,
-    next.2 ∙ ap (λ (xs : List ℕ). xs ++ flat_map frame next.0) first.2
-        ∙ append_assoc old (flat_map frame first.0) (flat_map frame next.0)
-        ∙ ap (λ (xs : List ℕ). old ++ xs) (sym (flat_map-append frame first.0 next.0)),
+    cc (append_assoc old (flat_map frame first.0) (flat_map frame next.0), flat_map-append frame first.0 next.0),
   )
   added old between now (Err fault) first next =
       let before = flat_map frame first.0 in
@@ -59,17 +57,17 @@ module _ (E : Type 0) where
         All-append (IsBody version_two) first.0 next.0 first.1 next.1,
         (
           length before + n,
-          next.2.1 ∙ ap (λ (xs : List ℕ). xs ++ take n following) first.2 ∙ append_assoc old before (take n following)
-              ∙ ap (λ (xs : List ℕ). old ++ xs)
-              (sym (take-append-add before following n)
-              ∙ ap (take (length before + n)) (sym (flat_map-append frame first.0 next.0))),
+          cc (
+            append_assoc old before (take n following),
+            take-append-add before following n,
+            flat_map-append frame first.0 next.0,
+          ),
         ),
       )
 
   -- a frame was appended; or, after a fault, a prefix of it or nothing
   pub one_added : (old now body : List ℕ) → IsBody version_two body → now ≡ old ++ frame body → AddsFrames {E = E} old now (Ok tt)
-  one_added old now body sound is =
-      (body ∷ [], one_body body sound, is ∙ ap (λ (xs : List ℕ). old ++ xs) (sym (append-nil (frame body))))
+  one_added old now body sound is = (body ∷ [], one_body body sound, cc (append-nil (frame body)))
 
   pub one_refused : (old now body : List ℕ) (f : DeviceFault) (fault : E) → IsBody version_two body
       → (f ≡ device_fault.Failed → AppendsPrefix (frame body) old now) → (f ≡ device_fault.NoMemory → now ≡ old)
@@ -78,7 +76,7 @@ module _ (E : Type 0) where
       let put = prefix refl in (
         body ∷ [],
         one_body body sound,
-        (put.0, put.1 ∙ ap (λ (xs : List ℕ). old ++ take put.0 xs) (sym (append-nil (frame body)))),
+        (put.0, cc (append-nil (frame body))),
       )
   one_refused old now body device_fault.NoMemory fault sound prefix same = ([], no_body, (0, same refl ∙ sym (append-nil old)))
 
@@ -89,8 +87,8 @@ module _ (E : Type 0) where
     bodies = put.0;
     sound = put.1;
     prefix =
-        let whole : content ≡ file version_two pass put.0 = put.2 ∙ ap (λ (xs : List ℕ). xs ++ flat_map frame put.0) is in
-        (length (file version_two pass put.0), whole ∙ sym (take-length (file version_two pass put.0)));
+        let whole : content ≡ file version_two pass put.0 = cc in
+        (length (file version_two pass put.0), cc (take-length (file version_two pass put.0)));
   }
   frames_begin pass old content (Err fault) is put =
       let head = header version_two pass in
@@ -99,7 +97,6 @@ module _ (E : Type 0) where
         sound = put.1;
         prefix = (
           length head + put.2.0,
-          put.2.1 ∙ ap (λ (xs : List ℕ). xs ++ take put.2.0 (flat_map frame put.0)) is
-              ∙ sym (take-append-add head (flat_map frame put.0) put.2.0),
+          cc (take-append-add head (flat_map frame put.0) put.2.0),
         );
       }

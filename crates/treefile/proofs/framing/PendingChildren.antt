@@ -1,6 +1,6 @@
 -- The expected items, and that expected bodies are the records of trees.
 use Rattle.std.proofs.Common.{◌≡◌, ℕ, zero, suc, ◌+◌, ◌-◌, ◌≤◌, pos, List, [], ◌∷◌, ◌++◌, length, take, drop, Some, slice_get}
-use Rattle.std.proofs.Common.{refl, ap, sym, subst, ◌∙◌, append_assoc, arith}
+use Rattle.std.proofs.Common.{refl, append_assoc, arith}
 use Rattle.std.proofs.lemmas.List.{drop_all, take_all}
 use Rattle.ag_value.specs.declared.value.Value.{Text}
 use Rattle.ag_value.specs.declared.value.Value.TheVariants as value
@@ -14,45 +14,39 @@ use Rattle.ag_grammar.specs.grammars.Solution.{AtEachNodeOf, NoRule, SolvesAll, 
 use Rattle.ag_grammar.specs.grammars.Tree.{Forest, deepest, leaf, node, none, more}
 use Rattle.ag_grammar.proofs.grammars.EachNode.{no_rules}
 use Rattle.ag_value.proofs.operations.Wells.{well_text}
-use Rattle.treefile.specs.framing.ExpectedRecords.{AreThere, Expects, Child, MatchesCopy, IsRecordOf, Pending, before_others}
+use Rattle.treefile.specs.framing.ExpectedRecords.{AreThere, Expects, Child, IsRecordOf, Pending, before_others}
 use Rattle.treefile.specs.framing.ExpectedRecords.{children_with_copies}
 use Rattle.treefile.specs.Laws.{AllPending, ExpectedAreThere, NextPending}
-use Rattle.treefile.specs.records.Orders.{prefix, prefix_all}
-use Rattle.treefile.specs.records.Records.{bodies_of, bodies_of_all, copies_of, node_body, values_up_to}
-use Rattle.treefile.specs.records.TreeFile.{Version, body_of}
-use Rattle.treefile.specs.declared.body.Kind.TheVariants.{Node}
-use Rattle.treefile.proofs.records.Copies.{MatchCopies, fits_exact, left_of, stored_exact}
+use Rattle.treefile.specs.records.Orders.{prefix_all}
+use Rattle.treefile.specs.records.Records.{bodies_of_all, values_up_to}
+use Rattle.treefile.specs.records.TreeFile.{Version}
+use Rattle.treefile.proofs.records.Copies.{MatchCopies, fits_exact, stored_exact}
 use Rattle.treefile.proofs.framing.Way.{tree_expected}
 
 -- the next child after i visited ones from left to right, and before i unvisited ones from right to left
 next_left : (level i : ℕ) (xs : List Child) (x : Child) (todo : Pending) → slice_get xs i ≡ Some x
     → before_others LeftToRight level (drop i xs) todo ≡ (level, x) ∷ before_others LeftToRight level (drop (suc i) xs) todo
-next_left level i [] x todo e = absurd (let bad : ⊥ = cc in bad)
-next_left level zero (y ∷ xs) x todo e =
-    let same : y ≡ x = cc in
-    ap (λ (z : Child). (level, z) ∷ before_others LeftToRight level xs todo) same
+next_left level i [] x todo e = cc
+next_left level zero (y ∷ xs) x todo e = cc
 next_left level (suc i) (y ∷ xs) x todo e = next_left level i xs x todo e
 
 next_right : (level i : ℕ) (xs : List Child) (x : Child) (todo : Pending) → slice_get xs i ≡ Some x
     → before_others RightToLeft level (take (suc i) xs) todo ≡ (level, x) ∷ before_others RightToLeft level (take i xs) todo
-next_right level i [] x todo e = absurd (let bad : ⊥ = cc in bad)
-next_right level zero (y ∷ xs) x todo e =
-    let same : y ≡ x = cc in
-    ap (λ (z : Child). before_others RightToLeft level (z ∷ take 0 xs) todo) same
+next_right level i [] x todo e = cc
+next_right level zero (y ∷ xs) x todo e = cc
 next_right level (suc i) (y ∷ xs) x todo e = next_right level i xs x ((level, y) ∷ todo) e
 
 pub next_pending : NextPending
 next_pending LeftToRight level i xs x todo less e = next_left level i xs x todo e
 next_pending RightToLeft level i xs x todo less e =
     let one : length xs - i ≡ suc (length xs - suc i) = omega arith in
-    ap (λ n. before_others RightToLeft level (take n xs) todo) one ∙ next_right level (length xs - suc i) xs x todo e
+    cc (next_right level (length xs - suc i) xs x todo e)
 
 pub all_pending : AllPending
-all_pending LeftToRight level xs todo =
-    (refl, ap (λ (ys : List Child). before_others LeftToRight level ys todo) (drop_all (length xs) xs (omega arith)))
+all_pending LeftToRight level xs todo = (refl, rw (drop_all (length xs) xs (omega arith)))
 all_pending RightToLeft level xs todo =
     let none : length xs - length xs ≡ 0 = omega arith in
-    (take_all (length xs - 0) xs (omega arith), ap (λ n. before_others RightToLeft level (take n xs) todo) none)
+    (take_all (length xs - 0) xs (omega arith), rw none)
 
 -- the values of the children of a node without children: any will do
 no_values : ℕ → Valuation
@@ -93,42 +87,30 @@ module _ (version : Version) (g : Grammar) (m : Passes) (k most : ℕ) where
         there = are;
       }
   gather LeftToRight level (x ∷ xs) todo bodies low are =
-      let t = are.0 in
-      let v = are.1 in
       let on = gather LeftToRight level xs todo are.2 low are.6 in
-      let a = prefix LeftToRight (bodies_of version g m k t v) in
-      let b = prefix_all LeftToRight (bodies_of_all version g m k on.trees on.values) in
-      let one = are.4 in
-      let all = on.deep in
       record {
-        trees = more t on.trees;
-        values = before_all v on.values;
+        trees = more are.0 on.trees;
+        values = before_all are.1 on.values;
         others = on.others;
         matching = (are.3.fits, are.7, on.matching);
         texts = (are.3.texts, on.texts);
         well = (are.3.well, on.well);
-        deep = omega arith;
-        split = are.5 ∙ ap (λ (zs : List (List ℕ)). a ++ zs) on.split ∙ sym (append_assoc a b on.others);
+        deep = omega (arith, are.4, on.deep);
+        split = rw append_assoc (cc);
         there = on.there;
       }
   gather RightToLeft level (x ∷ xs) todo bodies low are =
       let on = gather RightToLeft level xs ((level, x) ∷ todo) bodies low are in
       let one = on.there in
-      let t = one.0 in
-      let v = one.1 in
-      let a = prefix_all RightToLeft (bodies_of_all version g m k on.trees on.values) in
-      let b = prefix RightToLeft (bodies_of version g m k t v) in
-      let first = one.4 in
-      let all = on.deep in
       record {
-        trees = more t on.trees;
-        values = before_all v on.values;
+        trees = more one.0 on.trees;
+        values = before_all one.1 on.values;
         others = one.2;
         matching = (one.3.fits, one.7, on.matching);
         texts = (one.3.texts, on.texts);
         well = (one.3.well, on.well);
-        deep = omega arith;
-        split = on.split ∙ ap (λ (zs : List (List ℕ)). a ++ zs) one.5 ∙ sym (append_assoc a b one.2);
+        deep = omega (arith, one.4, on.deep);
+        split = rw append_assoc (cc);
         there = one.6;
       }
 
@@ -146,11 +128,11 @@ module _ (version : Version) (g : Grammar) (m : Passes) (k most : ℕ) where
     record {
       fits = (refl, is.1);
       texts = refl;
-      well = λ a p e le. well_text is.0 is.1.utf8 (let short = is.1.short in omega arith);
+      well = λ a p e le. well_text is.0 is.1.utf8 (omega (arith, is.1.short));
     },
     omega arith,
-    ap (λ (b : List ℕ). b ∷ bodies) is.2,
-    subst (λ (zs : List Child). AreThere version g m k d most (before_others d (suc level) zs todo) bodies) is.3 are,
+    cc,
+    rw is.3 at are,
     is.4,
   )
   by_record d level (item.Symbol s, copy) todo body bodies ys low is are =
@@ -158,35 +140,23 @@ module _ (version : Version) (g : Grammar) (m : Passes) (k most : ℕ) where
       let q = is.1 in
       let e = is.2 in
       let has = version.has_copies in
-      let children_exact = children_with_copies has g m k (stored_items q.items) is.3.copies in
+      let xs = stored_items q.items in
       let on =
-      gather d (suc level) children_exact todo bodies (omega arith)
-      (subst (λ (zs : List Child). AreThere version g m k d most (before_others d (suc level) zs todo) bodies) is.4
-      are) in
-      let passes : m s ≡ left_passes m (slice_get g.productions p) = sym (ap (left_passes m) is.3.production ∙ ap m is.3.left) in
+      gather d (suc level) (children_with_copies has g m k xs is.3.copies) todo bodies (omega arith) (rw is.4 at are) in
       let own = values_up_to k (left_passes m (slice_get g.productions p)) e in
-      let same : node_body version g m k p e is.3.copies ≡ node_body version g m k p e (copies_of g m k on.trees on.values) =
-      ap (body_of Node p)
-      (stored_exact g m k has (stored_items q.items) own is.3.copies on.trees on.values is.3.are_copies on.matching) in
-      let all = on.deep in (
+      let same = stored_exact g m k has xs own is.3.copies on.trees on.values is.3.are_copies on.matching in (
         node p on.trees,
         graft e on.values,
         on.others,
         record {
-          fits = (
-            q,
-            is.3.production,
-            is.3.left,
-            fits_exact g m k has (stored_items q.items) is.3.copies on.trees on.values on.matching,
-          );
+          fits = (q, is.3.production, is.3.left, fits_exact g m k has xs is.3.copies on.trees on.values on.matching);
           texts = (no_rules (slice_get g.productions p) (at (graft e on.values)), on.texts);
-          well = (subst (λ ps. WellAt (λ n. n ≤ k) ps e e) passes is.3.well, on.well);
+          well = (rw (is.3.production, is.3.left) is.3.well, on.well);
         },
-        omega arith,
-        ap (λ (b : List ℕ). b ∷ bodies) (is.3.occurs ∙ same)
-            ∙ ap (λ (zs : List (List ℕ)). node_body version g m k p e (copies_of g m k on.trees on.values) ∷ zs) on.split,
+        omega (arith, on.deep),
+        cc,
         on.there,
-        subst (λ ps. MatchesCopy copy (values_up_to k ps e)) (sym (left_of g m k s p q is.3.production is.3.left)) is.5,
+        rw (is.3.production, is.3.left) is.5,
       )
 
   -- expected bodies are records of trees, and such records are expected
@@ -200,9 +170,9 @@ module _ (version : Version) (g : Grammar) (m : Passes) (k most : ℕ) where
 
   to_awaited : (d : Direction) (todo : Pending) (bodies : List (List ℕ)) → AreThere version g m k d most todo bodies
       → Expects version g m k d most todo bodies
-  to_awaited d [] bodies e = subst (Expects version g m k d most []) (sym e) tt
+  to_awaited d [] bodies e = rw e tt
   to_awaited d (x ∷ todo) bodies are =
-      subst (Expects version g m k d most (x ∷ todo)) (sym are.5)
+      rw are.5
       (tree_expected version g m k most d x.1.0 x.1.1 are.0 are.1 x.0 todo are.2 are.3.fits are.7 are.3.texts are.3.well are.4
       (to_awaited d todo are.2 are.6))
 

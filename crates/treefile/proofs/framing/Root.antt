@@ -1,15 +1,14 @@
 -- The last record of a file is the root's, and a record of the last pass has the values of all attributes.
-use Rattle.std.proofs.Common.{◌≡◌, ℕ, zero, suc, true, cond, List, [], ◌∷◌, ◌++◌, All, slice_get, refl, ap, ◌∙◌}
-use Rattle.std.specs.Prelude.{nat_le}
+use Rattle.std.proofs.Common.{ℕ, zero, suc, List, [], ◌∷◌, ◌++◌, All, refl}
 use Rattle.std.proofs.lemmas.Bool.{le-leb}
 use Rattle.std.proofs.lemmas.List.Elements.{All-head, All-tail}
 use Rattle.ag_grammar.specs.grammars.Passes.{direction_of}
 use Rattle.ag_grammar.specs.grammars.Solution.{children}
 use Rattle.ag_grammar.specs.grammars.Tree.{node}
-use Rattle.treefile.specs.framing.Ending.{IsBody, last_body_of}
+use Rattle.treefile.specs.framing.Ending.{IsBody}
 use Rattle.treefile.specs.Laws.{RootIsLast, ValuesAreWhole}
 use Rattle.treefile.specs.records.Orders.{postfix_all}
-use Rattle.treefile.specs.records.Records.{bodies_of_all, copies_of, node_body, values_up_to}
+use Rattle.treefile.specs.records.Records.{bodies_of_all, copies_of, node_body}
 use Rattle.treefile.proofs.framing.Files.{last_of_file}
 use Rattle.treefile.proofs.records.Records.{file_fits}
 
@@ -24,14 +23,10 @@ root_is_last version g m k p ts v content usable fits tree is =
     let root = node_body version g m k p (v []) (copies_of g m k ts (children v)) in
     let body : IsBody version root =
     last_is (IsBody version) others root (file_fits version g m k (node p ts) v content fits tree is) in
-    ap (last_body_of version) is.occurs ∙ last_of_file version k others root usable body.least body.greatest
+    cc (last_of_file version k others root usable body.least body.greatest)
 
 pub values_are_whole : ValuesAreWhole
-values_are_whole k [] e a p all is = absurd (let bad : ⊥ = cc in bad)
-values_are_whole k (q ∷ ps) e zero p all is =
-    let test : nat_le q k ≡ true = le-leb q k (all 0 q refl) in
-    ap (λ b. slice_get (cond b (e 0 ∷ []) [] ++ values_up_to k ps (λ a. e (suc a))) 0) test
+values_are_whole k [] e a p all is = cc
+values_are_whole k (q ∷ ps) e zero p all is = rw (le-leb q k (all 0 q refl))
 values_are_whole k (q ∷ ps) e (suc a) p all is =
-    let test : nat_le q k ≡ true = le-leb q k (all 0 q refl) in
-    ap (λ b. slice_get (cond b (e 0 ∷ []) [] ++ values_up_to k ps (λ a. e (suc a))) (suc a)) test
-    ∙ values_are_whole k ps (λ a. e (suc a)) a p (λ i n h. all (suc i) n h) is
+    rw (le-leb q k (all 0 q refl)) (values_are_whole k ps (λ a. e (suc a)) a p (λ i. all (suc i)) is)

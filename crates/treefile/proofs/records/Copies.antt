@@ -1,6 +1,6 @@
 -- The copies in a record: their number, that they are well, and that they are the values of the children that match them.
-use Rattle.std.proofs.Common.{◌≡◌, ℕ, zero, suc, ◌≤◌, Bool, true, false, List, [], ◌∷◌, ◌++◌, length, take, drop, Option, Some}
-use Rattle.std.proofs.Common.{None, slice_get, All, refl, ap, sym, subst, ◌∙◌, arith, length-append, length-drop}
+use Rattle.std.proofs.Common.{◌≡◌, ℕ, zero, suc, ◌≤◌, Bool, true, false, List, [], ◌∷◌, length, take, drop, Option, Some}
+use Rattle.std.proofs.Common.{None, slice_get, All, refl, sym, subst, arith, length-append, length-drop}
 use Rattle.std.proofs.Common.{take-append-drop}
 use Rattle.std.proofs.lemmas.List.{drop_at, take_at}
 use Rattle.std.proofs.lemmas.List.Elements.{All-append, All-cons, All-nil}
@@ -9,22 +9,22 @@ use Rattle.ag_value.specs.Well.{IsWell}
 use Rattle.ag_grammar.specs.declared.grammar.Item.TheVariants as item
 use Rattle.ag_grammar.specs.declared.grammar.Item.{Item}
 use Rattle.ag_grammar.specs.declared.grammar.Production.{Production}
-use Rattle.ag_grammar.specs.declared.grammar.Terminal.TheVariants.{Literal, Class}
+use Rattle.ag_grammar.specs.declared.grammar.Terminal.TheVariants.{Class}
 use Rattle.ag_grammar.specs.grammars.AttributeGrammar.{Grammar}
 use Rattle.ag_grammar.specs.grammars.Passes.{Passes}
 use Rattle.ag_grammar.specs.grammars.Solution.{AtEachNodeOf, IsWellOn, NoRule, Solves, SolvesAll, Valuation, WellAt, left_passes}
 use Rattle.ag_grammar.specs.grammars.Solution.{rest}
 use Rattle.ag_grammar.specs.grammars.Tree.{Forest, Tree, Fits, FitsAll, leaf, more, node, none}
 use Rattle.treefile.specs.framing.ExpectedRecords.{AreCopies, Child, MatchesCopy, children_with_copies}
-use Rattle.treefile.specs.records.Listed.{copied_count, copies_count, count_up_to}
+use Rattle.treefile.specs.records.Listed.{copied_count, copies_count}
 use Rattle.treefile.specs.records.Records.{copies_of, copy_of, left_synthesized, max_copied, max_copies, synthesized_count}
 use Rattle.treefile.specs.records.Records.{synthesized_passes, with_copies}
 use Rattle.treefile.proofs.records.Values.{count_of_values, values_few, values_well}
 
 -- an element of a prefix of a list is one of the list
 get_take : (n : ℕ) (ps : List ℕ) (a p : ℕ) → slice_get (take n ps) a ≡ Some p → slice_get ps a ≡ Some p
-get_take zero ps a p is = absurd (let bad : ⊥ = cc in bad)
-get_take (suc n) [] a p is = absurd (let bad : ⊥ = cc in bad)
+get_take zero ps a p is = cc
+get_take (suc n) [] a p is = cc
 get_take (suc n) (q ∷ ps) zero p is = is
 get_take (suc n) (q ∷ ps) (suc a) p is = get_take n ps a p is
 
@@ -35,54 +35,32 @@ synthesized_is g m None a p is = is
 synthesized_is g m (Some q) a p is = get_take (synthesized_count (slice_get g.symbols q.left)) (m q.left) a p is
 
 module _ (g : Grammar) (m : Passes) (k : ℕ) where
-  -- the copy of a node of a symbol has values of that symbol's synthesized attributes
-  pub left_of : (s p : ℕ) (q : Production) → slice_get g.productions p ≡ Some q → q.left ≡ s
-      → left_synthesized g m (slice_get g.productions p) ≡ synthesized_passes g m s
-  left_of s p q there left = ap (left_synthesized g m) there ∙ ap (synthesized_passes g m) left
-
   -- the lengths of copies
   copy_length : (x : Item) (t : Tree) (v : Valuation) → Fits g x t → length (copy_of g m k t v) ≡ copied_count g m k x
-  copy_length (item.Symbol s) (leaf c text) v f = elim f [ ]
-  copy_length (item.Symbol s) (node p ts) v f =
-      count_of_values k (left_synthesized g m (slice_get g.productions p)) (v []) ∙ ap (count_up_to k) (left_of s p f.0 f.1 f.2)
+  copy_length (item.Symbol s) (node p ts) v f = rw (f.1, f.2) (count_of_values k (synthesized_passes g m s) (v []))
   copy_length (item.Terminal (Class c)) (leaf d text) v f = refl
-  copy_length (item.Terminal (Literal l)) (leaf d text) v f = elim f [ ]
-  copy_length (item.Terminal a) (node p ts) v f = elim f [ ]
+  copy_length x (leaf d text) v f = elim f [ ]
+  copy_length x (node p ts) v f = elim f [ ]
 
   pub copies_length : (xs : List Item) (ts : Forest) (vs : ℕ → Valuation) → FitsAll g xs ts
       → length (copies_of g m k ts vs) ≡ copies_count g m k xs
   copies_length [] none vs f = refl
-  copies_length [] (more t ts) vs f = elim f [ ]
-  copies_length (x ∷ xs) none vs f = elim f [ ]
   copies_length (x ∷ xs) (more t ts) vs f =
-      omega (
-        arith,
-        length-append (copy_of g m k t (vs 0)) (copies_of g m k ts (rest vs)),
-        copy_length x t (vs 0) f.0,
-        copies_length xs ts (rest vs) f.1,
-      )
+      omega (arith, length-append {A = Value}, copy_length x t (vs 0) f.0, copies_length xs ts (rest vs) f.1)
+  copies_length xs ts vs f = elim f [ ]
 
   copy_few : (x : Item) (t : Tree) (v : Valuation) → Fits g x t → length (copy_of g m k t v) ≤ max_copied g m x
-  copy_few (item.Symbol s) (leaf c text) v f = elim f [ ]
-  copy_few (item.Symbol s) (node p ts) v f =
-      let few = values_few k (left_synthesized g m (slice_get g.productions p)) (v []) in
-      omega (arith, few, ap length (left_of s p f.0 f.1 f.2))
+  copy_few (item.Symbol s) (node p ts) v f = rw (f.1, f.2) (values_few k (synthesized_passes g m s) (v []))
   copy_few (item.Terminal (Class c)) (leaf d text) v f = omega arith
-  copy_few (item.Terminal (Literal l)) (leaf d text) v f = elim f [ ]
-  copy_few (item.Terminal a) (node p ts) v f = elim f [ ]
+  copy_few x (leaf d text) v f = elim f [ ]
+  copy_few x (node p ts) v f = elim f [ ]
 
   pub copies_few : (xs : List Item) (ts : Forest) (vs : ℕ → Valuation) → FitsAll g xs ts
       → length (copies_of g m k ts vs) ≤ max_copies g m xs
   copies_few [] none vs f = omega arith
-  copies_few [] (more t ts) vs f = elim f [ ]
-  copies_few (x ∷ xs) none vs f = elim f [ ]
   copies_few (x ∷ xs) (more t ts) vs f =
-      omega (
-        arith,
-        length-append (copy_of g m k t (vs 0)) (copies_of g m k ts (rest vs)),
-        copy_few x t (vs 0) f.0,
-        copies_few xs ts (rest vs) f.1,
-      )
+      omega (arith, length-append {A = Value}, copy_few x t (vs 0) f.0, copies_few xs ts (rest vs) f.1)
+  copies_few xs ts vs f = elim f [ ]
 
   -- copies of well values are well
   copy_well : (t : Tree) (v : Valuation) → Solves NoRule g t v → IsWellOn (λ p. p ≤ k) g m t v → All IsWell (copy_of g m k t v)
@@ -115,8 +93,6 @@ module _ (g : Grammar) (m : Passes) (k : ℕ) where
   pub match_copies : (has : Bool) (xs : List Item) (ts : Forest) (vs : ℕ → Valuation) → FitsAll g xs ts
       → MatchCopies (children_with_copies has g m k xs (kept has (copies_of g m k ts vs))) ts vs
   match_copies has [] none vs f = tt
-  match_copies has [] (more t ts) vs f = elim f [ ]
-  match_copies has (x ∷ xs) none vs f = elim f [ ]
   match_copies false (x ∷ xs) (more t ts) vs f = (f.0, tt, match_copies false xs ts (rest vs) f.1)
   match_copies true (x ∷ xs) (more t ts) vs f =
       let one = copy_of g m k t (vs 0) in
@@ -124,9 +100,9 @@ module _ (g : Grammar) (m : Passes) (k : ℕ) where
       let long = copy_length x t (vs 0) f.0 in (
         f.0,
         sym (take_at one others (copied_count g m k x) long),
-        subst (λ cs. MatchCopies (children_with_copies true g m k xs cs) ts (rest vs))
-            (sym (drop_at one others (copied_count g m k x) long)) (match_copies true xs ts (rest vs) f.1),
+        rw (drop_at one others (copied_count g m k x) long) (match_copies true xs ts (rest vs) f.1),
       )
+  match_copies has xs ts vs f = elim f [ ]
 
   pub are_copies : (has : Bool) (xs : List Item) (ts : Forest) (vs : ℕ → Valuation) → FitsAll g xs ts → SolvesAll NoRule g ts vs
       → AtEachNodeOf (WellAt (λ p. p ≤ k)) g m ts vs vs → AreCopies has g m k xs (kept has (copies_of g m k ts vs))
@@ -137,29 +113,25 @@ module _ (g : Grammar) (m : Passes) (k : ℕ) where
   pub fits_exact : (has : Bool) (xs : List Item) (cs : List Value) (ts : Forest) (vs : ℕ → Valuation)
       → MatchCopies (children_with_copies has g m k xs cs) ts vs → FitsAll g xs ts
   fits_exact has [] cs none vs a = tt
-  fits_exact has [] cs (more t ts) vs a = elim a [ ]
-  fits_exact false (x ∷ xs) cs none vs a = elim a [ ]
-  fits_exact true (x ∷ xs) cs none vs a = elim a [ ]
   fits_exact false (x ∷ xs) cs (more t ts) vs a = (a.0, fits_exact false xs cs ts (rest vs) a.2)
   fits_exact true (x ∷ xs) cs (more t ts) vs a = (a.0, fits_exact true xs (drop (copied_count g m k x) cs) ts (rest vs) a.2)
+  fits_exact has xs cs ts vs a = elim a [ ]
 
   copies_exact : (xs : List Item) (cs : List Value) (ts : Forest) (vs : ℕ → Valuation) → length cs ≡ copies_count g m k xs
       → MatchCopies (children_with_copies true g m k xs cs) ts vs → cs ≡ copies_of g m k ts vs
   copies_exact [] [] none vs long a = refl
   copies_exact [] (c ∷ cs) none vs long a = absurd (omega arith)
-  copies_exact [] cs (more t ts) vs long a = elim a [ ]
-  copies_exact (x ∷ xs) cs none vs long a = elim a [ ]
   copies_exact (x ∷ xs) cs (more t ts) vs long a =
       let n = copied_count g m k x in
       let others = copies_exact xs (drop n cs) ts (rest vs) (omega (arith, length-drop n cs)) a.2 in
-      sym (take-append-drop n cs) ∙ ap (λ (zs : List Value). zs ++ drop n cs) (sym a.1)
-      ∙ ap (λ (zs : List Value). copy_of g m k t (vs 0) ++ zs) others
+      cc (take-append-drop n cs)
+  copies_exact xs cs ts vs long a = elim a [ ]
 
   pub stored_exact : (has : Bool) (xs : List Item) (own cs : List Value) (ts : Forest) (vs : ℕ → Valuation)
       → AreCopies has g m k xs cs → MatchCopies (children_with_copies has g m k xs cs) ts vs
       → with_copies has own cs ≡ with_copies has own (copies_of g m k ts vs)
   stored_exact false xs own cs ts vs are a = refl
-  stored_exact true xs own cs ts vs are a = ap (λ (zs : List Value). own ++ zs) (copies_exact xs cs ts vs are.0 a)
+  stored_exact true xs own cs ts vs are a = cc (copies_exact xs cs ts vs are.0 a)
 
   -- a record's values with the copies that the version has
   pub kept_same : (has : Bool) (own cs : List Value) → with_copies has own (kept has cs) ≡ with_copies has own cs

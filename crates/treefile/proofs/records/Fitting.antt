@@ -1,5 +1,5 @@
 -- An accepted grammar has few enough productions, and under a legal assignment its records have few enough values.
-use Rattle.std.proofs.Common.{◌≡◌, ℕ, ◌+◌, ◌*◌, ◌≤◌, List, [], ◌∷◌, length, map, Option, Some, None, slice_get, refl, arith}
+use Rattle.std.proofs.Common.{◌≡◌, ℕ, ◌*◌, ◌≤◌, List, [], ◌∷◌, length, map, Option, Some, None, slice_get, refl, arith}
 use Rattle.std.proofs.Common.{length-append, length-take}
 use Rattle.std.proofs.lemmas.List.{length-map}
 use Rattle.ag_grammar.specs.declared.grammar.Item.TheVariants as item
@@ -19,9 +19,7 @@ few_kinds : (g : Grammar) (s : ℕ) → IsAccepted g → (o : Option Symbol) →
 few_kinds g s accepted None e = omega arith
 few_kinds g s accepted (Some y) e =
     let few = accepted.limits.attribute_count s y e in
-    let all : length (symbol_kinds (Some y)) ≡ length (map (λ (n : List ℕ). Synthesized) y.syn) + length
-    (map (λ (n : List ℕ). Inherited) y.inh) =
-    length-append (map (λ (n : List ℕ). Synthesized) y.syn) (map (λ (n : List ℕ). Inherited) y.inh) in
+    let all = length-append (map (λ (n : List ℕ). Synthesized) y.syn) (map (λ (n : List ℕ). Inherited) y.inh) in
     omega (
       arith,
       all,
@@ -32,8 +30,7 @@ few_kinds g s accepted (Some y) e =
 
 -- under a legal assignment the row of a symbol has at most 16 passes, one for each attribute
 pub few_passes : (g : Grammar) (m : Passes) (s : ℕ) → IsAccepted g → IsLegal g m → length (m s) ≤ 16
-few_passes g m s accepted legal = let few = few_kinds g s accepted (slice_get g.symbols s) refl in let same = legal.whole s in
-    omega arith
+few_passes g m s accepted legal = omega (arith, few_kinds g s accepted (slice_get g.symbols s) refl, legal.whole s)
 
 -- the copy of one child has at most 16 values
 few_copied : (g : Grammar) (m : Passes) (x : Item) → IsAccepted g → IsLegal g m → max_copied g m x ≤ 16
@@ -48,7 +45,7 @@ few_copies g m (x ∷ xs) accepted legal = omega (arith, few_copied g m x accept
 
 -- a record can number the productions of an accepted grammar
 pub numbered : (g : Grammar) → IsAccepted g → IsNumbered g
-numbered g accepted = let few = accepted.limits.production_count in omega arith
+numbered g accepted = omega (arith, accepted.limits.production_count)
 
 -- a record of an accepted grammar has no more values than either version allows, under a legal assignment
 pub fits_version_one : FitsAccepted version_one
@@ -60,7 +57,12 @@ fits_version_two g m accepted legal = (
   numbered g accepted,
   record {
     tokens = omega arith;
-    nodes = λ p q is. let stored = accepted.limits.stored_count p q is in
-        omega (arith, few_passes g m q.left accepted legal, few_copies g m (stored_items q.items) accepted legal);
+    nodes =
+        λ p q is. omega (
+          arith,
+          accepted.limits.stored_count p q is,
+          few_passes g m q.left accepted legal,
+          few_copies g m (stored_items q.items) accepted legal,
+        );
   },
 )

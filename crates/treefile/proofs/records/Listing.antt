@@ -1,10 +1,10 @@
 -- The values of a record as a list.
-use Rattle.std.proofs.Common.{◌≡◌, ℕ, zero, suc, ◌+◌, ◌≤◌, Bool, true, false, cond, List, [], ◌∷◌, ◌++◌, length, take, drop, None}
-use Rattle.std.proofs.Common.{All, slice_get, refl, ap, sym, subst, ◌∙◌, append_assoc, length-append, length-drop, length-take-le}
+use Rattle.std.proofs.Common.{◌≡◌, ℕ, zero, suc, ◌+◌, ◌≤◌, Bool, true, false, List, [], ◌∷◌, ◌++◌, length, take, drop, None, inl}
+use Rattle.std.proofs.Common.{All, slice_get, refl, ap, append_assoc, length-append, length-drop, length-take-le, inr}
 use Rattle.std.proofs.Common.{take-append-drop, arith}
-use Rattle.std.specs.Prelude.{nat_le}
 use Rattle.std.specs.List.{flat_map}
 use Rattle.std.proofs.lemmas.Bool.{le-leb}
+use Rattle.std.proofs.lemmas.Bool.Decides.{leb_tells, nat_tests}
 use Rattle.std.proofs.lemmas.List.{drop_at}
 use Rattle.std.proofs.lemmas.List.Elements.{All-append, All-drop, All-head, All-tail, All-take}
 use Rattle.ag_value.specs.declared.value.Value.{Value}
@@ -21,57 +21,49 @@ use Rattle.treefile.specs.Laws.{BytesAreLeft, ListedRecord, ValueIsMissing}
 use Rattle.treefile.specs.records.Listed.{IsListedRecord, count_up_to, first_of_values, others_of_values, listed_value}
 use Rattle.treefile.specs.records.Listed.{stored_count}
 use Rattle.treefile.specs.records.Records.{values_up_to, with_copies}
-use Rattle.treefile.specs.records.TreeFile.{Version, body_of}
-use Rattle.treefile.specs.declared.body.Kind.TheVariants.{Node}
+use Rattle.treefile.specs.records.TreeFile.{Version}
 use Rattle.treefile.proofs.records.Spelled.{spelled_apart}
 use Rattle.treefile.proofs.records.Values.{count_of_values, values_well}
 
 -- a list of n + 1 values is its first value and n others
-placed_more : (k : ℕ) (ps : List ℕ) (vs : List Value) (n : ℕ) → length vs ≡ suc n
+placed_more : (vs : List Value) (n : ℕ) → length vs ≡ suc n
     → (length (others_of_values vs) ≡ n) × (first_of_values vs ∷ others_of_values vs ≡ vs)
-placed_more k ps [] n e = absurd (omega arith)
-placed_more k ps (v ∷ vs) n e = (omega arith, refl)
+placed_more [] n e = absurd (omega arith)
+placed_more (v ∷ vs) n e = (omega arith, refl)
 
 -- if a list has as many values as there are attributes up to pass k, the values up to pass k of its listed values are the list
 values_of_placed : (k : ℕ) (ps : List ℕ) (vs : List Value) → length vs ≡ count_up_to k ps
     → values_up_to k ps (listed_value k ps vs) ≡ vs
 values_of_placed k [] [] e = refl
 values_of_placed k [] (v ∷ vs) e = absurd (omega arith)
-values_of_placed k (p ∷ ps) vs e = by_test (nat_le p k) e (λ ws. values_of_placed k ps ws)
-  where
-    by_test : (b : Bool) → length vs ≡ cond b 1 0 + count_up_to k ps
-        → ((ws : List Value) → length ws ≡ count_up_to k ps → values_up_to k ps (listed_value k ps ws) ≡ ws)
-        → cond b (first_of_values vs ∷ []) [] ++ values_up_to k ps (listed_value k ps (cond b (others_of_values vs) vs)) ≡ vs
-    by_test true e later = let more = placed_more k ps vs (count_up_to k ps) (omega arith) in
-        ap (λ (ws : List Value). first_of_values vs ∷ ws) (later (others_of_values vs) more.0) ∙ more.1
-    by_test false e later = later vs (omega arith)
-
--- of a list of well values the first is well, and so are the others
-others_well : (vs : List Value) → All IsWell vs → All IsWell (others_of_values vs)
-others_well [] all = all
-others_well (v ∷ vs) all = All-tail IsWell v vs all
-
-first_well : (vs : List Value) (n : ℕ) → length vs ≡ suc n → All IsWell vs → IsWell (first_of_values vs)
-first_well [] n e all = absurd (omega arith)
-first_well (v ∷ vs) n e all = All-head IsWell v vs all
+values_of_placed k (p ∷ ps) vs e =
+    grind (
+      arith,
+      nat_tests,
+      placed_more vs (count_up_to k ps),
+      values_of_placed k ps (others_of_values vs),
+      values_of_placed k ps vs,
+    )
 
 -- listed values that are all well are well where the pass is at most k
 placed_well : (k : ℕ) (ps : List ℕ) (vs : List Value) → length vs ≡ count_up_to k ps → All IsWell vs
     → WellAt (λ p. p ≤ k) ps (listed_value k ps vs) (listed_value k ps vs)
-placed_well k [] vs e all a p is le = absurd (let bad : ⊥ = cc in bad)
+placed_well k [] vs e all a p is le = cc
 placed_well k (p ∷ ps) vs e all zero q is le =
     let same : p ≡ q = cc in
-    let test : nat_le p k ≡ true = le-leb p k (subst (λ n. n ≤ k) (sym same) le) in
-    let one : length vs ≡ 1 + count_up_to k ps = subst (λ b. length vs ≡ cond b 1 0 + count_up_to k ps) test e in
-    first_well vs (count_up_to k ps) (omega (arith, one)) all
-placed_well k (p ∷ ps) vs e all (suc a) q is le = by_test (nat_le p k) e (λ ws f g. placed_well k ps ws f g a q is le)
-  where
-    by_test : (b : Bool) → length vs ≡ cond b 1 0 + count_up_to k ps
-        → ((ws : List Value) → length ws ≡ count_up_to k ps → All IsWell ws → IsWell (listed_value k ps ws a))
-        → IsWell (listed_value k ps (cond b (others_of_values vs) vs) a)
-    by_test true e later =
-        later (others_of_values vs) (placed_more k ps vs (count_up_to k ps) (omega arith)).0 (others_well vs all)
-    by_test false e later = later vs (omega arith) all
+    let more = placed_more vs (count_up_to k ps) (omega (arith, rw (le-leb p k (omega arith)) at e)) in
+    All-head IsWell (first_of_values vs) (others_of_values vs) (rw (← more.1) at all)
+placed_well k (p ∷ ps) vs e all (suc a) q is le =
+    elim (leb_tells p k) [
+      | inl within ↦
+          let count = rw within.0 at e in
+          let more = placed_more vs (count_up_to k ps) (omega arith) in
+          let others = All-tail IsWell (first_of_values vs) (others_of_values vs) (rw (← more.1) at all) in
+          rw within.0 (placed_well k ps (others_of_values vs) more.0 others a q is le)
+      | inr past ↦
+          let count = rw past.0 at e in
+          rw past.0 (placed_well k ps vs (omega arith) all a q is le)
+    ]
 
 -- a record's own values and its copies, of a list of them all
 abbrev own_of : Bool → ℕ → List Value → List Value
@@ -83,33 +75,29 @@ copies_in false n vs = []
 copies_in true n vs = drop n vs
 
 parted : (has : Bool) (g : Grammar) (m : Passes) (k : ℕ) (q : Production) (vs : List Value) → length vs ≡ stored_count has g m k q
-    → (length (own_of has (count_up_to k (m q.left)) vs) ≡ count_up_to k (m q.left))
+    → All IsWell vs → (length (own_of has (count_up_to k (m q.left)) vs) ≡ count_up_to k (m q.left))
     × (with_copies has (own_of has (count_up_to k (m q.left)) vs) (copies_in has (count_up_to k (m q.left)) vs) ≡ vs)
-parted false g m k q vs count = (count, refl)
-parted true g m k q vs count =
-    (length-take-le (count_up_to k (m q.left)) vs (omega arith), take-append-drop (count_up_to k (m q.left)) vs)
-
-own_well : (has : Bool) (n : ℕ) (vs : List Value) → All IsWell vs → All IsWell (own_of has n vs)
-own_well false n vs all = all
-own_well true n vs all = All-take IsWell n vs all
-
-are_copies_in : (has : Bool) (g : Grammar) (m : Passes) (k : ℕ) (q : Production) (vs : List Value)
-    → length vs ≡ stored_count has g m k q → All IsWell vs
-    → AreCopies has g m k (stored_items q.items) (copies_in has (count_up_to k (m q.left)) vs)
-are_copies_in false g m k q vs count all = refl
-are_copies_in true g m k q vs count all =
-    (omega (arith, length-drop (count_up_to k (m q.left)) vs), All-drop IsWell (count_up_to k (m q.left)) vs all)
+    × All IsWell (own_of has (count_up_to k (m q.left)) vs)
+    × AreCopies has g m k (stored_items q.items) (copies_in has (count_up_to k (m q.left)) vs)
+parted false g m k q vs count all = (count, refl, all, refl)
+parted true g m k q vs count all =
+    let n = count_up_to k (m q.left) in (
+      length-take-le n vs (omega arith),
+      take-append-drop n vs,
+      All-take IsWell n vs all,
+      (omega (arith, length-drop n vs), All-drop IsWell n vs all),
+    )
 
 -- the children with the copies of a list are those with the values after its first n
 copies_within : (has : Bool) (g : Grammar) (m : Passes) (k n : ℕ) (xs : List Item) (vs : List Value)
     → children_with_copies has g m k xs (copies_in has n vs) ≡ children_with_copies has g m k xs (drop n vs)
 copies_within true g m k n xs vs = refl
 copies_within false g m k n [] vs = refl
-copies_within false g m k n (x ∷ xs) vs = ap (λ (ys : List Child). (x, None) ∷ ys) (copies_of_none xs)
+copies_within false g m k n (x ∷ xs) vs = cc (copies_of_none xs)
   where
     copies_of_none : (xs : List Item) → children_with_copies false g m k xs [] ≡ children_with_copies false g m k xs (drop n vs)
     copies_of_none [] = refl
-    copies_of_none (x ∷ xs) = ap (λ (ys : List Child). (x, None) ∷ ys) (copies_of_none xs)
+    copies_of_none (x ∷ xs) = cc (copies_of_none xs)
 
 -- a listed record is a record, and each record is listed
 module _ (version : Version) (g : Grammar) (m : Passes) (k s : ℕ) (body : List ℕ) where
@@ -119,28 +107,25 @@ module _ (version : Version) (g : Grammar) (m : Passes) (k s : ℕ) (body : List
   is_record p q vs is =
       let has = version.has_copies in
       let n = count_up_to k (m q.left) in
-      let passes : left_passes m (slice_get g.productions p) ≡ m s = ap (left_passes m) is.production ∙ ap m is.left in
-      let symbol : m q.left ≡ m s = ap m is.left in
-      let parts = parted has g m k q vs is.count in
+      let passes : left_passes m (slice_get g.productions p) ≡ m s = rw (is.production, is.left) in
+      let symbol : m q.left ≡ m s = cc in
+      let parts = parted has g m k q vs is.count is.well in
       let own = own_of has n vs in
-      let long : length own ≡ count_up_to k (m s) = parts.0 ∙ ap (count_up_to k) symbol in
+      let long : length own ≡ count_up_to k (m s) = cc in
       let values : values_up_to k (left_passes m (slice_get g.productions p)) (listed_value k (m s) own) ≡ own =
-      ap (λ ps. values_up_to k ps (listed_value k (m s) own)) passes ∙ values_of_placed k (m s) own long in (
+      cc (values_of_placed k (m s) own long) in (
         p,
         q,
         listed_value k (m s) own,
         record {
           production = is.production;
           left = is.left;
-          well = placed_well k (m s) own long (own_well has n vs is.well);
+          well = placed_well k (m s) own long parts.2;
           copies = copies_in has n vs;
-          are_copies = are_copies_in has g m k q vs is.count is.well;
-          occurs =
-              is.occurs ∙ ap (body_of Node p)
-              (sym parts.1 ∙ ap (λ (zs : List Value). with_copies has zs (copies_in has n vs)) (sym values));
+          are_copies = parts.3;
+          occurs = cc;
         },
-        sym (copies_within has g m k n (stored_items q.items) vs
-            ∙ ap (λ ps. children_with_copies has g m k (stored_items q.items) (drop (count_up_to k ps) vs)) symbol),
+        cc (copies_within has g m k n (stored_items q.items) vs),
         tt,
       )
 
@@ -153,10 +138,9 @@ module _ (version : Version) (g : Grammar) (m : Passes) (k s : ℕ) (body : List
       let e = is.2 in
       let has = version.has_copies in
       let own = values_up_to k (m s) e in
-      let passes : left_passes m (slice_get g.productions p) ≡ m s = ap (left_passes m) is.3.production ∙ ap m is.3.left in
-      let counted : length own ≡ count_up_to k (m q.left) =
-      count_of_values k (m s) e ∙ ap (λ z. count_up_to k (m z)) (sym is.3.left) in
-      let stored = listed_parts has g m k q own is.3.copies counted is.3.are_copies (values_well k (m s) e is.3.well) in (
+      let passes : left_passes m (slice_get g.productions p) ≡ m s = rw (is.3.production, is.3.left) in
+      let counted : length own ≡ count_up_to k (m q.left) = cc (count_of_values k (m s) e) in
+      let stored = listed_parts has q own is.3.copies counted is.3.are_copies (values_well k (m s) e is.3.well) in (
         p,
         q,
         with_copies has own is.3.copies,
@@ -165,36 +149,31 @@ module _ (version : Version) (g : Grammar) (m : Passes) (k s : ℕ) (body : List
           left = is.3.left;
           count = stored.0;
           well = stored.1;
-          occurs = is.3.occurs ∙ ap (λ ps. body_of Node p (with_copies has (values_up_to k ps e) is.3.copies)) passes;
+          occurs = cc;
         },
-        is.4 ∙ stored.2
-            ∙ ap
-            (λ z. children_with_copies has g m k (stored_items q.items)
-            (drop (count_up_to k (m z)) (with_copies has own is.3.copies))) is.3.left,
+        cc,
       )
     where
-      listed_parts : (has : Bool) (g : Grammar) (m : Passes) (k : ℕ) (q : Production) (own cs : List Value)
-          → length own ≡ count_up_to k (m q.left) → AreCopies has g m k (stored_items q.items) cs → All IsWell own
+      listed_parts : (has : Bool) (q : Production) (own cs : List Value) → length own ≡ count_up_to k (m q.left)
+          → AreCopies has g m k (stored_items q.items) cs → All IsWell own
           → (length (with_copies has own cs) ≡ stored_count has g m k q) × All IsWell (with_copies has own cs)
           × (children_with_copies has g m k (stored_items q.items) cs ≡ children_with_copies has g m k
           (stored_items q.items) (drop (count_up_to k (m q.left)) (with_copies has own cs)))
-      listed_parts false g m k q own cs count are well = (
+      listed_parts false q own cs count are well = (
         count,
         well,
-        ap (children_with_copies false g m k (stored_items q.items)) are
-            ∙ copies_within false g m k (count_up_to k (m q.left)) (stored_items q.items) own,
+        cc (copies_within false g m k (count_up_to k (m q.left)) (stored_items q.items) own),
       )
-      listed_parts true g m k q own cs count are well = (
+      listed_parts true q own cs count are well = (
         omega (arith, length-append own cs, are.0),
         All-append IsWell own cs well are.1,
-        ap (children_with_copies true g m k (stored_items q.items)) (sym (drop_at own cs (count_up_to k (m q.left)) count)),
+        cc (drop_at own cs (count_up_to k (m q.left)) count),
       )
 
 pub listed_record : ListedRecord
 listed_record version g m k s body ys = (
   is_listed version g m k s body ys,
-  λ is. subst (IsRecordOf version g m k (item.Symbol s, None) body) (sym is.4)
-      (is_record version g m k s body is.0 is.1 is.2 is.3),
+  λ is. rw is.4 (is_record version g m k s body is.0 is.1 is.2 is.3),
 )
 
 -- if the spellings of ws begin with those of vs, the bytes after them are the spellings of the other values of ws
@@ -206,27 +185,24 @@ read_on (v ∷ vs) [] rest a b le e = absurd (omega arith)
 read_on (v ∷ vs) (w ∷ ws) rest a b le e =
     let apart =
     spelled_apart v w (flat_map spelling_of vs ++ rest) (flat_map spelling_of ws) (All-head IsWell v vs a)
-    (All-head IsWell w ws b) (sym (append_assoc (spelling_of v) (flat_map spelling_of vs) rest) ∙ e) in
+    (All-head IsWell w ws b) (rw append_assoc at e) in
     let later = read_on vs ws rest (All-tail IsWell v vs a) (All-tail IsWell w ws b) (omega arith) apart.1 in
-    let count = later.1 in
-    (later.0, omega arith, later.2, later.3)
+    (later.0, omega (arith, later.1), later.2, later.3)
 
 pub value_is_missing : ValueIsMissing
 value_is_missing bytes vs rest n read less begins is =
-    let count = is.1 in
-    let on = read_on vs is.0 rest read.well is.2 (omega arith) (sym read.split ∙ is.3) in
+    let on = read_on vs is.0 rest read.well is.2 (omega (arith, is.1)) (cc) in
     go on.0 on.1 on.2 on.3
   where
     go : (more : List Value) → length is.0 ≡ length vs + length more → All IsWell more → rest ≡ flat_map spelling_of more → ⊥
-    go [] count all e = let n = is.1 in omega arith
+    go [] count all e = omega (arith, is.1)
     go (v ∷ more) count all e = begins v (flat_map spelling_of more) (All-head IsWell v more all) e
 
 pub bytes_are_left : BytesAreLeft
 bytes_are_left bytes vs rest n read all left is =
-    let count = is.1 in
-    let on = read_on vs is.0 rest read.well is.2 (omega arith) (sym read.split ∙ is.3) in
+    let on = read_on vs is.0 rest read.well is.2 (omega (arith, is.1)) (cc) in
     go on.0 on.1 on.3
   where
     go : (more : List Value) → length is.0 ≡ length vs + length more → rest ≡ flat_map spelling_of more → ⊥
-    go [] count e = let none : length rest ≡ 0 = ap length e in omega arith
-    go (v ∷ more) count e = let n = is.1 in omega arith
+    go [] count e = omega (arith, ap length e)
+    go (v ∷ more) count e = omega (arith, is.1)

@@ -1,28 +1,24 @@
 -- A list begins with the records of at most one tree, and a content is the file of at most one.
-use Rattle.std.proofs.Common.{◌≡◌, ℕ, zero, suc, ◌^◌, ◌<◌, ◌≤◌, List, [], ◌∷◌, ◌++◌, length, reverse, Some, slice_get, refl, ap}
-use Rattle.std.proofs.Common.{sym, subst, ◌∙◌, append_assoc, arith}
+use Rattle.std.proofs.Common.{◌≡◌, ℕ, zero, suc, ◌≤◌, List, [], ◌∷◌, ◌++◌, length, reverse, refl}
+use Rattle.std.proofs.Common.{append_assoc, arith}
 use Rattle.std.proofs.lemmas.List.{reverse-append, reverse-reverse}
 use Rattle.std.proofs.lemmas.Option.{slice_get_within}
-use Rattle.ag_value.specs.declared.value.Value.{Value, Text, out-Value}
-use Rattle.ag_value.specs.declared.value.Value.TheOpen.{Value-F}
+use Rattle.ag_value.specs.declared.value.Value.{Value, Text}
 use Rattle.ag_value.specs.declared.value.Value.TheVariants.{outs-Text}
-use Rattle.ag_value.specs.Well.{IsWell}
 use Rattle.ag_grammar.specs.declared.direction.Direction.{Direction}
 use Rattle.ag_grammar.specs.declared.direction.Direction.TheVariants.{LeftToRight, RightToLeft}
 use Rattle.ag_grammar.specs.declared.grammar.Item.TheVariants as item
 use Rattle.ag_grammar.specs.declared.grammar.Item.{Item}
-use Rattle.ag_grammar.specs.declared.grammar.Production.{Production}
-use Rattle.ag_grammar.specs.declared.grammar.Terminal.TheVariants.{Literal, Class}
-use Rattle.ag_grammar.specs.grammars.AttributeGrammar.{Grammar, stored_items, IsProduction}
+use Rattle.ag_grammar.specs.declared.grammar.Terminal.TheVariants.{Class}
+use Rattle.ag_grammar.specs.grammars.AttributeGrammar.{Grammar, stored_items}
 use Rattle.ag_grammar.specs.grammars.Passes.{Passes, direction_of, other}
 use Rattle.ag_grammar.specs.grammars.Solution.{AtEachNodeOf, IsWellOn, NoRule, Same, SameAt, Solves, SolvesAll, Valuation, WellAt}
 use Rattle.ag_grammar.specs.grammars.Solution.{children, rest}
 use Rattle.ag_grammar.specs.grammars.Tree.{Tree, Forest, Fits, FitsAll, leaf, node, none, more}
-use Rattle.treefile.specs.framing.Backward.{ReadsBack}
 use Rattle.treefile.specs.Laws.{OneReading, OneTreeAtEnd, OneTreeBefore}
-use Rattle.treefile.specs.records.OneTree.{IsNumbered, IsRecorded}
+use Rattle.treefile.specs.records.OneTree.{IsNumbered}
 use Rattle.treefile.specs.records.Orders.{postfix, prefix, prefix_all}
-use Rattle.treefile.specs.records.Records.{bodies_of, bodies_of_all, copies_of, node_body, token_body}
+use Rattle.treefile.specs.records.Records.{bodies_of, bodies_of_all, copies_of}
 use Rattle.treefile.specs.records.TreeFile.{Version}
 use Rattle.treefile.proofs.framing.Backward.{reads_same}
 use Rattle.treefile.proofs.records.Orders.{turned}
@@ -31,54 +27,37 @@ use Rattle.treefile.proofs.records.Spelled.{one_node, one_token}
 
 -- equal text values have equal texts
 pub text_same : (x y : List ℕ) → Text x ≡ Text y → x ≡ y
-text_same x y e = let texts : Value-F.Text x ≡ Value-F.Text y = sym (outs-Text x) ∙ ap out-Value e ∙ outs-Text y in cc
+text_same x y e = cc (outs-Text x, outs-Text y)
 
 -- a leaf's one attribute, of pass 0
 same_leaf : (k : ℕ) (e f : ℕ → Value) → e 0 ≡ f 0 → SameAt (λ p. p ≤ k) (0 ∷ []) e f
 same_leaf k e f same zero p is le = same
 same_leaf k e f same (suc a) p is le = cc
 
--- the text of a leaf is well if the leaf's value is
-well_text : (g : Grammar) (m : Passes) (k c : ℕ) (x : List ℕ) (v : Valuation) → Solves NoRule g (leaf c x) v
-    → IsWellOn (λ p. p ≤ k) g m (leaf c x) v → IsWell (Text x)
-well_text g m k c x v texts well = subst IsWell texts (well 0 0 refl (omega arith))
-
 module _ (version : Version) (g : Grammar) (m : Passes) (k : ℕ) (few : IsNumbered g) where
-  small : (p : ℕ) (q : Production) → IsProduction g p q → p < 2 ^ 16
-  small p q is = let w = slice_get_within g.productions p q is in omega arith
-
   mutual
     one_tree : (d : Direction) (x : Item) (t s : Tree) (u w : Valuation) (xs ys : List (List ℕ)) → Fits g x t → Fits g x s
         → Solves NoRule g t u → Solves NoRule g s w → IsWellOn (λ p. p ≤ k) g m t u → IsWellOn (λ p. p ≤ k) g m s w
         → prefix d (bodies_of version g m k t u) ++ xs ≡ prefix d (bodies_of version g m k s w) ++ ys
         → (t ≡ s) × Same (λ p. p ≤ k) g m t u w × (xs ≡ ys)
-    one_tree d (item.Symbol c) (leaf a x) s u w xs ys f h tu tw wu ww e = elim f [ ]
-    one_tree d (item.Terminal (Literal l)) (leaf a x) s u w xs ys f h tu tw wu ww e = elim f [ ]
-    one_tree d (item.Terminal l) (node p ts) s u w xs ys f h tu tw wu ww e = elim f [ ]
-    one_tree d (item.Terminal (Class c)) (leaf a x) (node r ss) u w xs ys f h tu tw wu ww e = elim h [ ]
-    one_tree d (item.Symbol c) (node p ts) (leaf b y) u w xs ys f h tu tw wu ww e = elim h [ ]
     one_tree d (item.Terminal (Class c)) (leaf a x) (leaf b y) u w xs ys f h tu tw wu ww e =
-        let heads : token_body a x ≡ token_body b y = cc in
-        let tails : xs ≡ ys = cc in
-        let class : a ≡ b = sym f.0 ∙ h.0 in
         let text : Text x ≡ Text y =
-        one_token b x y (well_text g m k a x u tu wu) (well_text g m k b y w tw ww)
-        (ap (λ n. token_body n x) (sym class) ∙ heads) in
-        (ap (λ n. leaf n x) class ∙ ap (leaf b) (text_same x y text), same_leaf k (u []) (w []) (tu ∙ text ∙ sym tw), tails)
+        one_token b x y (rw tu at (wu 0 0 refl (omega arith))) (rw tw at (ww 0 0 refl (omega arith))) (cc) in
+        (cc (text_same x y text), same_leaf k (u []) (w []) (cc), cc)
     one_tree d (item.Symbol c) (node p ts) (node r ss) u w xs ys f h tu tw wu ww e =
-        let heads : node_body version g m k p (u []) (copies_of g m k ts (children u)) ≡ node_body version g m k r (w [])
-        (copies_of g m k ss (children w)) = cc in
-        let tails : prefix_all d (bodies_of_all version g m k ts (children u)) ++ xs ≡ prefix_all d
-        (bodies_of_all version g m k ss (children w)) ++ ys = cc in
         let own =
         one_node version g m k p r (u []) (w []) (copies_of g m k ts (children u)) (copies_of g m k ss (children w))
-        (small p f.0 f.1) (small r h.0 h.1) wu.0 ww.0 heads in
-        let production : h.0 ≡ f.0 = let z : Some h.0 ≡ Some f.0 = sym h.1 ∙ ap (slice_get g.productions) (sym own.0) ∙ f.1 in
-        cc in
+        (omega (arith, slice_get_within g.productions p f.0 f.1)) (omega (arith, slice_get_within g.productions r h.0 h.1)) wu.0
+        ww.0 (cc) in
+        let production : h.0 ≡ f.0 = cc in
         let below =
-        one_forest d (stored_items f.0.items) ts ss (children u) (children w) xs ys f.3
-        (subst (λ q. FitsAll g (stored_items q.items) ss) production h.3) tu.1 tw.1 wu.1 ww.1 tails in
-        (ap (λ n. node n ts) own.0 ∙ ap (node r) below.0, (own.1, below.1), below.2)
+        one_forest d (stored_items f.0.items) ts ss (children u) (children w) xs ys f.3 (rw production at h.3) tu.1 tw.1 wu.1
+        ww.1 (cc) in
+        (cc, (own.1, below.1), below.2)
+    one_tree d (item.Terminal (Class c)) (leaf a x) (node r ss) u w xs ys f h tu tw wu ww e = elim h [ ]
+    one_tree d (item.Symbol c) (node p ts) (leaf b y) u w xs ys f h tu tw wu ww e = elim h [ ]
+    one_tree d x (leaf a y) s u w xs ys f h tu tw wu ww e = elim f [ ]
+    one_tree d x (node p ts) s u w xs ys f h tu tw wu ww e = elim f [ ]
 
     one_forest : (d : Direction) (is : List Item) (ts ss : Forest) (us ws : ℕ → Valuation) (xs ys : List (List ℕ))
         → FitsAll g is ts → FitsAll g is ss → SolvesAll NoRule g ts us → SolvesAll NoRule g ss ws
@@ -86,38 +65,22 @@ module _ (version : Version) (g : Grammar) (m : Passes) (k : ℕ) (few : IsNumbe
         → prefix_all d (bodies_of_all version g m k ts us) ++ xs ≡ prefix_all d (bodies_of_all version g m k ss ws) ++ ys
         → (ts ≡ ss) × AtEachNodeOf (SameAt (λ p. p ≤ k)) g m ts us ws × (xs ≡ ys)
     one_forest d [] none none us ws xs ys f h tu tw wu ww e = (refl, tt, e)
-    one_forest d [] none (more s ss) us ws xs ys f h tu tw wu ww e = elim h [ ]
-    one_forest d [] (more t ts) ss us ws xs ys f h tu tw wu ww e = elim f [ ]
-    one_forest d (x ∷ is) none ss us ws xs ys f h tu tw wu ww e = elim f [ ]
-    one_forest d (x ∷ is) (more t ts) none us ws xs ys f h tu tw wu ww e = elim h [ ]
     one_forest LeftToRight (x ∷ is) (more t ts) (more s ss) us ws xs ys f h tu tw wu ww e =
-        let split : prefix LeftToRight (bodies_of version g m k t (us 0))
-        ++ (prefix_all LeftToRight (bodies_of_all version g m k ts (rest us)) ++ xs) ≡ prefix LeftToRight
-        (bodies_of version g m k s (ws 0)) ++ (prefix_all LeftToRight (bodies_of_all version g m k ss (rest ws)) ++ ys) =
-        sym
-        (append_assoc (prefix LeftToRight (bodies_of version g m k t (us 0)))
-        (prefix_all LeftToRight (bodies_of_all version g m k ts (rest us))) xs) ∙ e
-        ∙ append_assoc (prefix LeftToRight (bodies_of version g m k s (ws 0)))
-        (prefix_all LeftToRight (bodies_of_all version g m k ss (rest ws))) ys in
         let first =
         one_tree LeftToRight x t s (us 0) (ws 0) (prefix_all LeftToRight (bodies_of_all version g m k ts (rest us)) ++ xs)
-        (prefix_all LeftToRight (bodies_of_all version g m k ss (rest ws)) ++ ys) f.0 h.0 tu.0 tw.0 wu.0 ww.0 split in
+        (prefix_all LeftToRight (bodies_of_all version g m k ss (rest ws)) ++ ys) f.0 h.0 tu.0 tw.0 wu.0 ww.0
+        (simp append_assoc at e) in
         let others = one_forest LeftToRight is ts ss (rest us) (rest ws) xs ys f.1 h.1 tu.1 tw.1 wu.1 ww.1 first.2 in
-        (ap (λ z. more z ts) first.0 ∙ ap (more s) others.0, (first.1, others.1), others.2)
+        (cc, (first.1, others.1), others.2)
     one_forest RightToLeft (x ∷ is) (more t ts) (more s ss) us ws xs ys f h tu tw wu ww e =
-        let split : prefix_all RightToLeft (bodies_of_all version g m k ts (rest us))
-        ++ (prefix RightToLeft (bodies_of version g m k t (us 0)) ++ xs) ≡ prefix_all RightToLeft
-        (bodies_of_all version g m k ss (rest ws)) ++ (prefix RightToLeft (bodies_of version g m k s (ws 0)) ++ ys) =
-        sym
-        (append_assoc (prefix_all RightToLeft (bodies_of_all version g m k ts (rest us)))
-        (prefix RightToLeft (bodies_of version g m k t (us 0))) xs) ∙ e
-        ∙ append_assoc (prefix_all RightToLeft (bodies_of_all version g m k ss (rest ws)))
-        (prefix RightToLeft (bodies_of version g m k s (ws 0))) ys in
         let others =
         one_forest RightToLeft is ts ss (rest us) (rest ws) (prefix RightToLeft (bodies_of version g m k t (us 0)) ++ xs)
-        (prefix RightToLeft (bodies_of version g m k s (ws 0)) ++ ys) f.1 h.1 tu.1 tw.1 wu.1 ww.1 split in
+        (prefix RightToLeft (bodies_of version g m k s (ws 0)) ++ ys) f.1 h.1 tu.1 tw.1 wu.1 ww.1 (simp append_assoc at e) in
         let first = one_tree RightToLeft x t s (us 0) (ws 0) xs ys f.0 h.0 tu.0 tw.0 wu.0 ww.0 others.2 in
-        (ap (λ z. more z ts) first.0 ∙ ap (more s) others.0, (first.1, others.1), first.2)
+        (cc, (first.1, others.1), first.2)
+    one_forest d [] none (more s ss) us ws xs ys f h tu tw wu ww e = elim h [ ]
+    one_forest d (x ∷ is) (more t ts) none us ws xs ys f h tu tw wu ww e = elim h [ ]
+    one_forest d is ts ss us ws xs ys f h tu tw wu ww e = elim f [ ]
 
 pub leading_tree : OneTreeBefore
 leading_tree version g m k d x t s u w rest others few is_t is_s e =
@@ -128,30 +91,20 @@ pub tree_at_end : OneTreeAtEnd
 tree_at_end version g m k d x t s u w leading others few is_t is_s e =
     let a = bodies_of version g m k t u in
     let b = bodies_of version g m k s w in
-    let turned_a : reverse (leading ++ postfix d a) ≡ prefix (other d) a ++ reverse leading =
-    reverse-append leading (postfix d a) ∙ ap (λ (zs : List (List ℕ)). zs ++ reverse leading) (turned d a) in
-    let turned_b : reverse (others ++ postfix d b) ≡ prefix (other d) b ++ reverse others =
-    reverse-append others (postfix d b) ∙ ap (λ (zs : List (List ℕ)). zs ++ reverse others) (turned d b) in
     let all =
     leading_tree version g m k (other d) x t s u w (reverse leading) (reverse others) few is_t is_s
-    (sym turned_a ∙ ap reverse e ∙ turned_b) in
-    (all.0, all.1, sym (reverse-reverse leading) ∙ ap reverse all.2 ∙ reverse-reverse others)
+    (cc (reverse-append leading (postfix d a), turned d a, reverse-append others (postfix d b), turned d b)) in
+    (all.0, all.1, cc (reverse-reverse leading, reverse-reverse others))
 
 pub one_file : OneReading
 one_file version g m k t s u w content usable fits few tree_t tree_s is_t is_s =
     let d = other (direction_of k) in
-    let back_t : ReadsBack version content (length content) (prefix d (bodies_of version g m k t u)) =
-    file_back version g m k t u content fits tree_t is_t usable in
-    let back_s : ReadsBack version content (length content) (prefix d (bodies_of version g m k s w)) =
-    file_back version g m k s w content fits tree_s is_s usable in
     let same =
     reads_same version content (prefix d (bodies_of version g m k t u)) (prefix d (bodies_of version g m k s w))
-    (length content) back_t back_s in
-    let recorded_t : IsRecorded g m k (item.Symbol g.start) t u =
-    record { fits = tree_t; texts = is_t.texts; well = is_t.well } in
-    let recorded_s : IsRecorded g m k (item.Symbol g.start) s w =
-    record { fits = tree_s; texts = is_s.texts; well = is_s.well } in
+    (length content) (file_back version g m k t u content fits tree_t is_t usable)
+    (file_back version g m k s w content fits tree_s is_s usable) in
     let one =
-    leading_tree version g m k d (item.Symbol g.start) t s u w [] [] few recorded_t recorded_s
-    (ap (λ (zs : List (List ℕ)). zs ++ []) same) in
+    leading_tree version g m k d (item.Symbol g.start) t s u w [] [] few
+    (record { fits = tree_t; texts = is_t.texts; well = is_t.well })
+    (record { fits = tree_s; texts = is_s.texts; well = is_s.well }) (cc) in
     (one.0, one.1)

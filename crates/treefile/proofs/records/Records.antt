@@ -1,9 +1,9 @@
 -- The records of a tree's file: there is one for each node, and the length of each body is within the limits, so that the file is
 -- read back.
-use Rattle.std.proofs.Common.{◌≡◌, ℕ, suc, ◌≤◌, Bool, true, false, List, [], ◌∷◌, length, reverse, Some, slice_get, All, refl, ap}
-use Rattle.std.proofs.Common.{sym, subst, arith}
+use Rattle.std.proofs.Common.{◌≡◌, ℕ, suc, ◌≤◌, Bool, true, false, List, [], ◌∷◌, length, slice_get, All, refl, ap}
+use Rattle.std.proofs.Common.{subst, arith}
 use Rattle.std.proofs.lemmas.List.{length-append}
-use Rattle.std.proofs.lemmas.List.Elements.{All-append, All-cons, All-nil}
+use Rattle.std.proofs.lemmas.List.Elements.{All-append, All-cons, All-nil, All-push}
 use Rattle.ag_value.specs.declared.value.Value.{Value, Text}
 use Rattle.ag_value.specs.Spelling.{spelling_of}
 use Rattle.ag_value.specs.Well.{IsWell}
@@ -25,7 +25,7 @@ use Rattle.treefile.specs.framing.Backward.{ReadsBack}
 use Rattle.treefile.specs.framing.Ending.{IsBody, IsUsable}
 use Rattle.treefile.specs.records.Orders as orders
 use Rattle.treefile.specs.records.Orders.{joined, postfix, postfix_all, prefix}
-use Rattle.treefile.specs.records.Records.{FitsVersion, IsFileOfTree, bodies_of, bodies_of_all, copies_of, file_of_tree}
+use Rattle.treefile.specs.records.Records.{FitsVersion, IsFileOfTree, bodies_of, bodies_of_all, copies_of}
 use Rattle.treefile.specs.records.Records.{max_stored_values, values_up_to, with_copies}
 use Rattle.treefile.specs.records.TreeFile.{Version, body_of}
 use Rattle.treefile.proofs.framing.Backward.{read_back}
@@ -41,21 +41,17 @@ is_body version kind number values few well = record {
   greatest = body_size version kind number values few well;
 }
 
--- a node of a production has no more values than the version allows
-stored_few : (version : Version) (has : Bool) (g : Grammar) (m : Passes) (k p : ℕ) (q : Production) (e : ℕ → Value) (ts : Forest)
-    (vs : ℕ → Valuation) → slice_get g.productions p ≡ Some q → FitsAll g (stored_items q.items) ts
-    → max_stored_values has g m q ≤ version.max_values
-    → length (with_copies has (values_up_to k (left_passes m (slice_get g.productions p)) e) (copies_of g m k ts vs))
-    ≤ version.max_values
-stored_few version false g m k p q e ts vs there f few =
-    omega (arith, values_few k (left_passes m (slice_get g.productions p)) e, ap (λ o. length (left_passes m o)) there)
-stored_few version true g m k p q e ts vs there f few =
-    let own = values_up_to k (left_passes m (slice_get g.productions p)) e in
+-- a node of a production has no more values than a record can have
+stored_few : (has : Bool) (g : Grammar) (m : Passes) (k : ℕ) (ps : List ℕ) (q : Production) (e : ℕ → Value) (ts : Forest)
+    (vs : ℕ → Valuation) → ps ≡ m q.left → FitsAll g (stored_items q.items) ts
+    → length (with_copies has (values_up_to k ps e) (copies_of g m k ts vs)) ≤ max_stored_values has g m q
+stored_few false g m k ps q e ts vs same f = omega (arith, values_few k ps e, ap length same)
+stored_few true g m k ps q e ts vs same f =
     omega (
       arith,
-      length-append own (copies_of g m k ts vs),
-      values_few k (left_passes m (slice_get g.productions p)) e,
-      ap (λ o. length (left_passes m o)) there,
+      length-append (values_up_to k ps e) (copies_of g m k ts vs),
+      values_few k ps e,
+      ap length same,
       copies_few g m k (stored_items q.items) ts vs f,
     )
 
@@ -84,19 +80,16 @@ module _ (version : Version) (g : Grammar) (m : Passes) (k : ℕ) (d : Direction
         All-cons (IsBody version) (body_of Token c (Text text ∷ [])) []
         (is_body version Token c (Text text ∷ []) fits.tokens (All-cons IsWell (Text text) [] is (All-nil IsWell)))
         (All-nil (IsBody version))
-    bodies_fit (item.Terminal a) (node p ts) v f texts well = elim f [ ]
     bodies_fit (item.Symbol s) (node p ts) v f texts well =
         let ps = left_passes m (slice_get g.productions p) in
         let stored = with_copies version.has_copies (values_up_to k ps (v [])) (copies_of g m k ts (children v)) in
-        let few : length stored ≤ version.max_values =
-        stored_few version version.has_copies g m k p f.0 (v []) ts (children v) f.1 f.3 (fits.nodes p f.0 f.1) in
-        let own =
-        is_body version Node p stored few
-        (stored_well version.has_copies (values_up_to k ps (v [])) (copies_of g m k ts (children v))
-        (values_well k ps (v []) well.0) (copies_well g m k ts (children v) texts.1 well.1)) in
-        All-append (IsBody version) (postfix_all d (bodies_of_all version g m k ts (children v))) (body_of Node p stored ∷ [])
+        let few = stored_few version.has_copies g m k ps f.0 (v []) ts (children v) (rw f.1) f.3 in
+        All-push (IsBody version) (postfix_all d (bodies_of_all version g m k ts (children v))) (body_of Node p stored)
         (all_fit (stored_items f.0.items) ts (children v) f.3 texts.1 well.1)
-        (All-cons (IsBody version) (body_of Node p stored) [] own (All-nil (IsBody version)))
+        (is_body version Node p stored (omega (arith, few, fits.nodes p f.0 f.1))
+        (stored_well version.has_copies (values_up_to k ps (v [])) (copies_of g m k ts (children v))
+        (values_well k ps (v []) well.0) (copies_well g m k ts (children v) texts.1 well.1)))
+    bodies_fit (item.Terminal a) (node p ts) v f texts well = elim f [ ]
 
     all_fit : (xs : List Item) (ts : Forest) (vs : ℕ → Valuation) → FitsAll g xs ts → SolvesAll NoRule g ts vs
         → AtEachNodeOf (WellAt (λ p. p ≤ k)) g m ts vs vs
@@ -116,8 +109,5 @@ module _ (version : Version) (g : Grammar) (m : Passes) (k : ℕ) (t : Tree) (v 
   pub file_back : IsUsable version
       → ReadsBack version content (length content) (prefix (other (direction_of k)) (bodies_of version g m k t v))
   file_back usable =
-      let bodies = postfix (direction_of k) (bodies_of version g m k t v) in
-      let back : ReadsBack version (file_of_tree version g m k t v) (length (file_of_tree version g m k t v)) (reverse bodies) =
-      read_back version k usable bodies file_fits in
-      subst (ReadsBack version content (length content)) (turned (direction_of k) (bodies_of version g m k t v))
-      (subst (λ (c : List ℕ). ReadsBack version c (length c) (reverse bodies)) (sym is.occurs) back)
+      let bodies = bodies_of version g m k t v in
+      rw (is.occurs, ← turned (direction_of k) bodies) (read_back version k usable (postfix (direction_of k) bodies) file_fits)

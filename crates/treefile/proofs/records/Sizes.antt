@@ -18,10 +18,12 @@ spelling_size value well = omega (arith, length-spelling value, well.light)
 spellings_size : (values : List Value) → All IsWell values → length (flat_map spelling_of values) ≤ length values * 1048576
 spellings_size [] all = omega arith
 spellings_size (value ∷ values) all =
-    let first : length (spelling_of value) ≤ 1048576 = spelling_size value (all 0 value (omega arith)) in
-    let others : length (flat_map spelling_of values) ≤ length values * 1048576 =
-    spellings_size values (All-drop IsWell 1 (value ∷ values) all) in
-    omega (arith, length-append (spelling_of value) (flat_map spelling_of values))
+    omega (
+      arith,
+      length-append (spelling_of value) (flat_map spelling_of values),
+      spelling_size value (all 0 value (omega arith)),
+      spellings_size values (All-drop IsWell 1 (value ∷ values) all),
+    )
 
 -- a body whose values are well, and no more than the version allows, has no more bytes than the greatest body
 pub body_size : (version : Version) (kind : Kind) (number : ℕ) (values : List Value) → length values ≤ version.max_values

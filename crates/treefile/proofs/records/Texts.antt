@@ -1,9 +1,9 @@
 -- Values that give each leaf of a tree its text.
-use Rattle.std.proofs.Common.{ℕ, zero, suc, [], ◌∷◌, Option, Some, None, slice_get, refl}
-use Rattle.ag_value.specs.declared.value.Value.{Value, Text}
-use Rattle.ag_grammar.specs.declared.grammar.Production.{Production}
+use Rattle.std.proofs.Common.{ℕ, zero, suc, [], ◌∷◌, slice_get, refl}
+use Rattle.ag_value.specs.declared.value.Value.{Text}
 use Rattle.ag_grammar.specs.grammars.AttributeGrammar.{Grammar}
-use Rattle.ag_grammar.specs.grammars.Solution.{NoRule, RulesHold, Solves, SolvesAll, Valuation, at}
+use Rattle.ag_grammar.specs.grammars.Solution.{NoRule, Solves, SolvesAll, Valuation, at}
+use Rattle.ag_grammar.proofs.grammars.EachNode.{no_rules}
 use Rattle.ag_grammar.specs.grammars.Tree.{Tree, Forest, leaf, node, none, more}
 
 abbrev mutual
@@ -16,10 +16,6 @@ abbrev mutual
   texts_of_all none i path a = Text []
   texts_of_all (more t ts) zero path a = texts t path a
   texts_of_all (more t ts) (suc i) path a = texts_of_all ts i path a
-
-no_rules : (q : Option Production) (e : ℕ → ℕ → Value) → RulesHold NoRule q e
-no_rules None e = tt
-no_rules (Some q) e = λ r is no. absurd no
 
 module _ (g : Grammar) where
   mutual

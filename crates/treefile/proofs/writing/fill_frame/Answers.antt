@@ -1,11 +1,8 @@
-use Rattle.std.proofs.Common.{subst, sym}
+use Rattle.std.proofs.Common.{rules}
 use Rattle.treefile.proofs.records.Records.{is_body}
-use Rattle.treefile.specs.framing.Ending.{IsBody}
-use Rattle.treefile.specs.records.TreeFile.{version_two}
 use Rattle.treefile.proofs.writing.fill_frame.Goals as goal
 
 -- the body of a record of few well values has a length within the limits
 pub close_frame-requires : goal.close_frame-requires
 close_frame-requires c =
-    subst (IsBody version_two) (sym c.in_ok-fill_body.ensures)
-    (is_body version_two c.args.kind c.args.number c.args.values.now c.requires.few c.requires.well)
+    rw c.in_ok-fill_body.ensures (search (rules, is_body))

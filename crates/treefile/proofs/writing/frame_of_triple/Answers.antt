@@ -1,4 +1,4 @@
-use Rattle.std.proofs.Common.{w64, refl}
+use Rattle.std.proofs.Common.{w64}
 use Rattle.std.proofs.lemmas.Int.{to_z-of_z}
 use Rattle.ag_value.proofs.Layers.{spelling-Num}
 use Rattle.treefile.proofs.writing.frame_of_triple.Goals as goal
@@ -13,9 +13,7 @@ returns c =
       c.to_be_bytes.ensures,
       c.byte-kind.ensures,
       spelling-Num,
-    )
-    (simp (
       to_z-of_z w64 c.args.first c.ranges.first,
       to_z-of_z w64 c.args.second c.ranges.second,
       to_z-of_z w64 c.args.third c.ranges.third,
-    ) refl)
+    )
