@@ -1,6 +1,6 @@
 -- Keys of which none is among the earlier ones are distinct, and the converse.
 use Rattle.std.proofs.Common.{zero, suc, ℕ, ◌≡◌, ◌<◌, ◌≢◌, Bool, true, false, cond, not, List, [], ◌∷◌, ◌++◌, length, get_or, map}
-use Rattle.std.proofs.Common.{None, Some, slice_get, AllPairs, refl, sym, ap, ◌∙◌, inl, inr, arith, append-nil, append_assoc}
+use Rattle.std.proofs.Common.{None, Some, slice_get, AllPairs, refl, sym, ◌∙◌, inl, inr, arith, append-nil, append_assoc}
 use Rattle.std.proofs.Common.{length-append}
 use Rattle.std.proofs.lemmas.Bool.{false≢true, cases_eq, cases_lt}
 use Rattle.std.proofs.lemmas.List.{get_or_append_left, get_or_at, length-map, get_or-map}
@@ -23,11 +23,7 @@ pub record DecidesBy {K : Type 0} (same : K → K → Bool) : Type 0 where
   pub whole : (a b : K) → a ≡ b → same a b ≡ true
 
 differs : {K : Type 0} (same : K → K → Bool) → DecidesBy same → (a b : K) → a ≢ b → same b a ≡ false
-differs same decides a b other = go (same b a) refl
-  where
-    go : (v : Bool) → same b a ≡ v → v ≡ false
-    go false e = refl
-    go true e = absurd (other (sym (decides.sound b a e)))
+differs same decides a b other = grind (arith, decides.sound)
 
 pub apart_push : {K : Type 0} (same : K → K → Bool) → DecidesBy same → (seen : List K) (key : K) → Apart seen
     → list_any (same key) seen ≡ false → Apart (seen ++ key ∷ [])
@@ -51,91 +47,73 @@ abbrev pub with_key : {X K : Type 0} → (K → K → Bool) → (X → K) → Li
 with_key same key seen x = cond (list_any (same (key x)) seen) seen (seen ++ key x ∷ [])
 
 new_is : (b : Bool) → not b ≡ true → b ≡ false
-new_is false h = refl
-new_is true h = absurd (cc)
+new_is b h = grind arith
 
-with_new : {X K : Type 0} (same : K → K → Bool) (key : X → K) (seen : List K) (x : X) → list_any (same (key x)) seen ≡ false
-    → with_key same key seen x ≡ seen ++ key x ∷ []
-with_new same key seen x new = rw new refl
+-- the checks of a list with these keys
+module _ {X K : Type 0} (same : K → K → Bool) (fault : X → NormalFault) (key : X → K) (more : X → List Check) where
+  abbrev pub checks_of_keys : List K → List X → List Check
+  checks_of_keys seen xs = checks_along (key_checks same fault key more) (with_key same key) seen xs
 
-pub apart_along : {X K : Type 0} (same : K → K → Bool) (fault : X → NormalFault) (key : X → K) (more : X → List Check)
-    → DecidesBy same → (seen : List K) (xs : List X) → Apart seen
-    → first_wrong (checks_along (key_checks same fault key more) (with_key same key) seen xs) ≡ None → Apart (seen ++ map key xs)
-apart_along same fault key more decides seen [] apart h = rw append-nil apart
-apart_along same fault key more decides seen (x ∷ xs) apart h =
-    let p =
-    both_right (key_checks same fault key more seen x)
-    (checks_along (key_checks same fault key more) (with_key same key) (with_key same key seen x) xs) h in
-    let new =
-    new_is (list_any (same (key x)) seen)
-    (is_right (fault x, not (list_any (same (key x)) seen))
-    (both_right ((fault x, not (list_any (same (key x)) seen)) ∷ []) (more x) p.0).0) in
-    rw (← append_assoc seen (key x ∷ []) (map key xs))
-    (apart_along same fault key more decides (seen ++ key x ∷ []) xs (apart_push same decides seen (key x) apart new)
-    (rw (with_new same key seen x new) at p.1))
+  abbrev is_new : List K → X → Check
+  is_new seen x = (fault x, not (list_any (same (key x)) seen))
 
--- if all checks along a list hold, so do the further checks of each element
-pub more_along : {X K : Type 0} (same : K → K → Bool) (fault : X → NormalFault) (key : X → K) (more : X → List Check)
-    (seen : List K) (xs : List X)
-    → first_wrong (checks_along (key_checks same fault key more) (with_key same key) seen xs) ≡ None → (i : ℕ) (x : X)
-    → slice_get xs i ≡ Some x → first_wrong (more x) ≡ None
-more_along same fault key more seen [] h i x e = absurd (cc)
-more_along same fault key more seen (y ∷ ys) h zero x e =
-    let p =
-    both_right (key_checks same fault key more seen y)
-    (checks_along (key_checks same fault key more) (with_key same key) (with_key same key seen y) ys) h in
-    let z : y ≡ x = cc in rw (← z) (both_right ((fault y, not (list_any (same (key y)) seen)) ∷ []) (more y) p.0).1
-more_along same fault key more seen (y ∷ ys) h (suc i) x e =
-    let p =
-    both_right (key_checks same fault key more seen y)
-    (checks_along (key_checks same fault key more) (with_key same key) (with_key same key seen y) ys) h in
-    more_along same fault key more (with_key same key seen y) ys p.1 i x e
+  with_new : (seen : List K) (x : X) → list_any (same (key x)) seen ≡ false → with_key same key seen x ≡ seen ++ key x ∷ []
+  with_new seen x new = rw new
 
-pub along_apart : {X K : Type 0} (same : K → K → Bool) (fault : X → NormalFault) (key : X → K) (more : X → List Check)
-    → DecidesBy same → (seen : List K) (xs : List X) → Apart (seen ++ map key xs)
-    → ((i : ℕ) (x : X) → slice_get xs i ≡ Some x → first_wrong (more x) ≡ None)
-    → first_wrong (checks_along (key_checks same fault key more) (with_key same key) seen xs) ≡ None
-along_apart same fault key more decides seen [] apart each = refl
-along_apart same fault key more decides seen (x ∷ xs) apart each =
-    let new = apart_new same decides seen (key x) (map key xs) apart in
-    together (key_checks same fault key more seen x)
-    (checks_along (key_checks same fault key more) (with_key same key) (with_key same key seen x) xs)
-    (together ((fault x, not (list_any (same (key x)) seen)) ∷ []) (more x)
-    (right_is (fault x, not (list_any (same (key x)) seen)) (rw new refl)) (each zero x refl))
-    (rw (with_new same key seen x new)
-    (along_apart same fault key more decides (seen ++ key x ∷ []) xs (rw (append_assoc seen (key x ∷ []) (map key xs)) apart)
-    (λ i. each (suc i))))
+  pub apart_along : DecidesBy same → (seen : List K) (xs : List X) → Apart seen → first_wrong (checks_of_keys seen xs) ≡ None
+      → Apart (seen ++ map key xs)
+  apart_along decides seen [] apart h = rw append-nil apart
+  apart_along decides seen (x ∷ xs) apart h =
+      let p = both_right (is_new seen x ∷ more x) _ h in
+      let new = new_is _ (is_right (is_new seen x) (both_right (is_new seen x ∷ []) (more x) p.0).0) in
+      rw (← append_assoc seen (key x ∷ []) (map key xs))
+      (apart_along decides (seen ++ key x ∷ []) xs (apart_push same decides seen (key x) apart new)
+      (rw (with_new seen x new) at p.1))
+
+  -- if all checks along a list hold, so do the further checks of each element
+  pub more_along : (seen : List K) (xs : List X) → first_wrong (checks_of_keys seen xs) ≡ None → (i : ℕ) (x : X)
+      → slice_get xs i ≡ Some x → first_wrong (more x) ≡ None
+  more_along seen [] h i x e = absurd (cc)
+  more_along seen (y ∷ ys) h zero x e =
+      let p = both_right (is_new seen y ∷ more y) _ h in
+      let z : y ≡ x = cc in rw (← z) (both_right (is_new seen y ∷ []) (more y) p.0).1
+  more_along seen (y ∷ ys) h (suc i) x e =
+      more_along (with_key same key seen y) ys (both_right (is_new seen y ∷ more y) _ h).1 i x e
+
+  pub along_apart : DecidesBy same → (seen : List K) (xs : List X) → Apart (seen ++ map key xs)
+      → ((i : ℕ) (x : X) → slice_get xs i ≡ Some x → first_wrong (more x) ≡ None) → first_wrong (checks_of_keys seen xs) ≡ None
+  along_apart decides seen [] apart each = refl
+  along_apart decides seen (x ∷ xs) apart each =
+      let new = apart_new same decides seen (key x) (map key xs) apart in
+      together (is_new seen x ∷ more x) _
+      (together (is_new seen x ∷ []) (more x) (right_is (is_new seen x) (rw new refl)) (each zero x refl))
+      (rw (with_new seen x new)
+      (along_apart decides (seen ++ key x ∷ []) xs (rw (append_assoc seen (key x ∷ []) (map key xs)) apart) (λ i. each (suc i))))
 
 pub none_apart : {K : Type 0} → Apart {K = K} []
 none_apart i j d before within = absurd (omega arith)
 
 key_at : {X K : Type 0} (key : X → K) (xs : List X) (n : ℕ) (z d : X) → slice_get xs n ≡ Some z
     → get_or (map key xs) n (key d) ≡ key z
-key_at key xs n z d e = get_or-map key xs n d (key d) (slice_get_within xs n z e) ∙ ap key (get_or_from_slice_get xs n z d e)
+key_at key xs n z d e = cc (get_or-map key xs n d (key d) (slice_get_within _ _ _ e), get_or_from_slice_get xs n z d e)
 
 -- elements differ in their keys if the keys are distinct
 pub apart_differ : {X K : Type 0} (key : X → K) (xs : List X) → Apart (map key xs) → DifferIn key xs
 apart_differ key xs apart i j x y e f same = elim (cases_lt i j) [
-  | inl lt ↦ absurd
-      (apart i j (key x) lt (rw (length-map xs key) (slice_get_within xs j y f))
-      (key_at key xs i x x e ∙ same ∙ sym (key_at key xs j y x f)))
+  | inl lt ↦ absurd (apart i j (key x) lt (rw (length-map xs key) (slice_get_within _ _ _ f))
+      (cc (key_at key xs i x x e, key_at key xs j y x f)))
   | inr le ↦ elim (cases_eq i j) [
     | inl here ↦ here
-    | inr other ↦ absurd
-        (apart j i (key x) (omega arith) (rw (length-map xs key) (slice_get_within xs i x e))
-        (key_at key xs j y x f ∙ sym same ∙ sym (key_at key xs i x x e)))
+    | inr other ↦ absurd (apart j i (key x) (omega arith) (rw (length-map xs key) (slice_get_within _ _ _ e))
+        (cc (key_at key xs i x x e, key_at key xs j y x f)))
   ]
 ]
 
-same_twice : {X K : Type 0} (key : X → K) (xs : List X) → DifferIn key xs → (i j : ℕ) (d : K) (z : X) → i < j → i < length xs
-    → j < length xs → get_or (map key xs) i d ≡ get_or (map key xs) j d → ⊥
-same_twice key xs differ i j d z lt hi hj same =
-    let k : key (get_or xs i z) ≡ key (get_or xs j z) = sym (get_or-map key xs i z d hi) ∙ same ∙ get_or-map key xs j z d hj in
-    let n = differ i j (get_or xs i z) (get_or xs j z) (slice_get-get_or xs i z hi) (slice_get-get_or xs j z hj) k in
-    absurd (omega arith)
-
 pub differ_apart : {X K : Type 0} (key : X → K) (xs : List X) → DifferIn key xs → Apart (map key xs)
 differ_apart key [] differ i j d lt within same = absurd (omega arith)
-differ_apart key (x ∷ xs) differ i j d lt within same =
-    let inside : j < length (x ∷ xs) = rw (← length-map (x ∷ xs) key) within in
-    same_twice key (x ∷ xs) differ i j d x lt (omega arith) inside same
+differ_apart key (x ∷ ys) differ i j d lt within same =
+    let xs = x ∷ ys in
+    let hj : j < length xs = rw (length-map xs key) at within in
+    let hi : i < length xs = omega arith in
+    let k : key (get_or xs i x) ≡ key (get_or xs j x) = cc (get_or-map key xs i x d hi, get_or-map key xs j x d hj) in
+    absurd (omega (arith, differ i j _ _ (slice_get-get_or xs i x hi) (slice_get-get_or xs j x hj) k))

@@ -22,10 +22,9 @@ pub naming_parts : (raw : RawGrammar) → first_wrong (naming_checks raw) ≡ No
     → (first_wrong (unknown_checks (symbols raw) raw.productions) ≡ None) × (first_wrong (doubled_checks raw.symbols) ≡ None)
     × (first_wrong (start_checks (symbols raw) raw.start) ≡ None)
 naming_parts raw h =
-    let w =
-    both_right (unknown_checks (symbols raw) raw.productions ++ doubled_checks raw.symbols)
-    (start_checks (symbols raw) raw.start) h in
-    let v = both_right (unknown_checks (symbols raw) raw.productions) (doubled_checks raw.symbols) w.0 in (v.0, v.1, w.1)
+    let unknown = unknown_checks (symbols raw) raw.productions in
+    let w = both_right (unknown ++ doubled_checks raw.symbols) _ h in
+    let v = both_right unknown _ w.0 in (v.0, v.1, w.1)
 
 pub bounded : (raw : RawGrammar) → first_wrong (naming_checks raw) ≡ None
     → All (IsClauseBelow (length (symbols raw))) (clauses raw)
@@ -39,7 +38,7 @@ pub start_bounded : (raw : RawGrammar) → first_wrong (naming_checks raw) ≡ N
     → All (λ t. t < length (symbols raw)) (start raw ∷ [])
 start_bounded raw h =
     All-cons (λ t. t < length (symbols raw)) (start raw) [] (start_below (symbols raw) raw.start (naming_parts raw h).2)
-    (All-nil (λ t. t < length (symbols raw)))
+    (All-nil _)
 
 count : (raw : RawGrammar) → length (symbols raw) ≡ length raw.symbols
 count raw = length-map raw.symbols symbol_of

@@ -1,7 +1,7 @@
 -- The numbers that follow from the clauses of a raw grammar are productive, and those that follow from the
 -- edges are reached.
 use Rattle.std.proofs.Common.{arith, Bool, true, false, cond, is_some, nat_lt, bytes_eq, Option, ℕ, zero, suc, ◌≡◌, ◌<◌, ◌⊎◌, inl}
-use Rattle.std.proofs.Common.{inr, List, [], ◌∷◌, ◌++◌, length, map, flat_map, All, Some, None, slice_get, refl, ap, sym, ◌∙◌}
+use Rattle.std.proofs.Common.{inr, List, [], ◌∷◌, ◌++◌, length, map, flat_map, All, Some, None, slice_get, refl, ap, sym}
 use Rattle.std.proofs.Common.{subst}
 use Rattle.std.proofs.lemmas.Bool.{ltb-true, lt-ltb}
 use Rattle.std.proofs.lemmas.List.{length-map}
@@ -45,19 +45,16 @@ symbols_of (item.Symbol s ∷ xs) = s ∷ symbols_of xs
 symbols_of (item.Terminal a ∷ xs) = symbols_of xs
 
 -- Induction: P holds of all productive symbols if each left side has P whenever all symbols of its right side have P.
-mutual
-  productive_in : (g : Grammar) (P : ℕ → Type 0)
-      → ((p : ℕ) (q : Production) → slice_get g.productions p ≡ Some q → All P (symbols_of q.items) → P q.left) → (s : ℕ)
-      → IsProductive g s → P s
-  productive_in g P closed s (by_production p q e l h) = subst P l (closed p q e (items_in g P closed q.items h))
+module _ (g : Grammar) (P : ℕ → Type 0)
+    (closed : (p : ℕ) (q : Production) → slice_get g.productions p ≡ Some q → All P (symbols_of q.items) → P q.left) where
+  mutual
+    productive_in : (s : ℕ) → IsProductive g s → P s
+    productive_in s (by_production p q e l h) = subst P l (closed p q e (items_in q.items h))
 
-  items_in : (g : Grammar) (P : ℕ → Type 0)
-      → ((p : ℕ) (q : Production) → slice_get g.productions p ≡ Some q → All P (symbols_of q.items) → P q.left) → (xs : List Item)
-      → AreProductive g xs → All P (symbols_of xs)
-  items_in g P closed [] no_item = All-nil P
-  items_in g P closed (item.Symbol s ∷ xs) (a_symbol h k) =
-      All-cons P s (symbols_of xs) (productive_in g P closed s h) (items_in g P closed xs k)
-  items_in g P closed (item.Terminal a ∷ xs) (a_terminal k) = items_in g P closed xs k
+    items_in : (xs : List Item) → AreProductive g xs → All P (symbols_of xs)
+    items_in [] no_item = All-nil P
+    items_in (item.Symbol s ∷ xs) (a_symbol h k) = All-cons P s (symbols_of xs) (productive_in s h) (items_in xs k)
+    items_in (item.Terminal a ∷ xs) (a_terminal k) = items_in xs k
 
 -- Induction: P holds of all reached symbols if the start symbol has P, and if each symbol of a right side has P whenever the left
 -- side has P.
@@ -80,39 +77,42 @@ clauses raw = clauses_of (symbols raw) raw.productions
 abbrev pub produces : RawGrammar → RawProduction → Production
 produces raw q = production_of (symbols raw) (literals_of raw.productions) q
 
+-- the items at the places of a production
+abbrev pub places : RawGrammar → RawProduction → List Item
+places raw q = placed (symbols raw) q
+
 -- items are productive if their symbols are
 items_productive : (raw : RawGrammar) (lits : List (List ℕ)) (xs : List RawItem)
     → All (IsProductive (numbered raw)) (body_of (names raw) xs)
     → AreProductive (numbered raw) (map (item_of (names raw) lits) xs)
 items_productive raw lits [] all = no_item
 items_productive raw lits (raw_item.Name name ∷ xs) all =
-    a_symbol (All-head (IsProductive (numbered raw)) (number_in (names raw) name.name) (body_of (names raw) xs) all)
-    (items_productive raw lits xs
-    (All-tail (IsProductive (numbered raw)) (number_in (names raw) name.name) (body_of (names raw) xs) all))
+    a_symbol (All-head (IsProductive (numbered raw)) _ (body_of (names raw) xs) all)
+    (items_productive raw lits xs (All-tail (IsProductive (numbered raw)) (number_in (names raw) name.name) _ all))
 items_productive raw lits (raw_item.Literal text ∷ xs) all = a_terminal (items_productive raw lits xs all)
 items_productive raw lits (raw_item.Class c ∷ xs) all = a_terminal (items_productive raw lits xs all)
 
 pub follows_productive : (raw : RawGrammar) (s : ℕ) → Follows (clauses raw) [] s → IsProductive (numbered raw) s
 follows_productive raw =
     follows_in (clauses raw) [] (IsProductive (numbered raw)) (λ t none. absurd (omega (arith, none.1))) (λ p c e all.
-    let w = mapped_at (clause_of (symbols raw)) raw.productions p c e in
-    by_production p (produces raw w.0) (at_mapped (produces raw) raw.productions p w.0 w.1) (ap (λ (d : Clause). d.head) w.2)
-    (items_productive raw (literals_of raw.productions) w.0.items (rw (← w.2) at all)))
+    let (q, at, is) = mapped_at (clause_of (symbols raw)) raw.productions p c e in
+    by_production p (produces raw q) (at_mapped _ _ p q at) (cc (ap (λ (d : Clause). d.head) is))
+    (items_productive raw (literals_of raw.productions) q.items (rw (← is) at all)))
 
 body_symbols : (ns lits : List (List ℕ)) (xs : List RawItem) → symbols_of (map (item_of ns lits) xs) ≡ body_of ns xs
 body_symbols ns lits [] = refl
-body_symbols ns lits (raw_item.Name name ∷ xs) = ap (λ zs. number_in ns name.name ∷ zs) (body_symbols ns lits xs)
+body_symbols ns lits (raw_item.Name name ∷ xs) = cc (body_symbols ns lits xs)
 body_symbols ns lits (raw_item.Literal text ∷ xs) = body_symbols ns lits xs
 body_symbols ns lits (raw_item.Class c ∷ xs) = body_symbols ns lits xs
 
 pub productive_follows : (raw : RawGrammar) (s : ℕ) → IsProductive (numbered raw) s → Follows (clauses raw) [] s
 productive_follows raw = productive_in (numbered raw) (Follows (clauses raw) []) (λ p q e all.
-    let w = mapped_at (produces raw) raw.productions p q e in
-    let body : All (Follows (clauses raw) []) (body_of (names raw) w.0.items) =
-    rw (← w.2, body_symbols (names raw) (literals_of raw.productions) w.0.items) at all in
-    subst (Follows (clauses raw) []) (ap (λ (r : Production). r.left) w.2)
-    (head_follows (clauses raw) [] p (clause_of (symbols raw) w.0)
-    (at_mapped (clause_of (symbols raw)) raw.productions p w.0 w.1) body))
+    let (r, at, is) = mapped_at (produces raw) raw.productions p q e in
+    let body : All (Follows (clauses raw) []) (body_of (names raw) r.items) =
+    rw (← is, body_symbols (names raw) (literals_of raw.productions) r.items) at all in
+    rw (← is)
+    (head_follows (clauses raw) [] p (clause_of (symbols raw) r)
+    (at_mapped (clause_of (symbols raw)) raw.productions p r at) body))
 
 abbrev pub start : RawGrammar → ℕ
 start raw = number_in (names raw) raw.start.name
@@ -146,14 +146,14 @@ body_symbol ns lits (raw_item.Class c ∷ xs) i s e = let w = body_symbol ns lit
 pub reached_follows : (raw : RawGrammar) (s : ℕ) → IsReached (numbered raw) s → FollowsStart raw s
 reached_follows raw =
     symbols_in (numbered raw) (FollowsStart raw) (seed (Contains-get_or (start raw ∷ []) 0 0 (omega arith))) (λ p q s e left has.
-    let w = mapped_at (produces raw) raw.productions p q e in
-    let here = symbol_body (names raw) (literals_of raw.productions) w.0.items has.0 s (rw (← w.2) at has.1) in
-    let c = clause_of (symbols raw) w.0 in
-    let at_clause = at_mapped (clause_of (symbols raw)) raw.productions p w.0 w.1 in
+    let (r, at, is) = mapped_at (produces raw) raw.productions p q e in
+    let here = symbol_body (names raw) (literals_of raw.productions) r.items has.0 s (rw (← is) at has.1) in
+    let c = clause_of (symbols raw) r in
+    let at_clause = at_mapped (clause_of (symbols raw)) raw.productions p r at in
     let there : Has (flat_map edges_of (clauses raw)) (edge c.head s) =
     has_flat edges_of (clauses raw) p c (edge c.head s) at_clause (here.0, at_mapped (edge c.head) c.body here.0 s here.1) in
-    let same : q.left ≡ c.head = sym (ap (λ (r : Production). r.left) w.2) in
-    step (edges raw) (start raw ∷ []) (edge c.head s) (element_at (edges raw) there.0 (edge c.head s) there.1) (rw same at left))
+    step (edges raw) (start raw ∷ []) (edge c.head s) (element_at (edges raw) there.0 (edge c.head s) there.1)
+    (rw (← is) at left))
 
 pub split_has : {X : Type 0} (xs ys : List X) (p : ℕ) (y : X) → slice_get (xs ++ ys) p ≡ Some y → Has xs y ⊎ Has ys y
 split_has [] ys p y e = inr (p, e)
@@ -164,7 +164,7 @@ split_has (x ∷ xs) ys (suc p) y e = elim (split_has xs ys p y e) [
 ]
 
 -- an element of concatenated lists is in one of them
-flat_has : {X Y : Type 0} (f : X → List Y) (xs : List X) (p : ℕ) (y : Y) → slice_get (flat_map f xs) p ≡ Some y
+pub flat_has : {X Y : Type 0} (f : X → List Y) (xs : List X) (p : ℕ) (y : Y) → slice_get (flat_map f xs) p ≡ Some y
     → (i : ℕ) × (x : X) × (slice_get xs i ≡ Some x) × Has (f x) y
 flat_has f [] p y e = absurd (cc)
 flat_has f (x ∷ xs) p y e = elim (split_has (f x) (flat_map f xs) p y e) [
@@ -175,39 +175,38 @@ flat_has f (x ∷ xs) p y e = elim (split_has (f x) (flat_map f xs) p y e) [
 edge_reached : (raw : RawGrammar) (p : ℕ) (e : Edge) → slice_get (edges raw) p ≡ Some e → IsReached (numbered raw) e.from
     → IsReached (numbered raw) e.to
 edge_reached raw p e at before =
-    let w = flat_has edges_of (clauses raw) p e at in
-    let v = mapped_at (clause_of (symbols raw)) raw.productions w.0 w.1 w.2 in
-    let t = mapped_at (edge w.1.head) w.1.body w.3.0 e w.3.1 in
-    let left : IsReached (numbered raw) w.1.head = subst (λ (d : Edge). IsReached (numbered raw) d.from) (sym t.2) before in
-    let body : slice_get (body_of (names raw) v.0.items) w.3.0 ≡ Some t.0 =
-    subst (λ (d : Clause). slice_get d.body w.3.0 ≡ Some t.0) (sym v.2) t.1 in
-    let has = body_symbol (names raw) (literals_of raw.productions) v.0.items w.3.0 t.0 body in
-    let from : IsReached (numbered raw) (number_in (names raw) v.0.left.name) =
-    subst (λ (d : Clause). IsReached (numbered raw) d.head) (sym v.2) left in
-    subst (λ (d : Edge). IsReached (numbered raw) d.to) t.2
-    (within w.0 (produces raw v.0) (at_mapped (produces raw) raw.productions w.0 v.0 v.1) from has)
+    let (i, c, at_clause, (k, at_edge)) = flat_has edges_of (clauses raw) p e at in
+    let (q, at_production, is_clause) = mapped_at (clause_of (symbols raw)) raw.productions i c at_clause in
+    let (s, at_body, is_edge) = mapped_at (edge c.head) c.body k e at_edge in
+    let body : slice_get (body_of (names raw) q.items) k ≡ Some s =
+    subst (λ (d : Clause). slice_get d.body k ≡ Some s) (sym is_clause) at_body in
+    let has = body_symbol (names raw) (literals_of raw.productions) q.items k s body in
+    let left : IsReached (numbered raw) c.head = subst (λ (d : Edge). IsReached (numbered raw) d.from) (sym is_edge) before in
+    let from : IsReached (numbered raw) (number_in (names raw) q.left.name) =
+    subst (λ (d : Clause). IsReached (numbered raw) d.head) (sym is_clause) left in
+    subst (λ (d : Edge). IsReached (numbered raw) d.to) is_edge
+    (within i (produces raw q) (at_mapped (produces raw) raw.productions i q at_production) from has)
 
 pub follows_reached : (raw : RawGrammar) (s : ℕ) → FollowsStart raw s → IsReached (numbered raw) s
 follows_reached raw =
     reached_in (edges raw) (start raw ∷ []) (IsReached (numbered raw))
     (λ t h. All-contains (IsReached (numbered raw)) (start raw ∷ []) t
-    (All-cons (IsReached (numbered raw)) (start raw) [] at_start (All-nil (IsReached (numbered raw)))) h)
+    (All-cons (IsReached (numbered raw)) (start raw) [] at_start (All-nil _)) h)
     (λ e h. let w = position_of_element (edges raw) e h in edge_reached raw w.0 e w.1)
 
 -- The numbers of known names are those of symbols.
 pub known : (texts : List (List ℕ)) (text : List ℕ) → list_any (bytes_eq text) texts ≡ true → number_in texts text < length texts
-known texts text h = go (nat_lt (number_in texts text) (length texts)) refl (found (bytes_eq text) texts ∙ h)
+known texts text h = go (nat_lt (number_in texts text) (length texts)) refl (cc (found (bytes_eq text) texts))
   where
     go : (b : Bool) → nat_lt (number_in texts text) (length texts) ≡ b
         → is_some (cond b (Some (number_in texts text)) None) ≡ true → number_in texts text < length texts
-    go true e h = ltb-true (number_in texts text) (length texts) e
+    go true e h = ltb-true _ _ e
     go false e h = absurd (cc)
 
 -- a name with the number of a symbol is known
 pub below_known : (texts : List (List ℕ)) (text : List ℕ) → number_in texts text < length texts
     → list_any (bytes_eq text) texts ≡ true
-below_known texts text lt = let e = lt-ltb (number_in texts text) (length texts) lt in
-    sym (found (bytes_eq text) texts) ∙ rw e refl
+below_known texts text lt = rw (← found (bytes_eq text) texts, lt-ltb _ _ lt)
 
 pub name_known : (ss : List Symbol) (name : Named) → first_wrong (name_check (declared_names ss) name ∷ []) ≡ None
     → number_in (declared_names ss) name.name < length ss
@@ -220,8 +219,7 @@ body_below : (ss : List Symbol) (xs : List RawItem) → first_wrong (flat_map (i
 body_below ss [] h = All-nil (λ t. t < length ss)
 body_below ss (raw_item.Name name ∷ xs) h =
     let w = both_right (name_check (declared_names ss) name ∷ []) (flat_map (item_checks (declared_names ss)) xs) h in
-    All-cons (λ t. t < length ss) (number_in (declared_names ss) name.name) (body_of (declared_names ss) xs)
-    (name_known ss name w.0) (body_below ss xs w.1)
+    All-cons (λ t. t < length ss) _ (body_of (declared_names ss) xs) (name_known ss name w.0) (body_below ss xs w.1)
 body_below ss (raw_item.Literal text ∷ xs) h = body_below ss xs h
 body_below ss (raw_item.Class c ∷ xs) h = body_below ss xs h
 
@@ -231,18 +229,16 @@ pub unknown_parts : (ss : List Symbol) (q : RawProduction) → first_wrong (unkn
     × (first_wrong (flat_map (item_checks (declared_names ss)) q.items) ≡ None)
     × (first_wrong (flat_map (rule_checks ss (placed ss q)) q.rules) ≡ None)
 unknown_parts ss q h =
-    let w =
-    both_right (name_check (declared_names ss) q.left ∷ [])
-    (flat_map (item_checks (declared_names ss)) q.items ++ flat_map (rule_checks ss (placed ss q)) q.rules) h in
-    let v =
-    both_right (flat_map (item_checks (declared_names ss)) q.items) (flat_map (rule_checks ss (placed ss q)) q.rules) w.1 in
-    (w.0, v.0, v.1)
+    let items = flat_map (item_checks (declared_names ss)) q.items in
+    let rules = flat_map (rule_checks ss (placed ss q)) q.rules in
+    let w = both_right (name_check (declared_names ss) q.left ∷ []) (items ++ rules) h in
+    let v = both_right items rules w.1 in (w.0, v.0, v.1)
 
 pub clauses_below : (ss : List Symbol) (qs : List RawProduction) → first_wrong (unknown_checks ss qs) ≡ None
     → All (IsClauseBelow (length ss)) (clauses_of ss qs)
 clauses_below ss [] h = All-nil (IsClauseBelow (length ss))
 clauses_below ss (q ∷ qs) h =
-    let w = both_right (unknown_in ss q) (unknown_checks ss qs) h in
+    let w = both_right (unknown_in ss q) _ h in
     let v = unknown_parts ss q w.0 in
     All-cons (IsClauseBelow (length ss)) (clause_of ss q) (clauses_of ss qs)
     (record { head = name_known ss q.left v.0; body = body_below ss q.items v.1 }) (clauses_below ss qs w.1)

@@ -1,5 +1,5 @@
 -- Lists of checks that all hold, and elements of mapped and concatenated lists.
-use Rattle.std.proofs.Common.{ℕ, zero, suc, ◌≡◌, ◌+◌, Bool, true, false, List, [], ◌∷◌, ◌++◌, map, flat_map, Some, None, Option}
+use Rattle.std.proofs.Common.{ℕ, zero, suc, ◌≡◌, ◌+◌, true, List, [], ◌∷◌, ◌++◌, map, flat_map, Some, None, Option}
 use Rattle.std.proofs.Common.{slice_get, refl, sym, ◌∙◌, arith}
 use Rattle.std.specs.Option.{option_or}
 use Rattle.ag_grammar.specs.Lists.{Has}
@@ -18,20 +18,25 @@ pub together : (xs ys : List Check) → first_wrong xs ≡ None → first_wrong 
 together xs ys e f = rw (wrong-append xs ys, e) f
 
 pub is_right : (p : Check) → first_wrong (p ∷ []) ≡ None → p.1 ≡ true
-is_right p h = go p.1 refl
-  where
-    go : (b : Bool) → p.1 ≡ b → p.1 ≡ true
-    go true e = e
-    go false e = let wrong : first_wrong (p ∷ []) ≡ Some p.0 = rw e refl in absurd (cc (wrong, h))
+is_right p h = grind arith
 
 pub right_is : (p : Check) → p.1 ≡ true → first_wrong (p ∷ []) ≡ None
 right_is p h = rw h refl
 
+-- the tests of some checks hold
+abbrev pub AreRight : List Check → Type 0
+AreRight [] = Unit {0}
+AreRight (p ∷ ps) = (p.1 ≡ true) × AreRight ps
+
+pub all_right : (ps : List Check) → first_wrong ps ≡ None → AreRight ps
+all_right [] h = tt
+all_right (p ∷ ps) h = let w = both_right (p ∷ []) ps h in (is_right p w.0, all_right ps w.1)
+
 pub flat_each : {X : Type 0} (f : X → List Check) (xs : List X) → first_wrong (flat_map f xs) ≡ None → (i : ℕ) (x : X)
     → slice_get xs i ≡ Some x → first_wrong (f x) ≡ None
 flat_each f [] h i x e = absurd (cc)
-flat_each f (y ∷ ys) h zero x e = let same : y ≡ x = cc in rw (← same) (both_right (f y) (flat_map f ys) h).0
-flat_each f (y ∷ ys) h (suc i) x e = flat_each f ys (both_right (f y) (flat_map f ys) h).1 i x e
+flat_each f (y ∷ ys) h zero x e = let same : y ≡ x = cc in rw (← same) (both_right (f y) _ h).0
+flat_each f (y ∷ ys) h (suc i) x e = flat_each f ys (both_right (f y) _ h).1 i x e
 
 pub each_flat : {X : Type 0} (f : X → List Check) (xs : List X)
     → ((i : ℕ) (x : X) → slice_get xs i ≡ Some x → first_wrong (f x) ≡ None) → first_wrong (flat_map f xs) ≡ None
@@ -55,10 +60,10 @@ along_each f n [] h i x e = absurd (cc)
 along_each f n (y ∷ ys) h zero x e =
     let same : y ≡ x = cc in
     let here : n + 0 ≡ n = omega arith in
-    rw (here, ← same) (both_right (f n y) (checks_along f next_index (n + 1) ys) h).0
+    rw (here, ← same) (both_right (f n y) _ h).0
 along_each f n (y ∷ ys) h (suc i) x e =
     let there : n + suc i ≡ (n + 1) + i = omega arith in
-    rw there (along_each f (n + 1) ys (both_right (f n y) (checks_along f next_index (n + 1) ys) h).1 i x e)
+    rw there (along_each f (n + 1) ys (both_right (f n y) _ h).1 i x e)
 
 pub each_along : {X : Type 0} (f : ℕ → X → List Check) (n : ℕ) (xs : List X)
     → ((i : ℕ) (x : X) → slice_get xs i ≡ Some x → first_wrong (f (n + i) x) ≡ None)

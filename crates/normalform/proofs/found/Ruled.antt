@@ -1,9 +1,10 @@
 -- The rules of a production: none is missing or duplicate, each target is one that they define, and each
 -- argument one that they use.
-use Rattle.std.proofs.Common.{ℕ, zero, suc, ◌≡◌, ◌+◌, ◌-◌, ◌<◌, ◌≤◌, ◌⊎◌, inl, inr, Bool, true, false, ◌&&◌, ◌||◌, cond, nat_eq}
-use Rattle.std.proofs.Common.{nat_lt, nat_le, List, [], ◌∷◌, ◌++◌, length, map, fold, Some, None, Option, slice_get, refl, ap}
+use Rattle.std.proofs.Common.{ℕ, zero, suc, ◌≡◌, ◌+◌, ◌-◌, ◌<◌, ◌≤◌, ◌⊎◌, inl, inr, true}
+use Rattle.std.proofs.Common.{nat_lt, nat_le, List, [], ◌∷◌, length, map, fold, Some, None, Option, slice_get, refl, ap}
 use Rattle.std.proofs.Common.{sym, ◌∙◌, arith, subst}
-use Rattle.std.proofs.lemmas.Bool.{ltb-true, lt-ltb, leb-true, le-leb, eqb-true, eq-eqb, cases_eq}
+use Rattle.std.proofs.lemmas.Bool.{and_parts, ltb-true, lt-ltb, leb-true, le-leb, eqb-true, eq-eqb, cases_eq}
+use Rattle.std.proofs.lemmas.List.Folds.{list_any-append}
 use Rattle.std.specs.List.{list_any, range_with_len}
 use Rattle.ag_grammar.specs.Lists.{Has, Each, DifferIn}
 use Rattle.ag_grammar.specs.declared.grammar.Item.{Item}
@@ -18,82 +19,39 @@ use Rattle.ag_grammar.specs.grammars.AttributeGrammar.{HasKind, IsRule}
 use Rattle.ag_grammar.specs.declared.raw.RawGrammar.{RawGrammar}
 use Rattle.ag_grammar.specs.declared.raw.RawProduction.{RawProduction}
 use Rattle.ag_grammar.specs.declared.raw.RawRule.{RawRule}
+use Rattle.normalform.specs.declared.fault.NormalFault.{NormalFault}
 use Rattle.normalform.specs.declared.fault.NormalFault.TheVariants as fault
-use Rattle.normalform.specs.faults.Faults.{first_wrong, defined_at, numbers_defined, same_target, with_target, with_rule}
+use Rattle.normalform.specs.faults.Faults.{Check, first_wrong, defined_at, numbers_defined, same_target, with_target, with_rule}
 use Rattle.normalform.specs.faults.Faults.{targets_of, missing_check, missing_at, missing_in, doubled_in, is_kind, has_kind}
 use Rattle.normalform.specs.faults.Faults.{defined_check, not_defined_in, used_check, not_normal_in}
 use Rattle.normalform.specs.numbers.Numbers.{declared, placed, target_of, rule_of, numbered}
 use Rattle.normalform.proofs.found.Apart.{DecidesBy, none_apart, apart_along, along_apart, apart_differ, differ_apart}
 use Rattle.normalform.proofs.numbered.KindAt.{synthesized_at, inherited_at}
-use Rattle.normalform.proofs.numbered.Listed.{any_at, at_any}
 use Rattle.normalform.proofs.numbered.Placing.{kinds_at, kind_has, has_its_kind, is_its_kind}
-use Rattle.normalform.proofs.found.Reduced.{symbols, produces, split_has}
+use Rattle.normalform.proofs.found.Reduced.{symbols, produces, places}
 use Rattle.closure.proofs.Positions.{at_mapped, mapped_at}
 use Rattle.normalform.proofs.found.Right.{flat_each, each_flat, map_each, each_map, along_each, each_along}
 
-both : (a b : Bool) → (a && b) ≡ true → (a ≡ true) × (b ≡ true)
-both true b h = (refl, h)
-both false b h = absurd (cc)
-
-target_is : (p a q b : ℕ) → p ≡ q → a ≡ b → (λ (x : Target). x) (record { place = p; attr = a }) ≡ record { place = q; attr = b }
-target_is p a q b e f = rw (e, f) refl
+same_parts : (a b : Target) → a.place ≡ b.place → a.attr ≡ b.attr → record { place = a.place; attr = a.attr } ≡ b
+same_parts a b e f = rw (e, f)
 
 pub decides_targets : DecidesBy same_target
 decides_targets = record {
-  sound = λ a b h. let w = both (nat_eq a.place b.place) (nat_eq a.attr b.attr) h in
-      target_is a.place a.attr b.place b.attr (eqb-true a.place b.place w.0) (eqb-true a.attr b.attr w.1);
+  sound = λ a b h. let w = and_parts _ _ h in same_parts a b (eqb-true _ _ w.0) (eqb-true _ _ w.1);
   whole = λ a b e. rw (e, eq-eqb b.place b.place refl, eq-eqb b.attr b.attr refl) refl;
 }
 
 -- a target of a list with one more target u is in the list, or is u
 with_from : (t u : Target) (ts : List Target) → list_any (same_target t) (with_target ts u) ≡ true
-    → (list_any (same_target t) ts ≡ true) ⊎ (u ≡ t)
-with_from t u ts h = go (list_any (same_target u) ts) h
-  where
-    last : (x : Target) (i : ℕ) → slice_get (u ∷ []) i ≡ Some x → same_target t x ≡ true → u ≡ t
-    last x zero e h = let z : u ≡ x = cc in z ∙ sym (decides_targets.sound t x h)
-    last x (suc i) e h = absurd (cc)
-
-    go : (b : Bool) → list_any (same_target t) (cond b ts (ts ++ u ∷ [])) ≡ true → (list_any (same_target t) ts ≡ true) ⊎ (u ≡ t)
-    go true h = inl h
-    go false h =
-        let w = any_at (same_target t) (ts ++ u ∷ []) h in
-        elim (split_has ts (u ∷ []) w.0 w.1 w.2) [
-          | inl old ↦ inl (at_any (same_target t) ts old.0 w.1 old.1 w.3)
-          | inr new ↦ inr (last w.1 new.0 new.1 w.3)
-        ]
-
-any_left : {X : Type 0} (test : X → Bool) (xs ys : List X) → list_any test xs ≡ true → list_any test (xs ++ ys) ≡ true
-any_left test [] ys h = absurd (cc)
-any_left test (x ∷ xs) ys h = go (test x) h (any_left test xs ys)
-  where
-    go : (b : Bool) → (b || list_any test xs) ≡ true → (list_any test xs ≡ true → list_any test (xs ++ ys) ≡ true)
-        → (b || list_any test (xs ++ ys)) ≡ true
-    go true h rest = refl
-    go false h rest = rest h
-
-any_right : {X : Type 0} (test : X → Bool) (xs : List X) (x : X) → test x ≡ true → list_any test (xs ++ x ∷ []) ≡ true
-any_right test [] x h = rw h refl
-any_right test (y ∷ ys) x h = go (test y) (any_right test ys x h)
-  where
-    go : (b : Bool) → list_any test (ys ++ x ∷ []) ≡ true → (b || list_any test (ys ++ x ∷ [])) ≡ true
-    go true k = refl
-    go false k = k
+    → (list_any (same_target t) ts ≡ true) ⊎ (same_target t u ≡ true)
+with_from t u ts h = grind (arith, list_any-append)
 
 with_keeps : (t u : Target) (ts : List Target) → list_any (same_target t) ts ≡ true
     → list_any (same_target t) (with_target ts u) ≡ true
-with_keeps t u ts h = go (list_any (same_target u) ts)
-  where
-    go : (b : Bool) → list_any (same_target t) (cond b ts (ts ++ u ∷ [])) ≡ true
-    go true = h
-    go false = any_left (same_target t) ts (u ∷ []) h
+with_keeps t u ts h = grind (arith, list_any-append)
 
 with_has : (t : Target) (ts : List Target) → list_any (same_target t) (with_target ts t) ≡ true
-with_has t ts = go (list_any (same_target t) ts) refl
-  where
-    go : (b : Bool) → list_any (same_target t) ts ≡ b → list_any (same_target t) (cond b ts (ts ++ t ∷ [])) ≡ true
-    go true e = e
-    go false e = any_right (same_target t) ts t (decides_targets.whole t t refl)
+with_has t ts = let same = decides_targets.whole t t refl in grind (arith, list_any-append)
 
 -- one of the targets of rules is the target of some rule
 among_from : (ss : List Symbol) (items : List Item) (t : Target) (rules : List RawRule) (ts : List Target)
@@ -104,7 +62,7 @@ among_from ss items t [] ts h = inl h
 among_from ss items t (r ∷ rs) ts h = elim (among_from ss items t rs (with_rule ss items ts r) h) [
   | inl old ↦ elim (with_from t (target_of ss items r.target) ts old) [
     | inl before ↦ inl before
-    | inr here ↦ inr (zero, r, refl, here)
+    | inr here ↦ inr (zero, r, refl, sym (decides_targets.sound t (target_of ss items r.target) here))
   ]
   | inr w ↦ inr (suc w.0, w.1, w.2, w.3)
 ]
@@ -120,15 +78,14 @@ among_has : (ss : List Symbol) (items : List Item) (rules : List RawRule) (ts : 
     ≡ true
 among_has ss items [] ts i r e = absurd (cc)
 among_has ss items (s ∷ rs) ts zero r e = let z : s ≡ r = cc in
-    among_keeps ss items (target_of ss items r.target) rs (with_rule ss items ts s)
-    (rw z (with_has (target_of ss items r.target) ts))
+    among_keeps ss items (target_of ss items r.target) rs _ (rw z (with_has (target_of ss items r.target) ts))
 among_has ss items (s ∷ rs) ts (suc i) r e = among_has ss items rs (with_rule ss items ts s) i r e
 
 -- the numbers from a up to a + n, without a + n, are in the range
 range_has : (a n k : ℕ) → a ≤ k → k < a + n → Has (range_with_len a n) k
 range_has a zero k low high = absurd (omega arith)
 range_has a (suc n) k low high = elim (cases_eq a k) [
-  | inl here ↦ (zero, ap (λ m. Some m) here)
+  | inl here ↦ (zero, cc)
   | inr other ↦ let w = range_has (a + 1) n k (omega arith) (omega arith) in (suc w.0, w.1)
 ]
 
@@ -141,25 +98,23 @@ has_range a (suc n) (suc i) k e = let w = has_range (a + 1) n i k e in (omega (a
 numbers_has : (place a : ℕ) (s : Symbol) → slice_get (symbol_kinds (Some s)) a ≡ Some (defined_kind place)
     → Has (numbers_defined place s) a
 numbers_has zero a s k =
-    let h : nat_lt a (length s.syn) ≡ true =
-    sym (synthesized_at s.syn s.inh a) ∙ is_its_kind Synthesized (slice_get (symbol_kinds (Some s)) a) k in
-    range_has 0 (length s.syn) a (omega arith) (omega (arith, ltb-true a (length s.syn) h))
+    let h = is_its_kind Synthesized (slice_get (symbol_kinds (Some s)) a) k in
+    let low : nat_lt a (length s.syn) ≡ true = cc (synthesized_at s.syn s.inh a) in
+    range_has 0 (length s.syn) a (omega arith) (omega (arith, ltb-true a (length s.syn) low))
 numbers_has (suc i) a s k =
-    let h = sym (inherited_at s.syn s.inh a) ∙ is_its_kind Inherited (slice_get (symbol_kinds (Some s)) a) k in
-    let w = both (nat_le (length s.syn) a) (nat_lt (a - length s.syn) (length s.inh)) h in
+    let h = is_its_kind Inherited (slice_get (symbol_kinds (Some s)) a) k in
+    let w = and_parts (nat_le (length s.syn) a) (nat_lt (a - length s.syn) (length s.inh)) (cc (inherited_at s.syn s.inh a)) in
     let low = leb-true (length s.syn) a w.0 in
-    let high = ltb-true (a - length s.syn) (length s.inh) w.1 in
-    range_has (length s.syn) (length s.inh) a low (omega arith)
+    range_has _ _ a low (omega (arith, ltb-true (a - length s.syn) (length s.inh) w.1))
 
 has_numbers : (place a i : ℕ) (s : Symbol) → slice_get (numbers_defined place s) i ≡ Some a
     → is_kind (defined_kind place) (slice_get (symbol_kinds (Some s)) a) ≡ true
 has_numbers zero a i s e = let w = has_range 0 (length s.syn) i a e in
-    synthesized_at s.syn s.inh a ∙ lt-ltb a (length s.syn) (omega (arith, w.1))
+    cc (synthesized_at s.syn s.inh a, lt-ltb a (length s.syn) (omega (arith, w.1)))
 has_numbers (suc n) a i s e =
     let w = has_range (length s.syn) (length s.inh) i a e in
     let low = le-leb (length s.syn) a w.0 in
-    let lt : a - length s.syn < length s.inh = omega (arith, w.0, w.1) in
-    let high = lt-ltb (a - length s.syn) (length s.inh) lt in
+    let high = lt-ltb (a - length s.syn) (length s.inh) (omega (arith, w.0, w.1)) in
     inherited_at s.syn s.inh a ∙ rw (low, high) refl
 
 given_has : (ss : List Symbol) (q : RawProduction) (place : ℕ) (x : Item) (a : ℕ) → slice_get (placed ss q) place ≡ Some x
@@ -185,22 +140,22 @@ has_given ss place i (item.Symbol s) a e = go (slice_get ss s) e
     go (Some y) e = has_numbers place a i y e
 has_given ss place i (item.Terminal t) a e = absurd (cc)
 
+-- a rule of the numbered production has this target
+abbrev IsRuled : RawGrammar → RawProduction → Target → Type 0
+IsRuled raw q o = (r : Rule) × IsRule (produces raw q) r × (r.target ≡ o)
+
 -- no rule is missing
 pub all_ruled : (raw : RawGrammar) (p : ℕ) (q : RawProduction) → first_wrong (missing_in (symbols raw) p q) ≡ None → (o : Target)
     → HasKind (numbered raw) (produces raw q) o (defined_kind o.place) → (r : Rule) × IsRule (produces raw q) r × (r.target ≡ o)
 all_ruled raw p q h o k =
-    let ss = symbols raw in
-    let items = placed ss q in
-    let kind : slice_get (item_kinds (declared ss) (slice_get items o.place)) o.attr ≡ Some (defined_kind o.place) =
-    sym (ap (λ ks. slice_get ks o.attr) (kinds_at raw q o.place)) ∙ k in
-    go (slice_get items o.place) refl kind
+    go (slice_get (places raw q) o.place) refl (rw (kinds_at raw q o.place) at k)
   where
-    ruled : (x : Item) → slice_get (placed (symbols raw) q) o.place ≡ Some x
-        → slice_get (item_kinds (declared (symbols raw)) (Some x)) o.attr ≡ Some (defined_kind o.place)
-        → (r : Rule) × IsRule (produces raw q) r × (r.target ≡ o)
-    ruled x e kind =
+    go : (x : Option Item) → slice_get (places raw q) o.place ≡ x
+        → slice_get (item_kinds (declared (symbols raw)) x) o.attr ≡ Some (defined_kind o.place) → IsRuled raw q o
+    go None e kind = absurd (cc)
+    go (Some x) e kind =
         let ss = symbols raw in
-        let items = placed ss q in
+        let items = places raw q in
         let ts = targets_of ss items q.rules in
         let there : 0 + o.place ≡ o.place = omega arith in
         let here : first_wrong (missing_at ss ts p o.place x) ≡ None =
@@ -209,52 +164,41 @@ all_ruled raw p q h o k =
         let right = map_each (missing_check ts p o.place) (defined_at ss o.place x) here has.0 o.attr has.1 in
         elim (among_from ss items o q.rules [] right) [
           | inl none ↦ absurd (cc)
-          | inr w ↦ (rule_of ss items w.1, (w.0, at_mapped (rule_of ss items) q.rules w.0 w.1 w.2), w.3)
+          | inr (i, r, at, same) ↦ (rule_of ss items r, (i, at_mapped _ _ i r at), same)
         ]
 
-    go : (x : Option Item) → slice_get (placed (symbols raw) q) o.place ≡ x
-        → slice_get (item_kinds (declared (symbols raw)) x) o.attr ≡ Some (defined_kind o.place)
-        → (r : Rule) × IsRule (produces raw q) r × (r.target ≡ o)
-    go None e kind = absurd (cc)
-    go (Some x) e kind = ruled x e kind
-
 pub ruled_all : (raw : RawGrammar) (p : ℕ) (q : RawProduction)
-    → ((o : Target) → HasKind (numbered raw) (produces raw q) o (defined_kind o.place)
-    → (r : Rule) × IsRule (produces raw q) r × (r.target ≡ o)) → first_wrong (missing_in (symbols raw) p q) ≡ None
+    → ((o : Target) → HasKind (numbered raw) (produces raw q) o (defined_kind o.place) → IsRuled raw q o)
+    → first_wrong (missing_in (symbols raw) p q) ≡ None
 ruled_all raw p q all =
     let ss = symbols raw in
-    let items = placed ss q in
-    let ts = targets_of ss items q.rules in
-    each_along (missing_at ss ts p) 0 items
-    (λ place x e. each_map (missing_check ts p (0 + place)) (defined_at ss (0 + place) x)
-    (λ i a f. place_right place x e i a f))
+    let ts = targets_of ss (places raw q) q.rules in
+    each_along (missing_at ss ts p) 0 (places raw q)
+    (λ place x e. each_map (missing_check ts p (0 + place)) (defined_at ss (0 + place) x) (place_right place x e))
   where
-    place_right : (place : ℕ) (x : Item) → slice_get (placed (symbols raw) q) place ≡ Some x → (i a : ℕ)
+    place_right : (place : ℕ) (x : Item) → slice_get (places raw q) place ≡ Some x → (i a : ℕ)
         → slice_get (defined_at (symbols raw) (0 + place) x) i ≡ Some a
-        → list_any (same_target (record { place = 0 + place; attr = a }))
-        (targets_of (symbols raw) (placed (symbols raw) q) q.rules) ≡ true
+        → list_any (same_target (record { place = 0 + place; attr = a })) (targets_of (symbols raw) (places raw q) q.rules) ≡ true
     place_right place x e i a f =
         let ss = symbols raw in
-        let items = placed ss q in
+        let items = places raw q in
         let there : 0 + place ≡ place = omega arith in
-        let kind : has_kind ss items (record { place = place; attr = a }) (defined_kind place) ≡ true =
-        rw e (has_given ss place i x a (rw there at f)) in
-        let w =
-        all (record { place = place; attr = a })
-        (kind_has raw q (record { place = place; attr = a }) (defined_kind place) kind) in
-        let v = mapped_at (rule_of ss items) q.rules w.1.0 w.0 w.1.1 in
-        let same : target_of ss items v.0.target ≡ record { place = place; attr = a } = ap (λ (r : Rule). r.target) v.2 ∙ w.2 in
-        rw (there, ← same) (among_has ss items q.rules [] w.1.0 v.0 v.1)
+        let o : Target = record { place = place; attr = a } in
+        let kind : has_kind ss items o (defined_kind place) ≡ true = rw e (has_given ss place i x a (rw there at f)) in
+        let (s, at, same_target) = all o (kind_has raw q o (defined_kind place) kind) in
+        let (r, there_r, made) = mapped_at (rule_of ss items) q.rules at.0 s at.1 in
+        let same : target_of ss items r.target ≡ o = cc (ap (λ (r : Rule). r.target) made) in
+        rw (there, ← same) (among_has ss items q.rules [] at.0 r there_r)
 
 -- elements of a mapped list are distinct if their origins are
 pub differ_mapped : {X Y Z : Type 0} (g : X → Y) (f : Y → Z) (xs : List X) → DifferIn (λ x. f (g x)) xs → DifferIn f (map g xs)
 differ_mapped g f xs differ i j x y a b same =
     let w = mapped_at g xs i x a in
     let v = mapped_at g xs j y b in
-    differ i j w.0 v.0 w.1 v.1 (ap f w.2 ∙ same ∙ sym (ap f v.2))
+    differ i j w.0 v.0 w.1 v.1 (cc)
 
 pub mapped_differ : {X Y Z : Type 0} (g : X → Y) (f : Y → Z) (xs : List X) → DifferIn f (map g xs) → DifferIn (λ x. f (g x)) xs
-mapped_differ g f xs differ i j x y a b same = differ i j (g x) (g y) (at_mapped g xs i x a) (at_mapped g xs j y b) same
+mapped_differ g f xs differ i j x y a b = differ i j (g x) (g y) (at_mapped g xs i x a) (at_mapped g xs j y b)
 
 -- a property holds of each element of a mapped list if it does of its origin
 pub each_mapped : {X Y : Type 0} (g : X → Y) (P : Y → Type 0) (xs : List X)
@@ -265,61 +209,55 @@ pub mapped_each : {X Y : Type 0} (g : X → Y) (P : Y → Type 0) (xs : List X) 
     → slice_get xs i ≡ Some x → P (g x)
 mapped_each g P xs h i x e = h i (g x) (at_mapped g xs i x e)
 
--- no rule is duplicate
-pub rules_single : (raw : RawGrammar) (q : RawProduction) → first_wrong (doubled_in (symbols raw) q) ≡ None
-    → DifferIn (λ r. r.target) (produces raw q).rules
-rules_single raw q h =
-    let key = λ (r : RawRule). target_of (symbols raw) (placed (symbols raw) q) r.target in
-    differ_mapped (rule_of (symbols raw) (placed (symbols raw) q)) (λ (r : Rule). r.target) q.rules (apart_differ key q.rules
-    (apart_along same_target (λ (r : RawRule). fault.RuleDoubled r.target.at) key (λ r. []) decides_targets
-    [] q.rules none_apart h))
+-- the rules of a production
+module _ (raw : RawGrammar) (q : RawProduction) where
+  abbrev made : RawRule → Rule
+  made r = rule_of (symbols raw) (places raw q) r
 
-pub single_rules : (raw : RawGrammar) (q : RawProduction) → DifferIn (λ r. r.target) (produces raw q).rules
-    → first_wrong (doubled_in (symbols raw) q) ≡ None
-single_rules raw q h =
-    let key = λ (r : RawRule). target_of (symbols raw) (placed (symbols raw) q) r.target in
-    along_apart same_target (λ (r : RawRule). fault.RuleDoubled r.target.at) key (λ r. []) decides_targets [] q.rules
-    (differ_apart key q.rules (mapped_differ (rule_of (symbols raw) (placed (symbols raw) q)) (λ (r : Rule). r.target) q.rules h))
-    (λ i x e. refl)
+  abbrev target : RawRule → Target
+  target r = target_of (symbols raw) (places raw q) r.target
 
--- the rules define each target
-pub targets_given : (raw : RawGrammar) (q : RawProduction) → first_wrong (not_defined_in (symbols raw) q) ≡ None
-    → Each (λ r. HasKind (numbered raw) (produces raw q) r.target (defined_kind r.target.place)) (produces raw q).rules
-targets_given raw q h =
-    each_mapped (rule_of (symbols raw) (placed (symbols raw) q))
-    (λ r. HasKind (numbered raw) (produces raw q) r.target (defined_kind r.target.place)) q.rules (λ i r e.
-    let t = target_of (symbols raw) (placed (symbols raw) q) r.target in
-    kind_has raw q t (defined_kind t.place) (map_each (defined_check (symbols raw) (placed (symbols raw) q)) q.rules h i r e))
+  abbrev fault_of : RawRule → NormalFault
+  fault_of r = fault.RuleDoubled r.target.at
 
-pub given_targets : (raw : RawGrammar) (q : RawProduction)
-    → Each (λ r. HasKind (numbered raw) (produces raw q) r.target (defined_kind r.target.place)) (produces raw q).rules
-    → first_wrong (not_defined_in (symbols raw) q) ≡ None
-given_targets raw q h = each_map (defined_check (symbols raw) (placed (symbols raw) q)) q.rules (λ i r e.
-    let t = target_of (symbols raw) (placed (symbols raw) q) r.target in
-    has_its_kind raw q t (defined_kind t.place)
-    (mapped_each (rule_of (symbols raw) (placed (symbols raw) q))
-    (λ r. HasKind (numbered raw) (produces raw q) r.target (defined_kind r.target.place)) q.rules h i r e))
+  -- no rule is duplicate
+  pub rules_single : first_wrong (doubled_in (symbols raw) q) ≡ None → DifferIn (λ r. r.target) (produces raw q).rules
+  rules_single h =
+      differ_mapped made (λ (r : Rule). r.target) q.rules (apart_differ target q.rules
+      (apart_along same_target fault_of target (λ r. []) decides_targets [] q.rules none_apart h))
 
--- the rules use each argument
-pub arguments_found : (raw : RawGrammar) (q : RawProduction) → first_wrong (not_normal_in (symbols raw) q) ≡ None
-    → IsNormal (numbered raw) (produces raw q)
-arguments_found raw q h =
-    each_mapped (rule_of (symbols raw) (placed (symbols raw) q))
-    (λ r. Each (λ o. HasKind (numbered raw) (produces raw q) o (used_kind o.place)) r.args) q.rules (λ i r e.
-    each_mapped (target_of (symbols raw) (placed (symbols raw) q))
-    (λ o. HasKind (numbered raw) (produces raw q) o (used_kind o.place)) r.expr.1 (λ j o f.
-    let t = target_of (symbols raw) (placed (symbols raw) q) o in
-    kind_has raw q t (used_kind t.place) (map_each (used_check (symbols raw) (placed (symbols raw) q)) r.expr.1
-    (flat_each (λ (s : RawRule). map (used_check (symbols raw) (placed (symbols raw) q)) s.expr.1) q.rules h i r e) j o f)))
+  pub single_rules : DifferIn (λ r. r.target) (produces raw q).rules → first_wrong (doubled_in (symbols raw) q) ≡ None
+  single_rules h =
+      along_apart same_target fault_of target (λ r. []) decides_targets [] q.rules
+      (differ_apart target q.rules (mapped_differ made (λ (r : Rule). r.target) q.rules h)) (λ i x e. refl)
 
-pub found_arguments : (raw : RawGrammar) (q : RawProduction) → IsNormal (numbered raw) (produces raw q)
-    → first_wrong (not_normal_in (symbols raw) q) ≡ None
-found_arguments raw q h =
-    each_flat (λ (s : RawRule). map (used_check (symbols raw) (placed (symbols raw) q)) s.expr.1) q.rules (λ i r e.
-    each_map (used_check (symbols raw) (placed (symbols raw) q)) r.expr.1 (λ j o f.
-    let t = target_of (symbols raw) (placed (symbols raw) q) o in
-    has_its_kind raw q t (used_kind t.place)
-    (mapped_each (target_of (symbols raw) (placed (symbols raw) q))
-    (λ o. HasKind (numbered raw) (produces raw q) o (used_kind o.place)) r.expr.1
-    (mapped_each (rule_of (symbols raw) (placed (symbols raw) q))
-    (λ r. Each (λ o. HasKind (numbered raw) (produces raw q) o (used_kind o.place)) r.args) q.rules h i r e) j o f)))
+  -- the rules define each target
+  abbrev IsDefined : Rule → Type 0
+  IsDefined r = HasKind (numbered raw) (produces raw q) r.target (defined_kind r.target.place)
+
+  pub targets_given : first_wrong (not_defined_in (symbols raw) q) ≡ None → Each IsDefined (produces raw q).rules
+  targets_given h = each_mapped _ _ _ (λ i r e.
+      kind_has raw q _ _ (map_each (defined_check (symbols raw) (places raw q)) q.rules h i r e))
+
+  pub given_targets : Each IsDefined (produces raw q).rules → first_wrong (not_defined_in (symbols raw) q) ≡ None
+  given_targets h = each_map (defined_check (symbols raw) (places raw q)) q.rules (λ i r e.
+      has_its_kind raw q (target r) (defined_kind (target r).place) (mapped_each made IsDefined q.rules h i r e))
+
+  -- the rules use each argument
+  abbrev IsUsed : Target → Type 0
+  IsUsed o = HasKind (numbered raw) (produces raw q) o (used_kind o.place)
+
+  abbrev used_checks : RawRule → List Check
+  used_checks r = map (used_check (symbols raw) (places raw q)) r.expr.1
+
+  pub arguments_found : first_wrong (not_normal_in (symbols raw) q) ≡ None → IsNormal (numbered raw) (produces raw q)
+  arguments_found h = each_mapped made (λ r. Each IsUsed r.args) q.rules (λ i r e. each_mapped _ _ _ (λ j o f.
+      kind_has raw q _ _ (map_each (used_check (symbols raw) (places raw q)) r.expr.1
+      (flat_each used_checks q.rules h i r e) j o f)))
+
+  pub found_arguments : IsNormal (numbered raw) (produces raw q) → first_wrong (not_normal_in (symbols raw) q) ≡ None
+  found_arguments h =
+      each_flat used_checks q.rules (λ i r e. each_map (used_check (symbols raw) (places raw q)) r.expr.1 (λ j o f.
+      let t = target_of (symbols raw) (places raw q) o in
+      has_its_kind raw q t (used_kind t.place)
+      (mapped_each _ IsUsed _ (mapped_each made (λ s. Each IsUsed s.args) q.rules h i r e) j o f)))

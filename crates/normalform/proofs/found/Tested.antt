@@ -1,6 +1,7 @@
 -- The test of a raw grammar decides whether it is readable.
-use Rattle.std.proofs.Common.{ℕ, ◌≡◌, ◌⊎◌, ◌↔◌, inl, inr, Bool, true, false, ◌&&◌, ◌||◌, not, nat_eq, nat_le, List, length, refl}
-use Rattle.std.proofs.lemmas.Bool.{eqb-true, leb-true, le-leb, ltb-true, lt-ltb}
+use Rattle.std.proofs.Common.{ℕ, ◌≡◌, ◌↔◌, Bool, true, false, not, nat_le, List, length, refl, arith}
+use Rattle.std.proofs.lemmas.Bool.{and_parts, leb-true, le-leb, ltb-true, lt-ltb}
+use Rattle.std.proofs.lemmas.Bool.Decides.{nat_tests}
 use Rattle.std.specs.List.{list_all}
 use Rattle.ag_grammar.specs.Lists.{Each}
 use Rattle.ag_grammar.specs.grammars.Accepted.{IsSeparator}
@@ -12,31 +13,11 @@ use Rattle.normalform.specs.faults.Readable.{is_separator, readable_item, readab
 use Rattle.normalform.proofs.numbered.Accepting.{all_hold}
 use Rattle.normalform.proofs.numbered.Small.{passes_at}
 
-both : (a b : Bool) → (a && b) ≡ true → (a ≡ true) × (b ≡ true)
-both true b h = (refl, h)
-both false b h = absurd (cc)
-
-either : (a b : Bool) → (a || b) ≡ true → (a ≡ true) ⊎ (b ≡ true)
-either true b h = inl refl
-either false b h = inr h
-
 pub separator_is : (b : ℕ) → IsSeparator b → is_separator b ≡ true
-separator_is b (inl e) = rw e refl
-separator_is b (inr (inl e)) = rw e refl
-separator_is b (inr (inr (inl e))) = rw e refl
-separator_is b (inr (inr (inr e))) = rw e refl
+separator_is b h = grind (arith, nat_tests)
 
 is_its_separator : (b : ℕ) → is_separator b ≡ true → IsSeparator b
-is_its_separator b h = elim (either (nat_eq b 32 || nat_eq b 9 || nat_eq b 13) (nat_eq b 10) h) [
-  | inr e ↦ inr (inr (inr (eqb-true b 10 e)))
-  | inl h ↦ elim (either (nat_eq b 32 || nat_eq b 9) (nat_eq b 13) h) [
-    | inr e ↦ inr (inr (inl (eqb-true b 13 e)))
-    | inl h ↦ elim (either (nat_eq b 32) (nat_eq b 9) h) [
-      | inr e ↦ inr (inl (eqb-true b 9 e))
-      | inl e ↦ inl (eqb-true b 32 e)
-    ]
-  ]
-]
+is_its_separator b h = grind (arith, nat_tests)
 
 no_separator : (b : ℕ) → not (is_separator b) ≡ true → IsSeparator b → ⊥
 no_separator b h s = let e = separator_is b s in absurd (cc (rw e at h))
@@ -51,8 +32,8 @@ none_separator b h = go (is_separator b) refl
 item_readable : (x : RawItem) → readable_item x ≡ true → IsReadableItem x
 item_readable (raw_item.Name name) h = tt
 item_readable (raw_item.Literal text) h =
-    let w = both (nat_le 1 (length text)) (list_all (λ b. not (is_separator b)) text) h in
-    (leb-true 1 (length text) w.0, λ i b e. no_separator b (passes_at (λ b. not (is_separator b)) text i b w.1 e))
+    let w = and_parts (nat_le 1 (length text)) _ h in
+    (leb-true _ _ w.0, λ i b e. no_separator b (passes_at (λ b. not (is_separator b)) text i b w.1 e))
 item_readable (raw_item.Class c) h = ltb-true c 3 h
 
 readable_is : (x : RawItem) → IsReadableItem x → readable_item x ≡ true

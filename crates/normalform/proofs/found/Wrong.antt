@@ -1,10 +1,9 @@
 -- The first failing check of a concatenated list.
-use Rattle.std.proofs.Common.{◌-◌, suc, map, arith, true, [], ℕ, ◌≡◌, ◌+◌, ◌<◌, not, List, [], ◌∷◌, ◌++◌, length, get_or}
-use Rattle.std.proofs.Common.{drop, flat_map, find, Some, None, Option, refl, ap, sym, fold, append_assoc, ◌∙◌}
+use Rattle.std.proofs.Common.{◌-◌, suc, map, arith, true, [], ℕ, ◌≡◌, ◌+◌, ◌<◌, List, [], ◌∷◌, ◌++◌, length, get_or}
+use Rattle.std.proofs.Common.{drop, flat_map, Some, None, Option, refl, sym, fold, append_assoc, ◌∙◌}
 use Rattle.std.proofs.lemmas.List.{drop_more, get_or-map, length-map}
-use Rattle.std.proofs.lemmas.List.Folds.{find-append}
 use Rattle.std.specs.List.{range_with_len}
-use Rattle.std.specs.Option.{option_map, option_or}
+use Rattle.std.specs.Option.{option_or}
 use Rattle.normalform.specs.declared.fault.NormalFault.{NormalFault}
 use Rattle.ag_grammar.specs.declared.raw.Named.{Named}
 use Rattle.ag_grammar.specs.declared.grammar.Symbol.{Symbol}
@@ -15,14 +14,9 @@ use Rattle.normalform.specs.faults.Faults.{Check, first_wrong, checks_along, dou
 use Rattle.normalform.specs.faults.Faults.{not_defined_here}
 use Rattle.normalform.specs.numbers.Numbers.{placed}
 
-map_or : {X Y : Type 0} (f : X → Y) (a b : Option X) → option_map f (option_or a b) ≡ option_or (option_map f a) (option_map f b)
-map_or f None b = refl
-map_or f (Some x) b = refl
-
 pub wrong-append : (xs ys : List Check) → first_wrong (xs ++ ys) ≡ option_or (first_wrong xs) (first_wrong ys)
-wrong-append xs ys =
-    ap (option_map (λ (x : Check). x.0)) (find-append (λ (x : Check). not x.1) xs ys)
-    ∙ map_or (λ (x : Check). x.0) (find (λ (x : Check). not x.1) xs) (find (λ (x : Check). not x.1) ys)
+wrong-append [] ys = refl
+wrong-append (x ∷ xs) ys = let rest = wrong-append xs ys in grind arith
 
 -- the first fault of a list is that of the list with more checks after it
 pub first_of : (xs ys : List Check) (fault : NormalFault) → Some fault ≡ first_wrong xs → Some fault ≡ first_wrong (xs ++ ys)
@@ -32,110 +26,73 @@ first_of xs ys fault e = rw (wrong-append xs ys, ← e) refl
 pub rest_of : (xs ys : List Check) → None ≡ first_wrong xs → first_wrong ys ≡ first_wrong (xs ++ ys)
 rest_of xs ys e = rw (wrong-append xs ys, ← e) refl
 
--- one step along a list whose elements have checks
-pub wrong_more : {X : Type 0} (f : X → List Check) (xs : List X) (i : ℕ) (d : X) → i < length xs
-    → first_wrong (flat_map f (drop i xs)) ≡ option_or (first_wrong (f (get_or xs i d)))
-    (first_wrong (flat_map f (drop (i + 1) xs)))
-wrong_more f xs i d lt =
-    ap (λ ys. first_wrong (flat_map f ys)) (drop_more xs i d lt) ∙ wrong-append (f (get_or xs i d)) (flat_map f (drop (i + 1) xs))
+-- one step along a list
+dropped : {X : Type 0} (xs : List X) (i : ℕ) (x : X) → i < length xs → x ≡ get_or xs i x → drop i xs ≡ x ∷ drop (i + 1) xs
+dropped xs i x lt is = cc (drop_more xs i x lt)
 
 -- the first fault is that of an element, if no earlier one has a fault
 pub wrong_here : {X : Type 0} (f : X → List Check) (xs : List X) (i : ℕ) (x : X) (fault : NormalFault) (all : Option NormalFault)
     → i < length xs → x ≡ get_or xs i x → Some fault ≡ first_wrong (f x) → first_wrong (flat_map f (drop i xs)) ≡ all
     → Some fault ≡ all
-wrong_here f xs i x fault all lt is here so_far = let e : first_wrong (f (get_or xs i x)) ≡ Some fault = rw (← is) (sym here) in
-    sym (ap (λ o. option_or o (first_wrong (flat_map f (drop (i + 1) xs)))) e) ∙ sym (wrong_more f xs i x lt) ∙ so_far
+wrong_here f xs i x fault all lt is here so_far =
+    cc (first_of (f x) (flat_map f (drop (i + 1) xs)) fault here, dropped xs i x lt is)
 
 -- if an element has no fault, the first fault is that of the elements after it
 pub wrong_past : {X : Type 0} (f : X → List Check) (xs : List X) (i : ℕ) (x : X) (all : Option NormalFault) → i < length xs
     → x ≡ get_or xs i x → None ≡ first_wrong (f x) → first_wrong (flat_map f (drop i xs)) ≡ all
     → first_wrong (flat_map f (drop (i + 1) xs)) ≡ all
-wrong_past f xs i x all lt is here so_far = let e : first_wrong (f (get_or xs i x)) ≡ None = rw (← is) (sym here) in
-    sym (ap (λ o. option_or o (first_wrong (flat_map f (drop (i + 1) xs)))) e) ∙ sym (wrong_more f xs i x lt) ∙ so_far
-
-pub along_more : {S X : Type 0} (f : S → X → List Check) (g : S → X → S) (s : S) (xs : List X) (i : ℕ) (d : X) → i < length xs
-    → first_wrong (checks_along f g s (drop i xs)) ≡ option_or (first_wrong (f s (get_or xs i d)))
-    (first_wrong (checks_along f g (g s (get_or xs i d)) (drop (i + 1) xs)))
-along_more f g s xs i d lt =
-    ap (λ ys. first_wrong (checks_along f g s ys)) (drop_more xs i d lt)
-    ∙ wrong-append (f s (get_or xs i d)) (checks_along f g (g s (get_or xs i d)) (drop (i + 1) xs))
+wrong_past f xs i x all lt is here so_far =
+    cc (rest_of (f x) (flat_map f (drop (i + 1) xs)) here, dropped xs i x lt is)
 
 pub along_here : {S X : Type 0} (f : S → X → List Check) (g : S → X → S) (s : S) (xs : List X) (i : ℕ) (x : X)
     (fault : NormalFault) (all : Option NormalFault) → i < length xs → x ≡ get_or xs i x → Some fault ≡ first_wrong (f s x)
     → first_wrong (checks_along f g s (drop i xs)) ≡ all → Some fault ≡ all
 along_here f g s xs i x fault all lt is here so_far =
-    let e : first_wrong (f s (get_or xs i x)) ≡ Some fault = rw (← is) (sym here) in
-    sym (ap (λ o. option_or o (first_wrong (checks_along f g (g s (get_or xs i x)) (drop (i + 1) xs)))) e)
-    ∙ sym (along_more f g s xs i x lt) ∙ so_far
+    cc (first_of (f s x) (checks_along f g (g s x) (drop (i + 1) xs)) fault here, dropped xs i x lt is)
 
 pub along_past : {S X : Type 0} (f : S → X → List Check) (g : S → X → S) (s t : S) (xs : List X) (i : ℕ) (x : X)
     (all : Option NormalFault) → i < length xs → x ≡ get_or xs i x → None ≡ first_wrong (f s x) → t ≡ g s x
     → first_wrong (checks_along f g s (drop i xs)) ≡ all → first_wrong (checks_along f g t (drop (i + 1) xs)) ≡ all
 along_past f g s t xs i x all lt is here next so_far =
-    let e : first_wrong (f s (get_or xs i x)) ≡ None = rw (← is) (sym here) in
-    let n : t ≡ g s (get_or xs i x) = rw (← is) next in
-    ap (λ u. first_wrong (checks_along f g u (drop (i + 1) xs))) n
-    ∙ sym (ap (λ o. option_or o (first_wrong (checks_along f g (g s (get_or xs i x)) (drop (i + 1) xs)))) e)
-    ∙ sym (along_more f g s xs i x lt) ∙ so_far
+    cc (rest_of (f s x) (checks_along f g (g s x) (drop (i + 1) xs)) here, dropped xs i x lt is)
 
 pub along-append : {S X : Type 0} (f : S → X → List Check) (g : S → X → S) (s : S) (xs ys : List X)
     → checks_along f g s (xs ++ ys) ≡ checks_along f g s xs ++ checks_along f g (fold g s xs) ys
 along-append f g s [] ys = refl
-along-append f g s (x ∷ xs) ys =
-    ap (λ zs. f s x ++ zs) (along-append f g (g s x) xs ys)
-    ∙ sym (append_assoc (f s x) (checks_along f g (g s x) xs) (checks_along f g (fold g (g s x) xs) ys))
-
-pub wrong_both : (xs ys : List Named)
-    → first_wrong (doubled_names [] (xs ++ ys)) ≡ option_or (first_wrong (doubled_names [] xs))
-    (first_wrong (doubled_names (fold with_name [] xs) ys))
-wrong_both xs ys =
-    ap first_wrong (along-append new_check with_name [] xs ys)
-    ∙ wrong-append (doubled_names [] xs) (doubled_names (fold with_name [] xs) ys)
+along-append f g s (x ∷ xs) ys = simp (along-append f g (g s x) xs ys, append_assoc)
 
 pub doubled_here : (seen : List (List ℕ)) (xs ys : List Named) (o : Option NormalFault) (fault : NormalFault) → seen ≡ []
     → o ≡ first_wrong (doubled_names seen xs) → o ≡ Some fault → Some fault ≡ first_wrong (doubled_names [] (xs ++ ys))
 doubled_here seen xs ys o fault none is here =
-    let e : first_wrong (doubled_names [] xs) ≡ Some fault = rw (← none) (sym is ∙ here) in
-    sym (wrong_both xs ys ∙ ap (λ o. option_or o (first_wrong (doubled_names (fold with_name [] xs) ys))) e)
+    rw (along-append new_check with_name [] xs ys)
+    (first_of (doubled_names [] xs) (doubled_names (fold with_name [] xs) ys) fault (cc))
 
 pub doubled_past : (seen seen' : List (List ℕ)) (xs ys : List Named) (o : Option NormalFault) → seen ≡ []
     → o ≡ first_wrong (doubled_names seen xs) → o ≡ None → (o ≡ None → seen' ≡ fold with_name seen xs)
     → first_wrong (doubled_names seen' ys) ≡ first_wrong (doubled_names [] (xs ++ ys))
 doubled_past seen seen' xs ys o none is past next =
-    let e : first_wrong (doubled_names [] xs) ≡ None = rw (← none) (sym is ∙ past) in
-    let n : seen' ≡ fold with_name [] xs = rw (← none) (next past) in
-    ap (λ s. first_wrong (doubled_names s ys)) n
-    ∙ sym (wrong_both xs ys ∙ ap (λ o. option_or o (first_wrong (doubled_names (fold with_name [] xs) ys))) e)
-
-map_more : {X : Type 0} (f : X → Check) (xs : List X) (i : ℕ) (d : X) → i < length xs
-    → first_wrong (map f (drop i xs)) ≡ option_or (first_wrong (f (get_or xs i d) ∷ [])) (first_wrong (map f (drop (i + 1) xs)))
-map_more f xs i d lt =
-    ap (λ ys. first_wrong (map f ys)) (drop_more xs i d lt) ∙ wrong-append (f (get_or xs i d) ∷ []) (map f (drop (i + 1) xs))
+    let n = next past in
+    rw (along-append new_check with_name [] xs ys, n, none)
+    (rest_of (doubled_names [] xs) (doubled_names (fold with_name [] xs) ys) (cc))
 
 -- `wrong_here` for a list with one check for each element
 pub map_here : {X : Type 0} (f : X → Check) (xs : List X) (i : ℕ) (x : X) (fault : NormalFault) (all : Option NormalFault)
     → i < length xs → x ≡ get_or xs i x → Some fault ≡ first_wrong (f x ∷ []) → first_wrong (map f (drop i xs)) ≡ all
     → Some fault ≡ all
-map_here f xs i x fault all lt is here so_far = let e : first_wrong (f (get_or xs i x) ∷ []) ≡ Some fault =
-    rw (← is) (sym here) in
-    sym (ap (λ o. option_or o (first_wrong (map f (drop (i + 1) xs)))) e) ∙ sym (map_more f xs i x lt) ∙ so_far
+map_here f xs i x fault all lt is here so_far =
+    cc (first_of (f x ∷ []) (map f (drop (i + 1) xs)) fault here, dropped xs i x lt is)
 
 pub map_past : {X : Type 0} (f : X → Check) (xs : List X) (i : ℕ) (x : X) (all : Option NormalFault) → i < length xs
     → x ≡ get_or xs i x → None ≡ first_wrong (f x ∷ []) → first_wrong (map f (drop i xs)) ≡ all
     → first_wrong (map f (drop (i + 1) xs)) ≡ all
-map_past f xs i x all lt is here so_far = let e : first_wrong (f (get_or xs i x) ∷ []) ≡ None = rw (← is) (sym here) in
-    sym (ap (λ o. option_or o (first_wrong (map f (drop (i + 1) xs)))) e) ∙ sym (map_more f xs i x lt) ∙ so_far
-
-range_more : (a e : ℕ) → a < e → range_with_len a (e - a) ≡ a ∷ range_with_len (a + 1) (e - (a + 1))
-range_more a e lt = let k : e - a ≡ suc (e - (a + 1)) = omega arith in rw k refl
+map_past f xs i x all lt is here so_far =
+    cc (rest_of (f x ∷ []) (map f (drop (i + 1) xs)) here, dropped xs i x lt is)
 
 pub range_past : (f : ℕ → Check) (a e : ℕ) (all : Option NormalFault) → a < e → (f a).1 ≡ true
     → first_wrong (map f (range_with_len a (e - a))) ≡ all → first_wrong (map f (range_with_len (a + 1) (e - (a + 1)))) ≡ all
-range_past f a e all lt right so_far = sym (go (f a) right) ∙ sym (ap (λ ns. first_wrong (map f ns)) (range_more a e lt)) ∙ so_far
-  where
-    go : (p : Check) → p.1 ≡ true → first_wrong (p ∷ map f (range_with_len (a + 1) (e - (a + 1)))) ≡ first_wrong
-        (map f (range_with_len (a + 1) (e - (a + 1))))
-    go p h = rw h refl
+range_past f a e all lt right so_far =
+    let more : e - a ≡ suc (e - (a + 1)) = omega arith in
+    rest_of (f a ∷ []) (map f (range_with_len (a + 1) (e - (a + 1)))) (rw right) ∙ rw more at so_far
 
 -- an element of a mapped list
 pub mapped : {X Y : Type 0} (f : X → Y) (xs : List X) (i : ℕ) (d : X) → i < length xs
@@ -151,11 +108,10 @@ none_of xs ys e f = f ∙ rest_of xs ys e
 -- a list with one check for each element
 each_alone : {X : Type 0} (f : X → Check) (xs : List X) → flat_map (λ x. f x ∷ []) xs ≡ map f xs
 each_alone f [] = refl
-each_alone f (x ∷ xs) = ap (λ ys. f x ∷ ys) (each_alone f xs)
+each_alone f (x ∷ xs) = cc (each_alone f xs)
 
 -- the checks of targets are those of N8
 pub defined_checks : (ss : List Symbol) (qs : List RawProduction) → checks_of rule_check.Defined ss qs ≡ not_defined_here ss qs
 defined_checks ss [] = refl
 defined_checks ss (q ∷ qs) =
-    ap (λ xs. xs ++ checks_of rule_check.Defined ss qs) (each_alone (defined_check ss (placed ss q)) q.rules)
-    ∙ ap (λ ys. map (defined_check ss (placed ss q)) q.rules ++ ys) (defined_checks ss qs)
+    cc (each_alone (defined_check ss (placed ss q)) q.rules, defined_checks ss qs)

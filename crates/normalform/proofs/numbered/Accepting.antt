@@ -1,34 +1,32 @@
 -- A raw grammar has no fault exactly if the numbered one is accepted.
-use Rattle.std.proofs.Common.{All, inr, ℕ, zero, suc, ◌≡◌, ◌+◌, ◌<◌, ◌≤◌, ◌≢◌, Bool, true, false, ◌&&◌, nat_eq, nat_le, List, []}
-use Rattle.std.proofs.Common.{◌∷◌, ◌++◌, length, map, Some, None, Option, slice_get, get_or, bytes_eq, refl, ap, sym, ◌∙◌, arith}
+use Rattle.std.proofs.Common.{All, inr, ℕ, zero, suc, ◌≡◌, ◌+◌, ◌<◌, ◌≤◌, ◌≢◌, Bool, true, List, []}
+use Rattle.std.proofs.Common.{◌∷◌, ◌++◌, length, map, Some, None, Option, slice_get, get_or, refl, ap, arith}
 use Rattle.std.proofs.Common.{subst}
-use Rattle.std.proofs.lemmas.Bool.{eqb-true, leb-true, le-leb}
+use Rattle.std.proofs.lemmas.Bool.{and_parts, eqb-true, leb-true, le-leb}
 use Rattle.std.proofs.lemmas.List.{length-map}
 use Rattle.std.proofs.lemmas.List.Kept.{AllPairs-filter}
 use Rattle.std.proofs.lemmas.Option.{slice_get-get_or, slice_get_within, get_or_from_slice_get}
 use Rattle.std.specs.List.{list_any, list_all}
 use Rattle.ag_grammar.specs.Lists.{Has, Each, Differ}
 use Rattle.ag_grammar.specs.declared.grammar.Item.{Item}
-use Rattle.ag_grammar.specs.declared.grammar.Item.TheVariants as item
 use Rattle.ag_grammar.specs.declared.grammar.Production.{Production}
 use Rattle.ag_grammar.specs.declared.grammar.Symbol.{Symbol}
 use Rattle.ag_grammar.specs.declared.grammar.Terminal.TheVariants.{Literal, Class}
 use Rattle.ag_grammar.specs.grammars.Accepted.{IsAccepted, IsNamed, IsNamedItem, IsInUse, IsStart, IsComplete, IsNormal}
-use Rattle.ag_grammar.specs.grammars.Accepted.{IsWithinGrammarLimits, IsSeparator, out_name, max_symbols, max_attributes}
-use Rattle.ag_grammar.specs.grammars.Accepted.{max_productions, max_items, max_children, max_literals, max_literal_bytes}
-use Rattle.ag_grammar.specs.grammars.AttributeGrammar.{attribute_names, stored_items}
+use Rattle.ag_grammar.specs.grammars.Accepted.{IsWithinGrammarLimits, IsSeparator, out_name, max_symbols}
+use Rattle.ag_grammar.specs.grammars.Accepted.{max_productions, max_items, max_children, max_literals}
+use Rattle.ag_grammar.specs.grammars.AttributeGrammar.{stored_items}
 use Rattle.ag_grammar.specs.expressions.Trees.{is_below}
 use Rattle.ag_grammar.specs.declared.raw.RawGrammar.{RawGrammar}
 use Rattle.ag_grammar.specs.declared.raw.RawItem.{RawItem}
 use Rattle.ag_grammar.specs.declared.raw.RawItem.TheVariants as raw_item
 use Rattle.ag_grammar.specs.declared.raw.RawProduction.{RawProduction}
-use Rattle.normalform.specs.declared.fault.LimitKind.TheVariants as limit
 use Rattle.normalform.specs.declared.fault.NormalFault.{NormalFault}
 use Rattle.normalform.specs.declared.fault.NormalFault.TheVariants as fault
-use Rattle.normalform.specs.faults.Faults.{first_wrong, unknown_in, item_checks, unknown_checks, doubled_checks, is_start}
+use Rattle.normalform.specs.faults.Faults.{first_wrong, unknown_in, item_checks, unknown_checks, is_start}
 use Rattle.normalform.specs.faults.Faults.{start_checks, missing_in, missing_checks, doubled_in, doubled_rules, not_defined_in}
 use Rattle.normalform.specs.faults.Faults.{not_defined_here, not_normal_in, not_normal, few_attributes, few_items, few_children}
-use Rattle.normalform.specs.faults.Faults.{is_short, symbol_limits, production_limits, literal_limits, limit_checks, rule_kinds}
+use Rattle.normalform.specs.faults.Faults.{is_short, limit_checks, rule_kinds}
 use Rattle.normalform.specs.faults.Faults.{naming_checks, HasNoFault, IsReadable, IsReadableItem, IsSmall, IsListed, AreListedIn}
 use Rattle.normalform.specs.faults.Faults.{IsFirstFault, in_names, in_productive, in_reached, in_rules, IsTrueOf}
 use Rattle.normalform.specs.numbers.Numbers.{number_in, symbol_of, declared_names, item_of, placed, is_class, classes_of}
@@ -42,14 +40,11 @@ use Rattle.normalform.proofs.numbered.Listed.{number_at, filter_has, has_filter,
 use Rattle.normalform.proofs.numbered.Placing.{stored_same}
 use Rattle.normalform.proofs.found.Reduced.{symbols, produces, name_known, known, unknown_parts}
 use Rattle.closure.proofs.Positions.{at_mapped}
-use Rattle.normalform.proofs.found.Right.{both_right, together, is_right, right_is, flat_each, each_flat, along_each, each_along}
+use Rattle.normalform.proofs.found.Right.{all_right, both_right, together, is_right, right_is, flat_each, each_flat, along_each}
+use Rattle.normalform.proofs.found.Right.{each_along}
 use Rattle.normalform.proofs.found.Ruled.{all_ruled, ruled_all, rules_single, single_rules, targets_given, given_targets}
 use Rattle.normalform.proofs.found.Ruled.{arguments_found, found_arguments, each_mapped, mapped_each}
 use Rattle.normalform.proofs.numbered.Small.{passes_at}
-
-both : (a b : Bool) → (a && b) ≡ true → (a ≡ true) × (b ≡ true)
-both true b h = (refl, h)
-both false b h = absurd (cc)
 
 -- the literals
 abbrev literals : RawGrammar → List (List ℕ)
@@ -62,16 +57,9 @@ literal_used : (raw : RawGrammar) (l : ℕ) → l < length (literals raw) → Is
 literal_used raw l lt =
     let text = get_or (literals raw) l [] in
     let e : slice_get (literals raw) l ≡ Some text = slice_get-get_or (literals raw) l [] lt in
-    let w = literal_occurs raw.productions text (l, e) in
-    let n = number_at (literals raw) (literals_apart raw.productions) l text e in (
-      w.0,
-      produces raw w.1,
-      at_mapped (produces raw) raw.productions w.0 w.1 w.2,
-      (
-        w.3.0,
-        at_mapped (item_in raw) w.1.items w.3.0 (raw_item.Literal text) w.3.1 ∙ ap (λ m. Some (item.Terminal (Literal m))) n,
-      ),
-    )
+    let (p, q, at, (i, f)) = literal_occurs raw.productions text (l, e) in
+    let n = number_at (literals raw) (literals_apart raw.productions) l text e in
+    (p, produces raw q, at_mapped _ _ p q at, (i, cc (at_mapped (item_in raw) q.items i (raw_item.Literal text) f)))
 
 literal_readable : (raw : RawGrammar) → IsReadable raw → (i : ℕ) (x : List ℕ) → slice_get (literals raw) i ≡ Some x
     → (1 ≤ length x) × Each (λ b. IsSeparator b → ⊥) x
@@ -93,7 +81,7 @@ class_at (suc (suc (suc i))) d lt = absurd (omega arith)
 
 classes_apart : Apart known_classes
 classes_apart i j d lt within same = let low : i < 3 = omega arith in
-    let e = sym (class_at i d low) ∙ same ∙ class_at j d within in absurd (omega arith)
+    absurd (omega (arith, class_at i d low, same, class_at j d within))
 
 class_known : (c : ℕ) → Has known_classes c → c < 3
 class_known c (zero, e) = let z : 0 ≡ c = cc in omega arith
@@ -113,12 +101,8 @@ classes_differ raw =
 
 class_used : (raw : RawGrammar) (i c : ℕ) → slice_get (classes_of raw.productions) i ≡ Some c → IsInUse (numbered raw) (Class c)
 class_used raw i c e =
-    let w = class_occurs raw.productions c (has_filter (uses raw) known_classes c (i, e)).1 in (
-      w.0,
-      produces raw w.1,
-      at_mapped (produces raw) raw.productions w.0 w.1 w.2,
-      (w.3.0, at_mapped (item_in raw) w.1.items w.3.0 (raw_item.Class c) w.3.1),
-    )
+    let (p, q, at, (j, f)) = class_occurs raw.productions c (has_filter (uses raw) known_classes c (i, e)).1 in
+    (p, produces raw q, at_mapped _ _ p q at, (j, at_mapped (item_in raw) q.items j (raw_item.Class c) f))
 
 -- an item of a production is named
 item_named : (raw : RawGrammar) (p : ℕ) (q : RawProduction) (i : ℕ) (x : RawItem) → slice_get raw.productions p ≡ Some q
@@ -132,11 +116,9 @@ item_named raw p q i (raw_item.Class c) e f readable right =
 
 items_named : (raw : RawGrammar) → IsReadable raw → first_wrong (unknown_checks (symbols raw) raw.productions) ≡ None
     → Each (λ q. Each (IsNamedItem (numbered raw)) q.items) (numbered raw).productions
-items_named raw readable h = each_mapped (produces raw) (λ q. Each (IsNamedItem (numbered raw)) q.items) raw.productions (λ p q e.
+items_named raw readable h = each_mapped _ _ _ (λ p q e.
     let parts = unknown_parts (symbols raw) q (flat_each (unknown_in (symbols raw)) raw.productions h p q e) in
-    each_mapped (item_in raw) (IsNamedItem (numbered raw)) q.items (λ i x f.
-    item_named raw p q i x e f (readable p q e i x f)
-    (flat_each (item_checks (declared_names (symbols raw))) q.items parts.1 i x f)))
+    each_mapped _ _ _ (λ i x f. item_named raw p q i x e f (readable p q e i x f) (flat_each _ _ parts.1 i x f)))
 
 abbrev AreListed : RawGrammar → Type 0
 AreListed raw = Each (λ q. Each (λ r. is_below (length r.expr.1) r.expr.0 ≡ true) q.rules) (numbered raw).productions
@@ -171,10 +153,10 @@ starts raw h =
   where
     go : (o : Option Symbol) → slice_get (symbols raw) (start_number raw) ≡ o → is_start o ≡ true → IsStart (numbered raw)
     go None e h = absurd (cc)
-    go (Some s) e h = let w = both (nat_eq (length s.inh) 0) (list_any (bytes_eq out_name) s.syn) h in record {
+    go (Some s) e h = let w = and_parts _ _ h in record {
       symbol = s;
       declared = e;
-      plain = empty s.inh (eqb-true (length s.inh) 0 w.0);
+      plain = empty s.inh (eqb-true _ _ w.0);
       out = any_has s.syn out_name w.1;
     }
 
@@ -195,17 +177,12 @@ rule_parts : (raw : RawGrammar) → first_wrong (rule_kinds (symbols raw) raw.pr
 rule_parts raw h =
     let ss = symbols raw in
     let qs = raw.productions in
-    let a = both_right ((missing_checks ss qs ++ doubled_rules ss qs) ++ not_defined_here ss qs) (not_normal ss qs) h in
-    let b = both_right (missing_checks ss qs ++ doubled_rules ss qs) (not_defined_here ss qs) a.0 in
-    let c = both_right (missing_checks ss qs) (doubled_rules ss qs) b.0 in (c.0, c.1, b.1, a.1)
+    let a = both_right ((missing_checks ss qs ++ doubled_rules ss qs) ++ not_defined_here ss qs) _ h in
+    let b = both_right (missing_checks ss qs ++ doubled_rules ss qs) _ a.0 in
+    let c = both_right (missing_checks ss qs) _ b.0 in (c.0, c.1, b.1, a.1)
 
 parts_rule : (raw : RawGrammar) → Rules raw → first_wrong (rule_kinds (symbols raw) raw.productions) ≡ None
-parts_rule raw r =
-    let ss = symbols raw in
-    let qs = raw.productions in
-    together ((missing_checks ss qs ++ doubled_rules ss qs) ++ not_defined_here ss qs) (not_normal ss qs)
-    (together (missing_checks ss qs ++ doubled_rules ss qs) (not_defined_here ss qs)
-    (together (missing_checks ss qs) (doubled_rules ss qs) r.0 r.1) r.2) r.3
+parts_rule raw (missing, doubled, defined, used) = search (together)
 
 missing_at_index : (raw : RawGrammar) → first_wrong (missing_checks (symbols raw) raw.productions) ≡ None
     → (p : ℕ) (q : RawProduction) → slice_get raw.productions p ≡ Some q → first_wrong (missing_in (symbols raw) p q) ≡ None
@@ -214,7 +191,7 @@ missing_at_index raw h p q e = let there : 0 + p ≡ p = omega arith in
     (along_each (missing_in (symbols raw)) 0 raw.productions h p q e)
 
 complete : (raw : RawGrammar) → Rules raw → Each (IsComplete (numbered raw)) (numbered raw).productions
-complete raw r = each_mapped (produces raw) (IsComplete (numbered raw)) raw.productions (λ p q e. record {
+complete raw r = each_mapped _ _ _ (λ p q e. record {
   all = all_ruled raw p q (missing_at_index raw r.0 p q e);
   single = rules_single raw q (flat_each (doubled_in (symbols raw)) raw.productions r.1 p q e);
   no_other = targets_given raw q (flat_each (not_defined_in (symbols raw)) raw.productions r.2 p q e);
@@ -222,18 +199,18 @@ complete raw r = each_mapped (produces raw) (IsComplete (numbered raw)) raw.prod
 
 normal : (raw : RawGrammar) → Rules raw → Each (IsNormal (numbered raw)) (numbered raw).productions
 normal raw r =
-    each_mapped (produces raw) (IsNormal (numbered raw)) raw.productions
-    (λ p q e. arguments_found raw q (flat_each (not_normal_in (symbols raw)) raw.productions r.3 p q e))
+    each_mapped _ _ _ (λ p q e. arguments_found raw q (flat_each (not_normal_in (symbols raw)) raw.productions r.3 p q e))
 
 rules_of : (raw : RawGrammar) → Each (IsComplete (numbered raw)) (numbered raw).productions
     → Each (IsNormal (numbered raw)) (numbered raw).productions → Rules raw
 rules_of raw complete normal =
-    let whole = mapped_each (produces raw) (IsComplete (numbered raw)) raw.productions complete in (
-      each_along (missing_in (symbols raw)) 0 raw.productions (λ p q e. ruled_all raw (0 + p) q (whole p q e).all),
-      each_flat (doubled_in (symbols raw)) raw.productions (λ p q e. single_rules raw q (whole p q e).single),
-      each_flat (not_defined_in (symbols raw)) raw.productions (λ p q e. given_targets raw q (whole p q e).no_other),
-      each_flat (not_normal_in (symbols raw)) raw.productions
-          (λ p q e. found_arguments raw q (mapped_each (produces raw) (IsNormal (numbered raw)) raw.productions normal p q e)),
+    let ss = symbols raw in
+    let whole = mapped_each (produces raw) (IsComplete (numbered raw)) raw.productions complete in
+    let each_normal = mapped_each (produces raw) (IsNormal (numbered raw)) raw.productions normal in (
+      each_along (missing_in ss) 0 raw.productions (λ p q e. ruled_all raw (0 + p) q (whole p q e).all),
+      each_flat (doubled_in ss) raw.productions (λ p q e. single_rules raw q (whole p q e).single),
+      each_flat (not_defined_in ss) raw.productions (λ p q e. given_targets raw q (whole p q e).no_other),
+      each_flat (not_normal_in ss) raw.productions (λ p q e. found_arguments raw q (each_normal p q e)),
     )
 
 -- a test that holds of each element holds of all
@@ -251,52 +228,19 @@ limits : (raw : RawGrammar) → IsReadable raw → first_wrong (limit_checks (sy
 limits raw readable h =
     let ss = symbols raw in
     let qs = raw.productions in
-    let a = both_right (symbol_limits ss ++ production_limits ss qs) (literal_limits (literals raw)) h in
-    let b = both_right (symbol_limits ss) (production_limits ss qs) a.0 in
-    let s =
-    both_right ((fault.Limit limit.Symbols, nat_le (length ss) max_symbols) ∷ [])
-    ((fault.Limit limit.Attributes, list_all few_attributes ss) ∷ []) b.0 in
-    let p =
-    both_right ((fault.Limit limit.Productions, nat_le (length qs) max_productions) ∷ [])
-    ((fault.Limit limit.Items, list_all few_items qs) ∷ (fault.Limit limit.Children, list_all (few_children ss) qs) ∷ [])
-    b.1 in
-    let r =
-    both_right ((fault.Limit limit.Items, list_all few_items qs) ∷ [])
-    ((fault.Limit limit.Children, list_all (few_children ss) qs) ∷ []) p.1 in
-    let l =
-    both_right ((fault.Limit limit.LiteralLength, list_all is_short (literals raw)) ∷ [])
-    ((fault.Limit limit.Literals, nat_le (length (literals raw)) max_literals) ∷ []) a.1 in
-    let attributes = is_right (fault.Limit limit.Attributes, list_all few_attributes ss) s.1 in
-    let items = is_right (fault.Limit limit.Items, list_all few_items qs) r.0 in
-    let stored = is_right (fault.Limit limit.Children, list_all (few_children ss) qs) r.1 in
-    let short = is_right (fault.Limit limit.LiteralLength, list_all is_short (literals raw)) l.0 in
+    let (symbol_count, (attributes, (production_count, (items, (children, (short, (literal_count, end))))))) =
+    all_right (limit_checks ss qs) h in
     record {
-      symbol_count = leb-true (length ss) max_symbols (is_right (fault.Limit limit.Symbols, nat_le (length ss) max_symbols) s.0);
-      attribute_count =
-          λ i x e. leb-true (length (attribute_names x)) max_attributes (passes_at few_attributes ss i x attributes e);
-      production_count =
-          rw (length-map qs (produces raw))
-          (leb-true (length qs) max_productions
-          (is_right (fault.Limit limit.Productions, nat_le (length qs) max_productions) p.0));
-      item_count =
-          each_mapped (produces raw) (λ q. length q.items ≤ max_items) qs
-          (λ i q e. rw (length-map q.items (item_in raw))
-          (leb-true (length q.items) max_items (passes_at few_items qs i q items e)));
-      stored_count =
-          each_mapped (produces raw) (λ q. length (stored_items q.items) ≤ max_children) qs
-          (λ i q e. omega (
-            arith,
-            stored_long raw q,
-            leb-true (length (placed ss q)) (1 + max_children) (passes_at (few_children ss) qs i q stored e),
-          ));
-      literal_count =
-          leb-true (length (literals raw)) max_literals
-          (is_right (fault.Limit limit.Literals, nat_le (length (literals raw)) max_literals) l.1);
-      literal_bytes =
-          λ i x e. (
-            (literal_readable raw readable i x e).0,
-            leb-true (length x) max_literal_bytes (passes_at is_short (literals raw) i x short e),
-          );
+      symbol_count = leb-true _ _ symbol_count;
+      attribute_count = λ i x e. leb-true _ _ (passes_at few_attributes ss i x attributes e);
+      production_count = rw (length-map qs (produces raw)) (leb-true _ _ production_count);
+      item_count = each_mapped _ _ _ (λ i q e.
+          rw (length-map q.items (item_in raw)) (leb-true _ _ (passes_at few_items qs i q items e)));
+      stored_count = each_mapped _ _ _ (λ i q e. let few = passes_at (few_children ss) qs i q children e in
+          omega (arith, stored_long raw q, leb-true (length (placed ss q)) (1 + max_children) few));
+      literal_count = leb-true _ _ literal_count;
+      literal_bytes = λ i x e.
+          ((literal_readable raw readable i x e).0, leb-true _ _ (passes_at is_short (literals raw) i x short e));
     }
 
 within_limits : (raw : RawGrammar) → IsWithinGrammarLimits (numbered raw)
@@ -304,46 +248,24 @@ within_limits : (raw : RawGrammar) → IsWithinGrammarLimits (numbered raw)
 within_limits raw within =
     let ss = symbols raw in
     let qs = raw.productions in
-    together (symbol_limits ss ++ production_limits ss qs) (literal_limits (literals raw))
-    (together (symbol_limits ss) (production_limits ss qs)
-    (together ((fault.Limit limit.Symbols, nat_le (length ss) max_symbols) ∷ [])
-    ((fault.Limit limit.Attributes, list_all few_attributes ss) ∷ [])
-    (right_is (fault.Limit limit.Symbols, nat_le (length ss) max_symbols) (le-leb (length ss) max_symbols within.symbol_count))
-    (right_is (fault.Limit limit.Attributes, list_all few_attributes ss)
-    (all_hold few_attributes ss (λ i x e.
-    le-leb (length (attribute_names x)) max_attributes (within.attribute_count i x e)))))
-    (together ((fault.Limit limit.Productions, nat_le (length qs) max_productions) ∷ [])
-    ((fault.Limit limit.Items, list_all few_items qs) ∷ (fault.Limit limit.Children, list_all (few_children ss) qs) ∷ [])
-    (right_is (fault.Limit limit.Productions, nat_le (length qs) max_productions)
-    (le-leb (length qs) max_productions (rw (← length-map qs (produces raw)) within.production_count)))
-    (together ((fault.Limit limit.Items, list_all few_items qs) ∷ [])
-    ((fault.Limit limit.Children, list_all (few_children ss) qs) ∷ [])
-    (right_is (fault.Limit limit.Items, list_all few_items qs)
-    (all_hold few_items qs (λ i q e.
-    le-leb (length q.items) max_items
-    (rw (← length-map q.items (item_in raw))
-    (mapped_each (produces raw) (λ r. length r.items ≤ max_items) qs within.item_count i q e)))))
-    (right_is (fault.Limit limit.Children, list_all (few_children ss) qs)
-    (all_hold (few_children ss) qs
-    (λ i q e. le-leb (length (placed ss q)) (1 + max_children)
-    (omega (
-      arith,
-      stored_long raw q,
-      mapped_each (produces raw) (λ r. length (stored_items r.items) ≤ max_children) qs within.stored_count i q
-          e,
-    ))))))))
-    (together ((fault.Limit limit.LiteralLength, list_all is_short (literals raw)) ∷ [])
-    ((fault.Limit limit.Literals, nat_le (length (literals raw)) max_literals) ∷ [])
-    (right_is (fault.Limit limit.LiteralLength, list_all is_short (literals raw))
-    (all_hold is_short (literals raw) (λ i x e. le-leb (length x) max_literal_bytes (within.literal_bytes i x e).1)))
-    (right_is (fault.Limit limit.Literals, nat_le (length (literals raw)) max_literals)
-    (le-leb (length (literals raw)) max_literals within.literal_count)))
+    let few_children_stored =
+    mapped_each (produces raw) (λ r. length (stored_items r.items) ≤ max_children) qs within.stored_count in
+    rw (
+      le-leb (length ss) max_symbols within.symbol_count,
+      all_hold few_attributes ss (λ i x e. le-leb _ _ (within.attribute_count i x e)),
+      le-leb (length qs) max_productions (rw (← length-map qs (produces raw)) within.production_count),
+      all_hold few_items qs (λ i q e. le-leb _ _ (rw (← length-map q.items (item_in raw))
+          (mapped_each (produces raw) (λ r. length r.items ≤ max_items) qs within.item_count i q e))),
+      all_hold (few_children ss) qs (λ i q e. le-leb _ _ (omega (arith, stored_long raw q, few_children_stored i q e))),
+      all_hold is_short (literals raw) (λ i x e. le-leb _ _ (within.literal_bytes i x e).1),
+      le-leb (length (literals raw)) max_literals within.literal_count,
+    )
 
 -- without a fault the numbered grammar is accepted
 pub accepted : (raw : RawGrammar) → IsReadable raw → AreListed raw → HasNoFault raw → IsAccepted (numbered raw)
 accepted raw readable listed none =
     let parts = naming_parts raw none.names in
-    let further = both_right (rule_kinds (symbols raw) raw.productions) (limit_checks (symbols raw) raw.productions) none.rules in
+    let further = both_right (rule_kinds (symbols raw) raw.productions) _ none.rules in
     let rules = rule_parts raw further.0 in
     record {
       named = named raw readable listed none.names;
@@ -358,40 +280,25 @@ accepted raw readable listed none =
 -- a raw grammar whose numbered grammar is accepted has no fault
 pub no_fault : (raw : RawGrammar) → IsAccepted (numbered raw) → HasNoFault raw
 no_fault raw accepted =
-    let ss = symbols raw in
+    let unknown = named_known raw accepted.named in
+    let doubled = differ_doubled raw.symbols accepted.named.symbols_differ accepted.named.attributes_differ in
+    let started = start_right raw accepted.start in
+    let rules = parts_rule raw (rules_of raw accepted.complete accepted.normal) in
+    let limits = within_limits raw accepted.limits in
     record {
-      names = together (unknown_checks ss raw.productions ++ doubled_checks raw.symbols) (start_checks ss raw.start)
-          (together (unknown_checks ss raw.productions) (doubled_checks raw.symbols) (named_known raw accepted.named)
-          (differ_doubled raw.symbols accepted.named.symbols_differ accepted.named.attributes_differ))
-          (start_right raw accepted.start);
+      names = search (together);
       productive = λ s lt. accepted.productive s (rw (length-map raw.symbols symbol_of) lt);
       reached = λ s lt. accepted.reachable s (rw (length-map raw.symbols symbol_of) lt);
-      rules =
-          together (rule_kinds ss raw.productions) (limit_checks ss raw.productions)
-          (parts_rule raw (rules_of raw accepted.complete accepted.normal)) (within_limits raw accepted.limits);
+      rules = search (together);
     }
 
 -- without a fault the numbers are small
 pub small : (raw : RawGrammar) → HasNoFault raw → IsSmall (symbols raw) (literals raw)
 small raw none =
-    let ss = symbols raw in
-    let qs = raw.productions in
-    let further = both_right (rule_kinds ss qs) (limit_checks ss qs) none.rules in
-    let a = both_right (symbol_limits ss ++ production_limits ss qs) (literal_limits (literals raw)) further.1 in
-    let b = both_right (symbol_limits ss) (production_limits ss qs) a.0 in
-    let s =
-    both_right ((fault.Limit limit.Symbols, nat_le (length ss) max_symbols) ∷ [])
-    ((fault.Limit limit.Attributes, list_all few_attributes ss) ∷ []) b.0 in
-    let l =
-    both_right ((fault.Limit limit.LiteralLength, list_all is_short (literals raw)) ∷ [])
-    ((fault.Limit limit.Literals, nat_le (length (literals raw)) max_literals) ∷ []) a.1 in
-    record {
-      symbols = leb-true (length ss) max_symbols (is_right (fault.Limit limit.Symbols, nat_le (length ss) max_symbols) s.0);
-      attributes = is_right (fault.Limit limit.Attributes, list_all few_attributes ss) s.1;
-      texts =
-          leb-true (length (literals raw)) max_literals
-          (is_right (fault.Limit limit.Literals, nat_le (length (literals raw)) max_literals) l.1);
-    }
+    let further = both_right (rule_kinds (symbols raw) raw.productions) _ none.rules in
+    let (symbol_count, (attributes, (_, (_, (_, (_, (literal_count, end))))))) =
+    all_right (limit_checks (symbols raw) raw.productions) further.1 in
+    record { symbols = leb-true _ _ symbol_count; attributes = attributes; texts = leb-true _ _ literal_count }
 
 -- a property of all elements holds of each
 each_of : {X : Type 0} (P : X → Type 0) (xs : List X) → All P xs → Each P xs
@@ -414,9 +321,9 @@ made raw readable none ss ps ls cs st e f listed g h k =
 pub first_excludes : (raw : RawGrammar) (f : NormalFault) → IsFirstFault raw f → HasNoFault raw → ⊥
 first_excludes raw f (in_names e) none = absurd (cc (e, none.names))
 first_excludes raw f (in_productive n first) none =
-    first.wrong (none.productive first.number (slice_get_within raw.symbols first.number first.symbol first.declared))
+    first.wrong (none.productive first.number (slice_get_within _ _ _ first.declared))
 first_excludes raw f (in_reached n all first) none =
-    first.wrong (none.reached first.number (slice_get_within raw.symbols first.number first.symbol first.declared))
+    first.wrong (none.reached first.number (slice_get_within _ _ _ first.declared))
 first_excludes raw f (in_rules n all reached e) none = absurd (cc (e, none.rules))
 
 pub refused : (raw : RawGrammar) (f : NormalFault) → IsFirstFault raw f → IsTrueOf raw f

@@ -1,7 +1,7 @@
 -- The kind of a symbol's attribute by its number.
 use Rattle.std.proofs.Common.{ℕ, zero, suc, ◌≡◌, ◌-◌, ◌<◌, ◌≤◌, false, ◌&&◌, List, [], ◌∷◌, ◌++◌, length, map, Some, Option}
-use Rattle.std.proofs.Common.{nat_lt, nat_le, slice_get, refl, sym, ◌∙◌, arith}
-use Rattle.std.proofs.lemmas.Bool.{lt-ltb, le-leb}
+use Rattle.std.proofs.Common.{nat_lt, nat_le, slice_get, refl, ◌∙◌, arith}
+use Rattle.std.proofs.lemmas.Bool.{le-leb}
 use Rattle.std.proofs.lemmas.Bool.Decides.{nat_tests}
 use Rattle.std.proofs.lemmas.List.{length-map}
 use Rattle.ag_grammar.specs.declared.grammar.Symbol.{Symbol}
@@ -20,18 +20,15 @@ none_synthesized [] a = refl
 none_synthesized (x ∷ xs) zero = refl
 none_synthesized (x ∷ xs) (suc a) = none_synthesized xs a
 
-below_next : {X : Type 0} (a : ℕ) (x : X) (xs : List X) → nat_lt (suc a) (length (x ∷ xs)) ≡ nat_lt a (length xs)
-below_next a x xs = grind (arith, nat_tests)
-
 pub synthesized_at : (syn inh : List (List ℕ)) (a : ℕ) → is_kind Synthesized (slice_get (kinds syn inh) a) ≡ nat_lt a (length syn)
 synthesized_at [] inh a = none_synthesized inh a ∙ grind (arith, nat_tests)
-synthesized_at (x ∷ xs) inh zero = sym (lt-ltb zero (length (x ∷ xs)) (omega arith))
-synthesized_at (x ∷ xs) inh (suc a) = synthesized_at xs inh a ∙ sym (below_next a x xs)
+synthesized_at (x ∷ xs) inh zero = grind (arith, nat_tests)
+synthesized_at (x ∷ xs) inh (suc a) = synthesized_at xs inh a ∙ grind (arith, nat_tests)
 
 some_inherited : (inh : List (List ℕ)) (a : ℕ) → is_kind Inherited (slice_get (kinds [] inh) a) ≡ nat_lt a (length inh)
 some_inherited [] a = grind (arith, nat_tests)
-some_inherited (x ∷ xs) zero = sym (lt-ltb zero (length (x ∷ xs)) (omega arith))
-some_inherited (x ∷ xs) (suc a) = some_inherited xs a ∙ sym (below_next a x xs)
+some_inherited (x ∷ xs) zero = grind (arith, nat_tests)
+some_inherited (x ∷ xs) (suc a) = some_inherited xs a ∙ grind (arith, nat_tests)
 
 pub inherited_at : (syn inh : List (List ℕ)) (a : ℕ)
     → is_kind Inherited (slice_get (kinds syn inh) a) ≡ (nat_le (length syn) a && nat_lt (a - length syn) (length inh))
@@ -50,14 +47,9 @@ inherits_is : (o : Option Symbol) (s : RawSymbol) (syn inh : List Named) (a : �
     → inh ≡ s.inh
     → (nat_le (length syn) a && nat_lt (a - length syn) (length inh)) ≡ is_kind Inherited (slice_get (symbol_kinds o) a)
 inherits_is o s syn inh a e f g =
-    rw (
-      e,
-      f,
-      g,
-      inherited_at (texts_of s.syn) (texts_of s.inh) a,
-      length-map s.syn (λ (n : Named). n.name),
-      length-map s.inh (λ (n : Named). n.name),
-    ) refl
+    let syn_count = length-map s.syn (λ (n : Named). n.name) in
+    let inh_count = length-map s.inh (λ (n : Named). n.name) in
+    rw (e, f, g, inherited_at (texts_of s.syn) (texts_of s.inh) a, syn_count, inh_count)
 
 -- a number from `length syn` on is that of an inherited attribute exactly if it is below `length syn` + `length inh`
 pub inherits_after : (o : Option Symbol) (s : RawSymbol) (syn inh : List Named) (a : ℕ) → o ≡ Some (symbol_of s) → syn ≡ s.syn

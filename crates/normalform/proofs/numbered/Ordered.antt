@@ -1,12 +1,10 @@
 -- A numbered grammar is in order: its classes ascend, and its literals are in the order of their first appearance.
-use Rattle.std.proofs.Common.{ℕ, zero, suc, ◌≡◌, ◌<◌, ◌≤◌, ◌⊎◌, inl, inr, Bool, true, false, cond, List, [], ◌∷◌, ◌++◌, length}
-use Rattle.std.proofs.Common.{length-append, map, fold, take, Some, None, Option, slice_get, bytes_eq, refl, ap, sym, ◌∙◌}
+use Rattle.std.proofs.Common.{ℕ, zero, suc, ◌≡◌, ◌<◌, ◌⊎◌, inl, inr, Bool, true, false, cond, List, [], ◌∷◌, ◌++◌, length}
+use Rattle.std.proofs.Common.{length-append, map, fold, take, Some, slice_get, bytes_eq, refl, ap, sym, ◌∙◌}
 use Rattle.std.proofs.Common.{arith}
 use Rattle.std.proofs.lemmas.Bool.{cases_lt}
 use Rattle.std.proofs.lemmas.List.{map-append}
-use Rattle.std.proofs.lemmas.List.Elements.{filter_map-append}
 use Rattle.std.proofs.lemmas.List.Kept.{IsStrictlyIncreasing-filter}
-use Rattle.std.proofs.lemmas.List.Sums.{fold-append}
 use Rattle.std.specs.List.{list_any, filter_map, flat_map}
 use Rattle.std.specs.List.Sorted.{IsStrictlyIncreasing}
 use Rattle.ag_grammar.specs.declared.grammar.Production.{Production}
@@ -16,48 +14,18 @@ use Rattle.ag_grammar.specs.declared.raw.RawItem.{RawItem}
 use Rattle.ag_grammar.specs.declared.raw.RawItem.TheVariants as raw_item
 use Rattle.ag_grammar.specs.declared.raw.RawProduction.{RawProduction}
 use Rattle.ag_grammar.specs.grammars.Order.{IsInOrder, IsInOrderOfAppearance, literal_number, literal_numbers}
-use Rattle.closure.proofs.Positions.{at_mapped, mapped_at}
-use Rattle.normalform.specs.numbers.Numbers.{number_in, with_text, with_item, with_production, item_of, declared_names, is_class}
+use Rattle.closure.proofs.Positions.{at_mapped, mapped_at, get_push_end}
+use Rattle.normalform.specs.numbers.Numbers.{number_in, with_text, item_of, declared_names, is_class}
 use Rattle.normalform.specs.numbers.Numbers.{classes_of, literals_of, numbered}
 use Rattle.normalform.proofs.found.Apart.{Apart}
-use Rattle.normalform.proofs.found.Reduced.{symbols, produces, known}
-use Rattle.normalform.proofs.numbered.Listed.{literals_apart, number_at}
-use Rattle.normalform.proofs.numbered.Placing.{text_at}
-
--- the text of an item that is a literal
-abbrev literal_text : RawItem → Option (List ℕ)
-literal_text (raw_item.Literal text) = Some text
-literal_text (raw_item.Name name) = None
-literal_text (raw_item.Class c) = None
-
--- the texts of the literals among items, and of productions
-abbrev texts_among : List RawItem → List (List ℕ)
-texts_among xs = filter_map literal_text xs
-
-abbrev texts_in : List RawProduction → List (List ℕ)
-texts_in qs = texts_among (flat_map (λ q. q.items) qs)
-
--- listing the literals of items, or of productions, is listing these texts
-among_listed : (xs : List RawItem) (texts : List (List ℕ)) → fold with_item texts xs ≡ fold with_text texts (texts_among xs)
-among_listed [] texts = refl
-among_listed (raw_item.Literal text ∷ xs) texts = among_listed xs (with_text texts text)
-among_listed (raw_item.Name name ∷ xs) texts = among_listed xs texts
-among_listed (raw_item.Class c ∷ xs) texts = among_listed xs texts
-
-listed : (qs : List RawProduction) (texts : List (List ℕ)) → fold with_production texts qs ≡ fold with_text texts (texts_in qs)
-listed [] texts = refl
-listed (q ∷ qs) texts =
-    let rest = flat_map (λ (r : RawProduction). r.items) qs in
-    listed qs (with_production texts q)
-    ∙ ap (λ ts. fold with_text ts (texts_in qs)) (among_listed q.items texts)
-    ∙ sym (fold-append with_text texts (texts_among q.items) (texts_in qs))
-    ∙ ap (λ ts. fold with_text texts ts) (sym (filter_map-append literal_text q.items rest))
+use Rattle.normalform.proofs.found.Reduced.{symbols, produces}
+use Rattle.normalform.proofs.numbered.Listed.{literals_apart, number_at, texts_among, texts_in, listed, stays, placed}
 
 -- the literal numbers on the right sides are the numbers of these texts
 numbers_among : (names texts : List (List ℕ)) (xs : List RawItem)
     → filter_map literal_number (map (item_of names texts) xs) ≡ map (number_in texts) (texts_among xs)
 numbers_among names texts [] = refl
-numbers_among names texts (raw_item.Literal text ∷ xs) = ap (λ ns. number_in texts text ∷ ns) (numbers_among names texts xs)
+numbers_among names texts (raw_item.Literal text ∷ xs) = cc (numbers_among names texts xs)
 numbers_among names texts (raw_item.Name name ∷ xs) = numbers_among names texts xs
 numbers_among names texts (raw_item.Class c ∷ xs) = numbers_among names texts xs
 
@@ -67,8 +35,7 @@ items_produced : (raw : RawGrammar) (qs : List RawProduction)
 items_produced raw [] = refl
 items_produced raw (q ∷ qs) =
     let made = item_of (declared_names (symbols raw)) (literals_of raw.productions) in
-    ap (λ xs. map made q.items ++ xs) (items_produced raw qs)
-    ∙ sym (map-append made q.items (flat_map (λ (r : RawProduction). r.items) qs))
+    cc (items_produced raw qs, map-append made q.items (flat_map (λ (r : RawProduction). r.items) qs))
 
 numbers_of : (raw : RawGrammar)
     → literal_numbers (numbered raw) ≡ map (number_in (literals_of raw.productions)) (texts_in raw.productions)
@@ -77,52 +44,18 @@ numbers_of raw =
     ∙ numbers_among (declared_names (symbols raw)) (literals_of raw.productions)
     (flat_map (λ (q : RawProduction). q.items) raw.productions)
 
--- a text keeps its index when another one is listed
-kept_left : {X : Type 0} (xs ys : List X) (k : ℕ) (x : X) → slice_get xs k ≡ Some x → slice_get (xs ++ ys) k ≡ Some x
-kept_left [] ys k x e = absurd (cc)
-kept_left (z ∷ zs) ys zero x e = e
-kept_left (z ∷ zs) ys (suc k) x e = kept_left zs ys k x e
-
-pushed : {X : Type 0} (xs : List X) (x : X) → slice_get (xs ++ x ∷ []) (length xs) ≡ Some x
-pushed [] x = refl
-pushed (z ∷ zs) x = pushed zs x
-
-with_stays : (texts : List (List ℕ)) (text : List ℕ) (k : ℕ) (x : List ℕ) → slice_get texts k ≡ Some x
-    → slice_get (with_text texts text) k ≡ Some x
-with_stays texts text k x e = go (list_any (bytes_eq text) texts)
-  where
-    go : (b : Bool) → slice_get (cond b texts (texts ++ text ∷ [])) k ≡ Some x
-    go true = e
-    go false = kept_left texts (text ∷ []) k x e
-
-stays : (ts texts : List (List ℕ)) (k : ℕ) (x : List ℕ) → slice_get texts k ≡ Some x
-    → slice_get (fold with_text texts ts) k ≡ Some x
-stays [] texts k x e = e
-stays (t ∷ ts) texts k x e = stays ts (with_text texts t) k x (with_stays texts t k x e)
-
--- the index of a text after it is listed: at most just after the texts so far
-placed : (texts : List (List ℕ)) (text : List ℕ) → (k : ℕ) × (k ≤ length texts) × (slice_get (with_text texts text) k ≡ Some text)
-placed texts text = go (list_any (bytes_eq text) texts) refl
-  where
-    go : (b : Bool) → list_any (bytes_eq text) texts ≡ b
-        → (k : ℕ) × (k ≤ length texts) × (slice_get (cond b texts (texts ++ text ∷ [])) k ≡ Some text)
-    go true e = let lt = known texts text e in (number_in texts text, omega arith, text_at texts text e)
-    go false e = (length texts, omega arith, pushed texts text)
-
 -- an index of the longer list is one of the shorter, or that of the text
 old_or_new : (texts : List (List ℕ)) (text : List ℕ) (m : ℕ) → m < length (with_text texts text)
     → (m < length texts) ⊎ (slice_get (with_text texts text) m ≡ Some text)
 old_or_new texts text m lt = go (list_any (bytes_eq text) texts) lt
   where
-    last : (n : ℕ) → n ≡ length texts → slice_get (texts ++ text ∷ []) n ≡ Some text
-    last n e = rw e (pushed texts text)
-
     go : (b : Bool) → m < length (cond b texts (texts ++ text ∷ []))
         → (m < length texts) ⊎ (slice_get (cond b texts (texts ++ text ∷ [])) m ≡ Some text)
     go true h = inl h
     go false h = elim (cases_lt m (length texts)) [
       | inl less ↦ inl less
-      | inr le ↦ inr (last m (omega (arith, length-append texts (text ∷ []))))
+      | inr le ↦ inr (let last : m ≡ length texts = omega (arith, length-append texts (text ∷ [])) in
+          cc (get_push_end texts text))
     ]
 
 -- one of the first i texts has the number m
@@ -136,10 +69,9 @@ ordered : (all ts texts : List (List ℕ)) → fold with_text texts ts ≡ all �
 ordered all [] texts e apart i t m at lt = absurd (cc)
 ordered all (x ∷ ts) texts e apart zero t m at lt =
     let same : x ≡ t = cc in
-    let w = placed texts x in
-    let n : number_in all x ≡ w.0 = number_at all apart w.0 x (rw e at (stays ts (with_text texts x) w.0 x w.2)) in
+    let (k, le, there) = placed texts x in
+    let n : number_in all x ≡ k = number_at all apart k x (rw e at (stays ts (with_text texts x) k x there)) in
     let below : m < number_in all x = rw same lt in
-    let le = w.1 in
     inl (omega arith)
 ordered all (x ∷ ts) texts e apart (suc i) t m at lt = elim (ordered all ts (with_text texts x) e apart i t m at lt) [
   | inl old ↦ elim (old_or_new texts x m old) [
@@ -163,11 +95,8 @@ literals_in_order raw i n m e lt =
     let v = mapped_at (number_in all) ts i n e in
     elim (ordered all ts [] (sym (listed raw.productions [])) (literals_apart raw.productions) i v.0 m v.1 (rw v.2 lt)) [
       | inl none ↦ absurd (omega arith)
-      | inr w ↦ (
-        w.0,
-        taken (map (number_in all) ts) i w.0 m w.2
-            (at_mapped (number_in all) ts w.0 w.1 w.3 ∙ ap (λ k. Some k) w.4),
-      )
+      | inr (j, u, before, there, number) ↦
+          (j, taken (map (number_in all) ts) i j m before (cc (at_mapped (number_in all) ts j u there)))
     ]
 
 ascending : IsStrictlyIncreasing (0 ∷ 1 ∷ 2 ∷ [])

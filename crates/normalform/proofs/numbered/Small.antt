@@ -1,7 +1,7 @@
 -- Within the limits the numbers have 16 bits.
-use Rattle.std.proofs.Common.{ℕ, zero, suc, ◌≡◌, ◌<◌, ◌≤◌, Bool, true, false, ◌&&◌, not, List, [], ◌∷◌, length, Some, None}
+use Rattle.std.proofs.Common.{ℕ, zero, suc, ◌≡◌, ◌<◌, ◌≤◌, Bool, true, not, List, [], ◌∷◌, length, Some, None}
 use Rattle.std.proofs.Common.{Option, slice_get, bytes_eq, refl, arith}
-use Rattle.std.proofs.lemmas.Bool.{leb-true}
+use Rattle.std.proofs.lemmas.Bool.{and_parts, leb-true}
 use Rattle.std.proofs.lemmas.List.{length-map}
 use Rattle.std.proofs.lemmas.List.Sums.{prefix_len-le-length}
 use Rattle.std.specs.List.{list_all}
@@ -10,7 +10,7 @@ use Rattle.ag_grammar.specs.declared.grammar.Item.TheVariants as item
 use Rattle.ag_grammar.specs.declared.grammar.Symbol.{Symbol}
 use Rattle.ag_grammar.specs.declared.grammar.Terminal.TheVariants.{Literal, Class}
 use Rattle.ag_grammar.specs.declared.syntax.occurrence.Occ.{Occ}
-use Rattle.ag_grammar.specs.grammars.AttributeGrammar.{attribute_names, item_names, symbol_names as names_of_symbol}
+use Rattle.ag_grammar.specs.grammars.AttributeGrammar.{item_names, symbol_names as names_of_symbol}
 use Rattle.normalform.specs.faults.Faults.{few_attributes}
 use Rattle.normalform.specs.numbers.Numbers.{number_in, declared_names, declared, names_at, target_of}
 
@@ -25,16 +25,12 @@ symbol_small ss name few = omega (arith, number_within (declared_names ss) name,
 pub text_small : (texts : List (List ℕ)) (text : List ℕ) → length texts ≤ 1024 → number_in texts text < 65536
 text_small texts text few = omega (arith, number_within texts text)
 
-both : (a b : Bool) → (a && b) ≡ true → (a ≡ true) × (b ≡ true)
-both true b h = (refl, h)
-both false b h = absurd (cc)
-
 -- if all elements of a list pass a test, each one does
 pub passes_at : {X : Type 0} (p : X → Bool) (xs : List X) (i : ℕ) (x : X) → list_all p xs ≡ true → slice_get xs i ≡ Some x
     → p x ≡ true
 passes_at p [] i x all e = absurd (cc)
-passes_at p (y ∷ ys) zero x all e = let same : y ≡ x = cc in rw (← same) (both (p y) (list_all p ys) all).0
-passes_at p (y ∷ ys) (suc i) x all e = passes_at p ys i x (both (p y) (list_all p ys) all).1 e
+passes_at p (y ∷ ys) zero x all e = let same : y ≡ x = cc in rw (← same) (and_parts _ _ all).0
+passes_at p (y ∷ ys) (suc i) x all e = passes_at p ys i x (and_parts _ _ all).1 e
 
 names_few : (ss : List Symbol) → list_all few_attributes ss ≡ true → (o : Option Item) → length (item_names (declared ss) o) ≤ 16
 names_few ss few None = omega arith
@@ -42,7 +38,7 @@ names_few ss few (Some (item.Symbol s)) = go (slice_get ss s) refl
   where
     go : (o : Option Symbol) → slice_get ss s ≡ o → length (names_of_symbol o) ≤ 16
     go None e = omega arith
-    go (Some x) e = leb-true (length (attribute_names x)) 16 (passes_at few_attributes ss s x few e)
+    go (Some x) e = leb-true _ _ (passes_at few_attributes ss s x few e)
 names_few ss few (Some (item.Terminal (Class c))) = omega arith
 names_few ss few (Some (item.Terminal (Literal l))) = omega arith
 

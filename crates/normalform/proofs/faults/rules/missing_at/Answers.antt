@@ -1,5 +1,5 @@
 -- The remaining goals of `missing_at`.
-use Rattle.std.proofs.Common.{arith, sym, ◌∙◌}
+use Rattle.std.proofs.Common.{arith}
 use Rattle.normalform.specs.faults.Faults.{missing_check}
 use Rattle.normalform.proofs.found.Wrong.{range_past}
 use Rattle.normalform.proofs.faults.rules.missing_at.Goals as goal
@@ -9,5 +9,5 @@ loop-attr-preserved c = record {
   ordered = omega arith;
   wrong =
       range_past (missing_check c.args.targets.now c.args.production c.args.place) c.loop-attr.attr c.defined_here-first.result.1
-      _ c.loop-attr-test.true (sym c.has.ensures ∙ c.if-not-has.false) c.loop-attr.invariant.wrong;
+      _ c.loop-attr-test.true (cc) c.loop-attr.invariant.wrong;
 }
