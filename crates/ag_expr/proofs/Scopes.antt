@@ -1,7 +1,7 @@
 -- The names in scope, as the code keeps them.
 use Rattle.std.proofs.lemmas.List.{map-append}
 use Rattle.std.proofs.Common.{◌∙◌, length, option_to_list, arith, append-nil, ◌≡◌, ℕ, ◌+◌, List, [], ◌∷◌, ◌++◌, map, Option, Some}
-use Rattle.std.proofs.Common.{None, Bor, bytes_eq, cond, refl, ap, sym}
+use Rattle.std.proofs.Common.{None, Bor, bytes_eq, cond, refl}
 use Rattle.ag_expr.specs.language.Names.{Names, last_from, binding_in, without_innermost}
 
 last_map : (name : List ℕ) (at : ℕ) (found : Option ℕ) (ys : List (Bor (List ℕ)))
@@ -18,13 +18,11 @@ last_lent name ys = last_map name 0 None ys
 pub outer_end : (names : Names) (name : List ℕ) → without_innermost (names ++ name ∷ []) ≡ names
 outer_end [] name = refl
 outer_end (x ∷ []) name = refl
-outer_end (x ∷ y ∷ ys) name = ap (λ zs. x ∷ zs) (outer_end (y ∷ ys) name)
+outer_end (x ∷ y ∷ ys) name = cc (outer_end (y ∷ ys) name)
 
 -- the innermost name is removed
 pub unbound : (old new : List (Bor (List ℕ))) (r : Option (Bor (List ℕ))) → old ≡ new ++ option_to_list r
     → (r ≡ None → length old ≡ 0) → map (λ y. y.now) new ≡ without_innermost (map (λ y. y.now) old)
-unbound [] new None e none = let same = e ∙ append-nil new in ap (map (λ y. y.now)) (sym same)
-unbound (x ∷ old) new None e none = let bad : ⊥ = omega (arith, none refl) in absurd bad
-unbound old new (Some x) e none =
-    sym (ap (λ ys. without_innermost (map (λ y. y.now) ys)) e ∙ ap without_innermost (map-append (λ y. y.now) new (x ∷ []))
-    ∙ outer_end (map (λ y. y.now) new) x.now)
+unbound [] new None e none = let same = e ∙ append-nil new in cc
+unbound (x ∷ old) new None e none = absurd (omega (arith, none refl))
+unbound old new (Some x) e none = cc (map-append (λ y. y.now) new (x ∷ []), outer_end (map (λ y. y.now) new) x.now)

@@ -1,6 +1,6 @@
 -- The parser agrees with the syntax.
 use Rattle.std.proofs.Common.{rules, ◌≡◌, ℕ, zero, suc, Bool, true, false, not, ◌||◌, if◌then◌else◌, ◌&&◌, List, [], ◌∷◌, ◌++◌}
-use Rattle.std.proofs.Common.{length, ◌<◌, Option, Some, None, Ok, Err, is_some, refl, ap, sym, ◌∙◌, subst, append-nil, ◌↔◌}
+use Rattle.std.proofs.Common.{length, ◌<◌, Option, Some, None, Ok, Err, is_some, refl, append-nil, ◌↔◌}
 use Rattle.std.proofs.Common.{codes, arith}
 use denote.Enum.Bare.{same_true}
 use Rattle.std.proofs.lemmas.Bool.{and_parts}
@@ -17,8 +17,7 @@ use Rattle.ag_tokens.specs.Ending.{Ending}
 use Rattle.ag_tokens.specs.Ending as ending
 use Rattle.ag_expr.specs.language.Names.{Names}
 use Rattle.ag_tokens.specs.PlacedToken.{PlacedToken, Input, tokens}
-use Rattle.ag_tokens.specs.Languages as syntax
-use Rattle.ag_tokens.specs.Languages.{gives, one}
+use Rattle.ag_tokens.specs.Languages.{◌>>=◌, ◌>>◌, gives, one}
 use Rattle.ag_expr.specs.language.Syntax.{one_sign, operator_of, binary_operator, precedences, closer, takes_one, same_precedence}
 use Rattle.ag_expr.specs.language.Syntax.{of_precedence, chain_of, new_name, call_in, operand_of, IsOther, IsChain, IsRanked}
 use Rattle.ag_expr.specs.language.Syntax.{AreNone, IsTable, IsParenthesized, IsNext, AreSome, IsList, AreArguments, IsCall, IsLet}
@@ -31,9 +30,10 @@ use Rattle.ag_expr.specs.language.Reading.{parenthesized_from, next_from, items_
 use Rattle.ag_expr.specs.language.Reading.{binary_from, put_from, arguments_from, call_from, let_from, if_from, atom_from}
 use Rattle.ag_expr.specs.language.Reading.{whole_from, expr_from, expr_in}
 use Rattle.ag_tokens.specs.GrammarToken.{GrammarToken, Sign, mark, word, sign_token}
-use Rattle.ag_expr.proofs.reading.Exact.{nowhere, Apart, then_exact, or_exact, further_exact, further_after, further_then}
+use Rattle.ag_expr.proofs.reading.Exact.{Test, nowhere, Apart, then_exact, or_exact, further_exact, further_after, further_then}
 use Rattle.ag_expr.proofs.reading.Exact.{then_starts, ends_exact, any_then, start_then, opened, shortens}
-use Rattle.ag_expr.proofs.language.Manner.{Starts, Exact, First, token_exact, token_starts, sign_exact, sign_is, sign_first}
+use Rattle.ag_expr.proofs.language.Manner.{Language, Starts, Exact, First, token_exact, token_starts, sign_exact, sign_is}
+use Rattle.ag_expr.proofs.language.Manner.{sign_first}
 use Rattle.ag_expr.proofs.language.Manner.{or_first, starts_with}
 
 -- ---- precedences
@@ -52,7 +52,7 @@ AllApart (r ∷ rs) = Apart (is_operator_of r) (in_precedences rs) × AllApart r
 
 of_one : (r : Precedence) (o : Option (Precedence × Operator)) → is_some (of_precedence r o) ≡ true
     → (x : Operator) × (o ≡ Some (r, x))
-of_one r None h = let bad : ⊥ = cc in absurd bad
+of_one r None h = cc
 of_one r (Some (q, x)) h = let same = same_true the_type (search rules) r q in (x, grind (arith, same))
 
 apart : (r : Precedence) (rs : List Precedence) → absent r rs ≡ true → Apart (is_operator_of r) (in_precedences rs)
@@ -69,39 +69,39 @@ all_apart (r ∷ rs) h = let parts = and_parts (absent r rs) (distinct rs) h in 
 
 -- ---- chains
 
-pub other_exact : (k : Precedence) {stops : GrammarToken → Bool} {L : List GrammarToken → Node → Type 0} {l : Parser Node}
+pub other_exact : (k : Precedence) {stops : Test} {L : Language Node} {l : Parser Node}
     → Exact stops L l → Exact stops (IsOther k L) (other_from k l)
 unfolding other_from
 other_exact k x = any_then (token_exact (operator_of k)) (λ o. ends_exact (λ e. (o, e)) x)
 
-pub other_starts : (k : Precedence) (L : List GrammarToken → Node → Type 0) → Starts (is_operator_of k) (IsOther k L)
+pub other_starts : (k : Precedence) (L : Language Node) → Starts (is_operator_of k) (IsOther k L)
 other_starts k L = then_starts (token_starts (operator_of k))
 
-chain_exact : (k : Precedence) {stops : GrammarToken → Bool} {L : List GrammarToken → Node → Type 0} {l : Parser Node}
+chain_exact : (k : Precedence) {stops : Test} {L : Language Node} {l : Parser Node}
     → Exact stops L l → Apart (is_operator_of k) stops → Exact (λ t. is_operator_of k t || stops t) (IsChain k L) (chain_from k l)
 unfolding chain_from
 chain_exact k {stops} {L} x away =
     then_exact x (λ first. ends_exact (chain_of first) (further_exact (takes_one k) [] (other_exact k x) (other_starts k L) away))
     (λ first. further_after (takes_one k) [] (is_operator_of k) stops (chain_of first) (other_starts k L) away)
 
-pub ranked_exact : {L : List GrammarToken → Node → Type 0} {l : Parser Node} → Exact nowhere L l → (ks : List Precedence)
+pub ranked_exact : {L : Language Node} {l : Parser Node} → Exact nowhere L l → (ks : List Precedence)
     → AllApart ks → Exact (in_precedences ks) (IsRanked L ks) (ranked_from l ks)
 unfolding ranked_from
 ranked_exact x [] a = x
 ranked_exact x (k ∷ ks) a = chain_exact k (ranked_exact x ks a.1) a.0
 
-pub ranked_starts : {test : GrammarToken → Bool} {L : List GrammarToken → Node → Type 0} → Starts test L → (ks : List Precedence)
+pub ranked_starts : {test : Test} {L : Language Node} → Starts test L → (ks : List Precedence)
     → Starts test (IsRanked L ks)
 ranked_starts x [] = x
 ranked_starts x (k ∷ ks) = then_starts (ranked_starts x ks)
 
 -- ---- disjoint sets of tokens
 
-abbrev pub operators : GrammarToken → Bool
+abbrev pub operators : Test
 operators = in_precedences precedences
 
-sign_apart : (s : Sign) (stops : GrammarToken → Bool) → stops (sign_token s) ≡ false → Apart (is_sign s) stops
-sign_apart s stops no_stop t h = ap stops (sign_is s t h) ∙ no_stop
+sign_apart : (s : Sign) (stops : Test) → stops (sign_token s) ≡ false → Apart (is_sign s) stops
+sign_apart s stops no_stop t h = cc (sign_is s t h)
 
 -- a call is not an operand, since its name is reserved
 call_apart : (listed : List Occ) (scope : Names) → Apart is_call (is_operand listed scope)
@@ -119,14 +119,14 @@ table_exact =
     any_then (sign_exact (mark punctuation.OpenTable))
     (λ u. ends_exact (λ u. node.EmptyTable) (sign_exact (mark punctuation.CloseTable)))
 
-module _ (listed : List Occ) (inner : Names → List GrammarToken → Node → Type 0) (read : Names → Parser Node)
+module _ (listed : List Occ) {inner : Names → Language Node} {read : Names → Parser Node}
     (x : (scope : Names) → First (begins listed scope) operators (inner scope) (read scope)) (scope : Names) where
   comma : Apart (is_sign (mark punctuation.Comma)) operators
   comma = sign_apart (mark punctuation.Comma) operators refl
 
   -- an expression and the closing parenthesis of its form
-  closed : {R : List GrammarToken → Node → Type 0} {r : Parser Node} (f : Node → Node) → Exact operators R r
-      → Exact nowhere (syntax.◌>>=◌ R (λ e. syntax.◌>>◌ (one_sign (mark punctuation.Close)) (gives (f e))))
+  closed : {R : Language Node} {r : Parser Node} (f : Node → Node) → Exact operators R r
+      → Exact nowhere (R >>= (λ e. one_sign (mark punctuation.Close) >> gives (f e)))
       (reading.◌>>=◌ r (λ e. reading.◌>>◌ (expect (mark punctuation.Close)) (pure (f e))))
   closed f y =
       start_then y (λ e. ends_exact (λ u. f e) (sign_exact (mark punctuation.Close))) (λ e. starts_with (mark punctuation.Close))
@@ -162,12 +162,12 @@ module _ (listed : List Occ) (inner : Names → List GrammarToken → Node → T
 
   arguments_exact : (c : Call) → Exact nowhere (AreArguments inner scope c) (arguments_from read scope c)
   unfolding unary_from binary_from put_from
-  arguments_exact (call.Unary c) = closed (λ a. node.Unary c a) (x scope).exact
+  arguments_exact (call.Unary c) = closed (node.Unary c) (x scope).exact
   arguments_exact (call.Binary c) =
-      start_then (x scope).exact (λ a. closed (λ b. node.Binary c a b) next_exact) (λ a. then_starts next_starts) comma
+      start_then (x scope).exact (λ a. closed (node.Binary c a) next_exact) (λ a. then_starts next_starts) comma
   arguments_exact call.Put =
       start_then (x scope).exact (λ t.
-      start_then next_exact (λ k. closed (λ v. node.Put t k v) next_exact) (λ k. then_starts next_starts) comma)
+      start_then next_exact (λ k. closed (node.Put t k) next_exact) (λ k. then_starts next_starts) comma)
       (λ t. then_starts next_starts) comma
 
   call_exact : Exact nowhere (IsCall inner scope) (call_from read scope)
@@ -212,8 +212,7 @@ module _ (listed : List Occ) (inner : Names → List GrammarToken → Node → T
       (or_first (sign_first (word (codes "if")) if_exact)
       (record {
         starts = ranked_starts atom_first.starts precedences;
-        exact =
-            ranked_exact atom_first.exact precedences (all_apart precedences refl);
+        exact = ranked_exact atom_first.exact precedences (all_apart precedences refl);
       })
       (sign_apart (word (codes "if")) (begins_atom listed scope) refl))
       (sign_apart (word (codes "let")) _ refl)
@@ -221,80 +220,75 @@ module _ (listed : List Occ) (inner : Names → List GrammarToken → Node → T
 pub expr_first : (listed : List Occ) (levels : ℕ) (scope : Names)
     → First (begins listed scope) operators (IsExprIn listed levels scope) (expr_in listed levels scope)
 unfolding expr_in IsExprIn
-expr_first listed zero scope =
-    record {
-      starts = record { leads = λ ts e h. absurd h };
-      exact = record { sound = λ i j e h. (let bad : ⊥ = cc in absurd bad); complete = λ us j e h. absurd h };
-    }
-expr_first listed (suc levels) scope =
-    whole_first listed (IsExprIn listed levels) (expr_in listed levels) (expr_first listed levels) scope
-
-pub expr_exact : (listed : List Occ) (levels : ℕ) (scope : Names)
-    → Exact operators (IsExprIn listed levels scope) (expr_in listed levels scope)
-expr_exact listed levels scope = (expr_first listed levels scope).exact
+expr_first listed zero scope = record {
+  starts = record { leads = λ ts e h. absurd h };
+  exact = record { sound = λ i j e h. cc; complete = λ us j e h. absurd h };
+}
+expr_first listed (suc levels) scope = whole_first listed (expr_first listed levels) scope
 
 closer_apart : (k : Precedence) → AllApart (closer k)
 closer_apart k = grind (arith, all_apart)
 
-pub other_shortens : (listed : List Occ) (levels : ℕ) (scope : Names) (k : Precedence) (i j : Input) (a : Operator × Node)
-    → other_from k (ranked_from (atom_from (expr_in listed levels) scope listed) (closer k)) i ≡ Ok (a, j)
-    → length j.left < length i.left
-other_shortens listed levels scope k =
-    let atom = atom_exact listed (IsExprIn listed levels) (expr_in listed levels) (expr_first listed levels) scope in
-    shortens (other_exact k (ranked_exact atom (closer k) (closer_apart k)))
-    (other_starts k (IsRanked (IsAtom (IsExprIn listed levels) scope listed) (closer k)))
-
-pub next_shortens : (listed : List Occ) (levels : ℕ) (scope : Names) (i j : Input) (a : Node)
-    → next_from (expr_in listed levels) scope i ≡ Ok (a, j) → length j.left < length i.left
-next_shortens listed levels scope =
-    shortens (next_exact listed (IsExprIn listed levels) (expr_in listed levels) (expr_first listed levels) scope)
-    (next_starts listed (IsExprIn listed levels) (expr_in listed levels) (expr_first listed levels) scope)
-
 end_left : (e : Ending) (ps : List PlacedToken) → is_end e ps ≡ true → (at : ℕ) × (e ≡ ending.EndsAt at) × (ps ≡ [])
 end_left e ps h = grind arith
 
--- tokens that are parsed to the end of a text are an expression
-pub whole_is : (listed : List Occ) (levels : ℕ) (i j : Input) (e : Node) → expr_from listed levels i ≡ Ok (e, j)
-    → is_end j.ending j.left ≡ true → (at : ℕ) × (i.ending ≡ ending.EndsAt at) × IsExpr listed levels (tokens i.left) e
-whole_is listed levels i j e h ends =
-    let found = (expr_exact listed levels []).sound i j e h in
-    let last = end_left j.ending j.left ends in
-    let all : i.left ≡ found.0 = ap (λ (k : Input). k.left) found.1 ∙ ap (λ ps. found.0 ++ ps) last.2 ∙ append-nil found.0 in
-    (last.0, ap (λ (k : Input). k.ending) found.1 ∙ last.1, subst (λ us. IsExpr listed levels (tokens us) e) (sym all) found.2)
+-- ---- the parser of expressions
 
--- and an expression is parsed to the end
-pub read_whole : (listed : List Occ) (levels at : ℕ) (ps : List PlacedToken) (e : Node) → IsExpr listed levels (tokens ps) e
-    → expr_of listed levels (record { left = ps; ending = ending.EndsAt at }) ≡ Ok
-    (e, record { left = []; ending = ending.EndsAt at })
-unfolding expr_of
-read_whole listed levels at ps e is =
-    let end : Input = record { left = []; ending = ending.EndsAt at } in
-    let read =
-    ap (λ us. expr_from listed levels (record { left = us; ending = ending.EndsAt at })) (sym (append-nil ps))
-    ∙ (expr_exact listed levels []).complete ps end e is refl in
-    rw read refl
+module _ (listed : List Occ) (levels : ℕ) where
+  pub expr_exact : (scope : Names) → Exact operators (IsExprIn listed levels scope) (expr_in listed levels scope)
+  expr_exact scope = (expr_first listed levels scope).exact
 
--- the result of parsing a whole text
-pub read_of : (listed : List Occ) (levels : ℕ) (i j : Input) (e : Node) → expr_from listed levels i ≡ Ok (e, j)
-    → is_end j.ending j.left ≡ true → expr_of listed levels i ≡ Ok (e, j)
-unfolding expr_of
-read_of listed levels i j e read ends = rw (read, ends) refl
+  pub other_shortens : (scope : Names) (k : Precedence) (i j : Input) (a : Operator × Node)
+      → other_from k (ranked_from (atom_from (expr_in listed levels) scope listed) (closer k)) i ≡ Ok (a, j)
+      → length j.left < length i.left
+  other_shortens scope k =
+      shortens (other_exact k (ranked_exact (atom_exact listed (expr_first listed levels) scope) (closer k) (closer_apart k)))
+      (other_starts k (IsRanked (IsAtom (IsExprIn listed levels) scope listed) (closer k)))
 
-pub read_to_end : (listed : List Occ) (levels : ℕ) (i j : Input) (e : Node) → expr_of listed levels i ≡ Ok (e, j)
-    → (expr_from listed levels i ≡ Ok (e, j)) × (is_end j.ending j.left ≡ true)
-unfolding expr_of
-read_to_end listed levels i j e h =
-    let one = opened (expr_from listed levels i) _ _ h in
-    let read = one.1 in
-    let ended : reading.and_then {A = Unit {0}}
-    (if is_end one.0.1.ending one.0.1.left then Ok (tt {0}, one.0.1) else Err (refusal one.0.1)) (λ u. pure one.0.0) ≡ Ok
-    (e, j) = one.2 in
-    (grind arith, grind arith)
+  pub next_shortens : (scope : Names) (i j : Input) (a : Node)
+      → next_from (expr_in listed levels) scope i ≡ Ok (a, j) → length j.left < length i.left
+  next_shortens scope =
+      shortens (next_exact listed (expr_first listed levels) scope) (next_starts listed (expr_first listed levels) scope)
 
-pub exact : (listed : List Occ) (levels at : ℕ) (ps : List PlacedToken) (e : Node)
-    → (expr_of listed levels (record { left = ps; ending = ending.EndsAt at }) ≡ Ok
-    (e, record { left = []; ending = ending.EndsAt at })) ↔ IsExpr listed levels (tokens ps) e
-exact listed levels at ps e = (
-  λ h. let all = read_to_end listed levels _ _ e h in (whole_is listed levels _ _ e all.0 all.1).2,
-  read_whole listed levels at ps e,
-)
+  -- tokens that are parsed to the end of a text are an expression
+  pub whole_is : (i j : Input) (e : Node) → expr_from listed levels i ≡ Ok (e, j)
+      → is_end j.ending j.left ≡ true → (at : ℕ) × (i.ending ≡ ending.EndsAt at) × IsExpr listed levels (tokens i.left) e
+  whole_is i j e h ends =
+      let found = (expr_exact []).sound i j e h in
+      let last = end_left j.ending j.left ends in
+      let all : i.left ≡ found.0 = cc (append-nil found.0) in
+      (last.0, cc, rw all found.2)
+
+  -- and an expression is parsed to the end
+  pub read_whole : (at : ℕ) (ps : List PlacedToken) (e : Node) → IsExpr listed levels (tokens ps) e
+      → expr_of listed levels (record { left = ps; ending = ending.EndsAt at }) ≡ Ok
+      (e, record { left = []; ending = ending.EndsAt at })
+  unfolding expr_of
+  read_whole at ps e is =
+      let end : Input = record { left = []; ending = ending.EndsAt at } in
+      let read = (expr_exact []).complete ps end e is refl in
+      rw (rw append-nil at read) refl
+
+  -- the result of parsing a whole text
+  pub read_of : (i j : Input) (e : Node) → expr_from listed levels i ≡ Ok (e, j)
+      → is_end j.ending j.left ≡ true → expr_of listed levels i ≡ Ok (e, j)
+  unfolding expr_of
+  read_of i j e read ends = rw (read, ends) refl
+
+  pub read_to_end : (i j : Input) (e : Node) → expr_of listed levels i ≡ Ok (e, j)
+      → (expr_from listed levels i ≡ Ok (e, j)) × (is_end j.ending j.left ≡ true)
+  unfolding expr_of
+  read_to_end i j e h =
+      let one = opened (expr_from listed levels i) _ _ h in
+      let ended : reading.and_then {A = Unit {0}}
+      (if is_end one.0.1.ending one.0.1.left then Ok (tt {0}, one.0.1) else Err (refusal one.0.1)) (λ u. pure one.0.0) ≡ Ok
+      (e, j) = one.2 in
+      let read = one.1 in (grind arith, grind arith)
+
+  pub exact : (at : ℕ) (ps : List PlacedToken) (e : Node)
+      → (expr_of listed levels (record { left = ps; ending = ending.EndsAt at }) ≡ Ok
+      (e, record { left = []; ending = ending.EndsAt at })) ↔ IsExpr listed levels (tokens ps) e
+  exact at ps e = (
+    λ h. let all = read_to_end _ _ e h in (whole_is _ _ e all.0 all.1).2,
+    read_whole at ps e,
+  )

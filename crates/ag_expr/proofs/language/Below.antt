@@ -2,7 +2,7 @@
 -- bound names for the scope.
 use Rattle.std.proofs.lemmas.Bool.{lt-ltb}
 use Rattle.std.proofs.Common.{◌≡◌, ◌<◌, ◌+◌, ℕ, zero, suc, length, Option, Some, None, IfSome, subst, List, [], ◌∷◌, ◌++◌, Bool}
-use Rattle.std.proofs.Common.{true, false, cond, inl, inr, refl, sym, arith, length-append, bytes_eq}
+use Rattle.std.proofs.Common.{true, false, cond, inl, inr, refl, arith, length-append, bytes_eq}
 use Rattle.std.specs.Prelude.{option_map}
 use Rattle.ag_expr.specs.declared.names.Call.{Call}
 use Rattle.ag_expr.specs.declared.names.Call.TheVariants as call
@@ -14,62 +14,57 @@ use Rattle.ag_grammar.specs.declared.syntax.occurrence.Occ.{Occ}
 use Rattle.ag_expr.specs.declared.parser.Precedence.{Precedence}
 use Rattle.ag_expr.specs.language.Names.{Names, last_from, binding_in, is_reserved}
 use Rattle.ag_expr.specs.language.Occurrences.{is_of, position_of}
-use Rattle.ag_tokens.specs.Languages as syntax
-use Rattle.ag_tokens.specs.Languages.{Many, none, more, further, gives, one, ◌or◌}
+use Rattle.ag_tokens.specs.Languages.{◌>>=◌, ◌>>◌, Many, none, more, further, gives, one, ◌or◌}
 use Rattle.ag_expr.specs.language.Syntax.{precedences, chain_of, operand_of, takes_one, IsOther, IsRanked, IsNext, IsList}
 use Rattle.ag_expr.specs.language.Syntax.{AreArguments, IsLet, IsIf, IsAtom, IsWhole, IsExpr, IsExprIn}
 use Rattle.ag_tokens.specs.GrammarToken.{GrammarToken}
 use Rattle.ag_tokens.specs.GrammarToken as token
 use Rattle.ag_grammar.specs.expressions.Trees.{is_below}
+use Rattle.ag_expr.proofs.language.Manner.{Language}
 use Rattle.ag_expr.proofs.language.Numbered.{within}
 use Rattle.ag_grammar.proofs.expressions.Within.{Each, Within, both, rolled, in_chain, in_list, literal_within, occurrence_within}
 
 -- ---- properties of everything that a language relates to tokens
 
-pub record Holds {A : Type 0} (P : A → Type 0) (L : List GrammarToken → A → Type 0) : Type 0 where
+pub record Holds {A : Type 0} (P : A → Type 0) (L : Language A) : Type 0 where
   pub of : (ts : List GrammarToken) (a : A) → L ts a → P a
 
 abbrev Any : {A : Type 0} → A → Type 0
 Any a = Unit {0}
 
-any : {A : Type 0} {L : List GrammarToken → A → Type 0} → Holds Any L
+any : {A : Type 0} {L : Language A} → Holds Any L
 any = record { of = λ ts a is. tt }
 
-then_holds : {A B : Type 0} {P : A → Type 0} {Q : B → Type 0} {R : List GrammarToken → A → Type 0}
-    {S : A → List GrammarToken → B → Type 0} → Holds P R → ((a : A) → P a → Holds Q (S a)) → Holds Q (syntax.◌>>=◌ R S)
+then_holds : {A B : Type 0} {P : A → Type 0} {Q : B → Type 0} {R : Language A}
+    {S : A → Language B} → Holds P R → ((a : A) → P a → Holds Q (S a)) → Holds Q (R >>= S)
 then_holds x y = record { of = λ ts b (us, vs, a, e, is, later). (y a (x.of us a is)).of vs b later }
 
 gives_holds : {A : Type 0} (P : A → Type 0) (a : A) → P a → Holds P (gives a)
-gives_holds P a h = record { of = λ ts b (e, same). subst P (sym same) h }
+gives_holds P a h = record { of = λ ts b (e, same). rw same h }
 
-or_holds : {A : Type 0} {P : A → Type 0} {L M : List GrammarToken → A → Type 0} → Holds P L → Holds P M → Holds P (L or M)
-or_holds {A} {P} {L} {M} x y = record { of = one }
-  where
-    one : (ts : List GrammarToken) (a : A) → (L or M) ts a → P a
-    one ts a (inl is) = x.of ts a is
-    one ts a (inr is) = y.of ts a is
+or_holds : {A : Type 0} {P : A → Type 0} {L M : Language A} → Holds P L → Holds P M → Holds P (L or M)
+or_holds x y = record { of = λ ts a. elim [ inl is ↦ x.of ts a is | inr is ↦ y.of ts a is ] }
 
 each-append : {A : Type 0} (P : A → Type 0) (xs ys : List A) → Each P xs → Each P ys → Each P (xs ++ ys)
 each-append P [] ys h g = g
 each-append P (x ∷ xs) ys h g = (h.0, each-append P xs ys h.1 g)
 
-each_of : {A : Type 0} (P : A → Type 0) (L : List GrammarToken → A → Type 0) → Holds P L → (ts : List GrammarToken) (xs : List A)
+each_of : {A : Type 0} (P : A → Type 0) (L : Language A) → Holds P L → (ts : List GrammarToken) (xs : List A)
     → Many L ts xs → Each P xs
 each_of P L x ts xs none = tt
 each_of P L x ts xs (more us vs y ys is others) = (x.of us y is, each_of P L x vs ys others)
 
-further_holds : {A : Type 0} (P : A → Type 0) (one : Bool) (found : List A) {L : List GrammarToken → A → Type 0} → Holds P L
+further_holds : {A : Type 0} (P : A → Type 0) (one : Bool) (found : List A) {L : Language A} → Holds P L
     → Each P found → Holds (Each P) (further one found L)
 further_holds P one found {L} x h =
-    record { of = λ ts all (xs, are, le, same). subst (Each P) (sym same) (each-append P found xs h (each_of P L x ts xs are)) }
+    record { of = λ ts all (xs, are, le, same). rw same (each-append P found xs h (each_of P L x ts xs are)) }
 
 -- ---- trees
 
-module _ (n bound : ℕ) where
-  chained_within : (first : Node) (others : List (Operator × Node)) → Within n bound first → Each (λ p. Within n bound p.1) others
-      → Within n bound (chain_of first others)
-  chained_within first [] here all = here
-  chained_within first (x ∷ xs) here all = in_chain n bound first (x ∷ xs) here all
+chained_within : (n bound : ℕ) (first : Node) (others : List (Operator × Node)) → Within n bound first
+    → Each (λ p. Within n bound p.1) others → Within n bound (chain_of first others)
+chained_within n bound first [] here all = here
+chained_within n bound first (x ∷ xs) here all = in_chain n bound first (x ∷ xs) here all
 
 -- ---- bound names
 
@@ -110,12 +105,12 @@ module _ (listed : List Occ) where
       operand (token.Occurrence place attr) = occurrence (position_of listed place attr) (within (is_of place attr) listed)
       operand (token.Punctuation m) = tt
 
-  other_within : (bound : ℕ) (k : Precedence) {L : List GrammarToken → Node → Type 0} → Holds (Within n bound) L
+  other_within : (bound : ℕ) (k : Precedence) {L : Language Node} → Holds (Within n bound) L
       → Holds (λ (p : Operator × Node). Within n bound p.1) (IsOther k L)
   other_within bound k x =
       then_holds any (λ o h. then_holds x (λ e h. gives_holds (λ (p : Operator × Node). Within n bound p.1) (o, e) h))
 
-  ranked_within : (bound : ℕ) {L : List GrammarToken → Node → Type 0} → Holds (Within n bound) L → (ks : List Precedence)
+  ranked_within : (bound : ℕ) {L : Language Node} → Holds (Within n bound) L → (ks : List Precedence)
       → Holds (Within n bound) (IsRanked L ks)
   ranked_within bound x [] = x
   ranked_within bound x (k ∷ ks) =
@@ -124,13 +119,13 @@ module _ (listed : List Occ) where
       (λ first h. then_holds (further_holds (λ p. Within n bound p.1) (takes_one k) [] (other_within bound k inner) tt)
       (λ others all. gives_holds (Within n bound) (chain_of first others) (chained_within n bound first others h all)))
 
-  module _ (inner : Names → List GrammarToken → Node → Type 0)
+  module _ {inner : Names → Language Node}
       (x : (scope : Names) → Holds (Within n (length scope)) (inner scope)) (scope : Names) where
     abbrev W : Node → Type 0
     W = Within n (length scope)
 
-    last : (f : Node → Node) {L : List GrammarToken → Node → Type 0} {M : List GrammarToken → Unit {0} → Type 0} → Holds W L
-        → ((e : Node) → W e → W (f e)) → Holds W (syntax.◌>>=◌ L (λ e. syntax.◌>>◌ M (gives (f e))))
+    last : (f : Node → Node) {L : Language Node} {M : Language (Unit {0})} → Holds W L
+        → ((e : Node) → W e → W (f e)) → Holds W (L >>= (λ e. M >> gives (f e)))
     last f y keeps = then_holds y (λ e h. then_holds any (λ u h'. gives_holds W (f e) (keeps e h)))
 
     next_within : Holds W (IsNext inner scope)
@@ -168,7 +163,7 @@ module _ (listed : List Occ) where
         omega (arith, length-append scope (name ∷ [])) in
         gives_holds W (node.Let e f)
         (rolled n (length scope) (Node-F.Let e f) _ (node.rolls-Let e f)
-        (both _ _ here (subst (λ m. Within n m f) more there)))))))))
+        (both _ _ here (rw more at there)))))))))
 
     if_within : Holds W (IsIf inner scope)
     if_within =
@@ -195,7 +190,7 @@ module _ (listed : List Occ) where
   expr_within : (levels : ℕ) (scope : Names) → Holds (Within n (length scope)) (IsExprIn listed levels scope)
   unfolding IsExprIn
   expr_within zero scope = record { of = λ ts e is. absurd is }
-  expr_within (suc levels) scope = whole_within (IsExprIn listed levels) (expr_within levels) scope
+  expr_within (suc levels) scope = whole_within (expr_within levels) scope
 
 pub expr_below : (listed : List Occ) (levels : ℕ) (ts : List GrammarToken) (e : Node) → IsExpr listed levels ts e
     → is_below (length listed) e ≡ true

@@ -1,9 +1,10 @@
 -- A chain of operators, parsed as its first atom and the rest after it.
-use Rattle.std.proofs.Common.{◌≡◌, Bool, true, false, ◌||◌, not, List, [], ◌∷◌, Option, Some, None, Ok, Err, refl, ap, ◌∙◌, arith}
+use Rattle.std.proofs.Common.{◌≡◌, true, false, not, List, [], ◌∷◌, Option, Some, None, Ok, Err, refl, ◌∙◌, arith}
 use Rattle.std.proofs.Common.{is_some}
-use Rattle.ag_tokens.specs.Parsing.{and_then, next_satisfies, next_token, sees}
+use Rattle.ag_tokens.specs.Parsing.{and_then, sees}
 use Rattle.ag_tokens.specs.PlacedToken.{Input}
 use Rattle.ag_tokens.specs.GrammarToken.{GrammarToken}
+use Rattle.ag_expr.proofs.reading.Exact.{both_without}
 use Rattle.ag_expr.proofs.reading.Turns.{none_further}
 use Rattle.ag_grammar.specs.declared.syntax.node.Node.{Node}
 use Rattle.ag_grammar.specs.declared.syntax.node.Operator.{Operator}
@@ -18,15 +19,11 @@ use Rattle.ag_expr.specs.language.Syntax.{binary_operator, closer, precedences, 
 pub others_closer : (other : Precedence)
     → is_among (closer precedence.Comparison) other ≡ not (same_precedence other precedence.Comparison)
 others_closer precedence.Comparison = refl
-others_closer precedence.Join = refl
-others_closer precedence.Sum = refl
-others_closer precedence.Product = refl
+others_closer _ = refl
 
 all_among : (other : Precedence) → is_among precedences other ≡ true
 all_among precedence.Comparison = refl
-all_among precedence.Join = refl
-all_among precedence.Sum = refl
-all_among precedence.Product = refl
+all_among _ = refl
 
 pub operator_among : (ks : List Precedence) (t : GrammarToken) (other : Precedence) (o : Operator)
     → binary_operator t ≡ Some (other, o) → is_operator_among ks t ≡ is_among ks other
@@ -60,14 +57,7 @@ pub by_atom : (atom : Parser Node) (ks : List Precedence) (i : Input)
     → ranked_from atom ks i ≡ and_then (atom i) (ranked_after atom ks)
 unfolding ranked_from ranked_after chain_from chain_after
 by_atom atom [] i = same_outcome (atom i)
-by_atom atom (k ∷ ks) i =
-    ap (λ o. and_then o (chain_after k (ranked_from atom ks))) (by_atom atom ks i)
-    ∙ in_turn (atom i) (ranked_after atom ks) (chain_after k (ranked_from atom ks))
-
-neither : (a b : GrammarToken → Bool) (o : Option GrammarToken) → next_satisfies (λ t. a t || b t) o ≡ false
-    → (next_satisfies a o ≡ false) × (next_satisfies b o ≡ false)
-neither a b None none = (refl, refl)
-neither a b (Some t) none = grind arith
+by_atom atom (k ∷ ks) i = cc (by_atom atom ks i, in_turn (atom i) (ranked_after atom ks) (chain_after k (ranked_from atom ks)))
 
 -- and if none of their operators follows, the rest is empty
 only_atom : (atom : Parser Node) (ks : List Precedence) (first : Node) (j : Input) → sees (is_operator_among ks) j ≡ false
@@ -75,7 +65,7 @@ only_atom : (atom : Parser Node) (ks : List Precedence) (first : Node) (j : Inpu
 unfolding ranked_after chain_after
 only_atom atom [] first j none = refl
 only_atom atom (k ∷ ks) first j none =
-    let parts = neither (is_operator_of k) (is_operator_among ks) (next_token j) none in
+    let parts = both_without (is_operator_of k) (is_operator_among ks) j.left none in
     rw (
       only_atom atom ks first j parts.1,
       none_further (takes_one k) (is_operator_of k) (other_from k (ranked_from atom ks)) [] j parts.0,
@@ -83,8 +73,7 @@ only_atom atom (k ∷ ks) first j none =
 
 pub atom_alone : (atom : Parser Node) (ks : List Precedence) (i j : Input) (first : Node) → atom i ≡ Ok (first, j)
     → sees (is_operator_among ks) j ≡ false → ranked_from atom ks i ≡ Ok (first, j)
-atom_alone atom ks i j first is none =
-    by_atom atom ks i ∙ ap (λ o. and_then o (ranked_after atom ks)) is ∙ only_atom atom ks first j none
+atom_alone atom ks i j first is none = cc (by_atom atom ks i, only_atom atom ks first j none)
 
 -- the same for an operand that no operator of the precedence follows
 pub operand_alone : (atom : Parser Node) (k : Precedence) (i j : Input) (first operand : Node)

@@ -1,5 +1,5 @@
 -- Listing occurrences one after the other results in the distinct ones.
-use Rattle.std.proofs.Common.{◌≡◌, Bool, true, not, List, [], ◌∷◌, ◌++◌, filter, refl, ap, sym, ◌∙◌, append_assoc, append-nil}
+use Rattle.std.proofs.Common.{◌≡◌, Bool, true, not, List, [], ◌∷◌, ◌++◌, filter, refl, sym, ◌∙◌, append_assoc, append-nil}
 use Rattle.std.proofs.Common.{arith}
 use Rattle.std.proofs.lemmas.Bool.Decides.{nat_tests}
 use Rattle.std.proofs.lemmas.List.Folds.{list_any-append}
@@ -41,7 +41,7 @@ listed_is seen (x ∷ xs) =
 
 none_listed : (ys : List Occ) → unlisted [] ys ≡ ys
 none_listed [] = refl
-none_listed (y ∷ ys) = ap (λ us. y ∷ us) (none_listed ys)
+none_listed (y ∷ ys) = cc (none_listed ys)
 
 pub listed_are_different : (xs : List Occ) → listed_with_all [] xs ≡ distinct_occurrences xs
 listed_are_different xs = listed_is [] xs ∙ none_listed (distinct_occurrences xs)

@@ -9,10 +9,9 @@ use Rattle.ag_tokens.specs.declared.token.Punctuation.{Punctuation}
 use Rattle.ag_tokens.specs.PlacedToken.{PlacedToken}
 use Rattle.ag_tokens.specs.Parsing.{is_sign, same_mark, choose}
 use Rattle.ag_tokens.specs.GrammarToken.{GrammarToken, Sign, mark, word, sign_token}
-use Rattle.ag_tokens.specs.Languages as languages
-use Rattle.ag_tokens.specs.Languages.{one, ◌or◌}
+use Rattle.ag_tokens.specs.Languages.{◌>>=◌, one, ◌or◌}
 use Rattle.ag_expr.proofs.reading.Exact as theory
-use Rattle.ag_expr.proofs.reading.Exact.{Manner, Apart, one_exact, one_starts, then_starts, or_starts, or_exact}
+use Rattle.ag_expr.proofs.reading.Exact.{Manner, Apart, Test, one_exact, one_starts, then_starts, or_starts, or_exact}
 use Rattle.ag_expr.proofs.reading.Steady as steady
 use Rattle.ag_expr.proofs.reading.Steady.{one_steady, wider_steady}
 use Rattle.ag_expr.specs.declared.fault.ExprFault.{ExprFault}
@@ -36,18 +35,21 @@ deep_is f p h = (grind (arith, nat_tests), grind arith)
 pub is_too_deep : (p : PlacedToken) → begins_expression p.token ≡ true → is_deep (fault.TooDeep p.at) p ≡ true
 is_too_deep p h = grind (arith, nat_tests)
 
-abbrev pub Exact : {A : Type 0} → (GrammarToken → Bool) → (List GrammarToken → A → Type 0) → Parser A → Type 0
+abbrev pub Language : Type 0 → Type 1
+Language = theory.Language GrammarToken
+
+abbrev pub Exact : {A : Type 0} → Test → Language A → Parser A → Type 0
 Exact = theory.Exact manner
 
-abbrev pub Starts : {A : Type 0} → (GrammarToken → Bool) → (List GrammarToken → A → Type 0) → Type 0
+abbrev pub Starts : {A : Type 0} → Test → Language A → Type 0
 Starts = theory.Starts manner
 
-abbrev pub Steady : {A : Type 0} → (List GrammarToken → A → Type 0) → Parser A → Parser A → Type 0
+abbrev pub Steady : {A : Type 0} → Language A → Parser A → Parser A → Type 0
 Steady = steady.Steady manner
 
 -- ---- one token
 
-pub token_exact : {A : Type 0} {stops : GrammarToken → Bool} (meaning : GrammarToken → Option A)
+pub token_exact : {A : Type 0} {stops : Test} (meaning : GrammarToken → Option A)
     → Exact stops (one meaning) (token_as meaning)
 token_exact meaning = one_exact (λ at. meaning) meaning (λ p. refl)
 
@@ -80,7 +82,7 @@ means_sign s = rw (sign_same s) refl
 spelled_is : (s : Sign) (ts : List GrammarToken) (a : Unit {0}) → one (as_sign s) ts a → one_sign s ts a
 spelled_is s ts a (t, e, means) = let is = sign_is s t in grind arith
 
-pub sign_exact : {stops : GrammarToken → Bool} (s : Sign) → Exact stops (one_sign s) (expect s)
+pub sign_exact : {stops : Test} (s : Sign) → Exact stops (one_sign s) (expect s)
 sign_exact {stops} s =
     let x = token_exact {stops = stops} (as_sign s) in
     record {
@@ -88,31 +90,27 @@ sign_exact {stops} s =
       complete = λ us j a is h. x.complete us j a (sign_token s, is, means_sign s) h;
     }
 
-pub starts_with : {B : Type 0} {S : Unit {0} → List GrammarToken → B → Type 0} (s : Sign)
-    → Starts (is_sign s) (languages.◌>>=◌ (one_sign s) S)
-starts_with s =
-    then_starts
-    (record {
-      leads =
-          λ us a e. (one_starts {m = manner} (as_sign s) (λ p b h. grind arith)).leads us tt
-          (sign_token s, e, means_sign s);
-    })
+pub starts_with : {B : Type 0} {S : Unit {0} → Language B} (s : Sign)
+    → Starts (is_sign s) (one_sign s >>= S)
+starts_with s = then_starts (record {
+  leads = λ us a e. (one_starts {m = manner} (as_sign s) (λ p b h. grind arith)).leads us tt (sign_token s, e, means_sign s);
+})
 
 pub sign_steady : (s : Sign) → Steady (one_sign s) (expect s) (expect s)
 sign_steady s = wider_steady (spelled_is s) (token_steady (as_sign s) (sign_token s) tt (means_sign s))
 
 -- ---- a form by its first token
 
-pub record First {A : Type 0} (test stops : GrammarToken → Bool) (L : List GrammarToken → A → Type 0)
+pub record First {A : Type 0} (test stops : Test) (L : Language A)
     (r : Parser A) : Type 0 where
   pub starts : Starts test L
   pub exact : Exact stops L r
 
-pub sign_first : {B : Type 0} {stops : GrammarToken → Bool} {S : Unit {0} → List GrammarToken → B → Type 0} {r : Parser B}
-    (s : Sign) → Exact stops (languages.◌>>=◌ (one_sign s) S) r → First (is_sign s) stops (languages.◌>>=◌ (one_sign s) S) r
+pub sign_first : {B : Type 0} {stops : Test} {S : Unit {0} → Language B} {r : Parser B}
+    (s : Sign) → Exact stops (one_sign s >>= S) r → First (is_sign s) stops (one_sign s >>= S) r
 sign_first s x = record { starts = starts_with s; exact = x }
 
-pub or_first : {A : Type 0} {test those stops : GrammarToken → Bool} {L M : List GrammarToken → A → Type 0} {l n : Parser A}
+pub or_first : {A : Type 0} {test those stops : Test} {L M : Language A} {l n : Parser A}
     → First test stops L l → First those stops M n → Apart test those
     → First (λ t. test t || those t) stops (L or M) (choose test l n)
 or_first x y apart = record { starts = or_starts x.starts y.starts; exact = or_exact x.exact y.exact x.starts y.starts apart }

@@ -1,5 +1,5 @@
 -- A map that has the indexes of a list's occurrences (`AreIndexesOf`) still has them after one more is added to both.
-use Rattle.std.proofs.Common.{ℕ, ◌≡◌, ◌+◌, Bool, true, false, cond, List, [], ◌∷◌, ◌++◌, length, Some, None, position, get_or}
+use Rattle.std.proofs.Common.{ℕ, ◌≡◌, ◌+◌, Bool, true, false, List, [], ◌∷◌, ◌++◌, length, Some, None, position, get_or}
 use Rattle.std.proofs.Common.{is_some, IfSome, ◌<◌, refl, ap, sym, ◌∙◌, arith}
 use Rattle.std.proofs.lemmas.Bool.{eq-eqb}
 use Rattle.std.proofs.lemmas.Bool.Decides.{nat_tests}
@@ -30,10 +30,10 @@ new_from p i (y ∷ ys) x h none = let more = new_from p (i + 1) ys x h in grind
 old_from : {X : Type 0} (p : X → Bool) (i : ℕ) (xs : List X) (x : X) → p x ≡ false
     → position_from p i (xs ++ x ∷ []) ≡ position_from p i xs
 old_from p i [] x h = rw h refl
-old_from p i (y ∷ ys) x h = ap (λ n. cond (p y) (Some i) n) (old_from p (i + 1) ys x h)
+old_from p i (y ∷ ys) x h = cc (old_from p (i + 1) ys x h)
 
 found : {X : Type 0} (p : X → Bool) (xs : List X) → is_some (position p xs) ≡ list_any p xs
-found p xs = ap is_some (position_from-zero p xs) ∙ found_from p 0 xs
+found p xs = cc (position_from-zero p xs, found_from p 0 xs)
 
 new_at : {X : Type 0} (p : X → Bool) (xs : List X) (x : X) → p x ≡ true → list_any p xs ≡ false
     → position p (xs ++ x ∷ []) ≡ Some (length xs)
@@ -49,28 +49,25 @@ within p xs = grind (arith, nat_tests)
 -- an occurrence is listed if it has an index, and is not if it has none
 pub listed_where : (listed : List Occ) (place : ℕ) (attr : List ℕ) (k : ℕ) → position_of listed place attr ≡ Some k
     → list_any (is_of place attr) listed ≡ true
-listed_where listed place attr k e = sym (found (is_of place attr) listed) ∙ ap is_some e
+listed_where listed place attr k e = cc (found (is_of place attr) listed)
 
 pub unlisted_where : (listed : List Occ) (place : ℕ) (attr : List ℕ) → position_of listed place attr ≡ None
     → list_any (is_of place attr) listed ≡ false
-unlisted_where listed place attr e = sym (found (is_of place attr) listed) ∙ ap is_some e
+unlisted_where listed place attr e = cc (found (is_of place attr) listed)
 
 -- an occurrence has its own place and name
 is_own : (place : ℕ) (attr : List ℕ) (at : ℕ) → is_of place attr (record { place = place; attr = attr; at = at }) ≡ true
 is_own place attr at = rw (eq-eqb place place refl, (bytes_eq-Decides attr attr).1 refl) refl
 
 -- the index of a new occurrence
-pub number_pushed : (listed kept pushed : List Occ) (place number at : ℕ) (attr name : List ℕ)
+pub number_pushed : {listed kept pushed : List Occ} (place at : ℕ) {number : ℕ} {attr name : List ℕ}
     → position_of listed place attr ≡ None → kept ≡ listed → number ≡ length kept
     → pushed ≡ kept ++ record { place = place; attr = name; at = at } ∷ [] → name ≡ attr
     → position_of pushed place attr ≡ Some number
-number_pushed listed kept pushed place number at attr name none same count more call_name =
+number_pushed {listed} place at {attr = attr} none same count more call_name =
     let one : Occ = record { place = place; attr = attr; at = at } in
-    let pushed_is : pushed ≡ listed ++ one ∷ [] = rw (same, call_name) at more in
-    let count_is : number ≡ length listed = count ∙ ap length same in
-    ap (λ xs. position_of xs place attr) pushed_is
-    ∙ new_at (is_of place attr) listed one (is_own place attr at) (unlisted_where listed place attr none)
-    ∙ ap Some (sym count_is)
+    let pushed_is = rw (same, call_name) at more in
+    cc (new_at (is_of place attr) listed one (is_own place attr at) (unlisted_where listed place attr none))
 
 stays_from : {X : Type 0} (p : X → Bool) (i k : ℕ) (xs : List X) (x : X) → position_from p i xs ≡ Some k
     → position_from p i (xs ++ x ∷ []) ≡ Some k
@@ -114,24 +111,24 @@ follows_on numbers new listed key at none follows updates q =
     grind (arith, alike, one_more, as_before)
 
 -- the same for the values of the code
-pub follows_pushed : {S : Type 0} (numbers new : HashMap Key ℕ S) (listed kept pushed : List Occ) (key : Key) (number at : ℕ)
-    (attr : List ℕ) → list_any (is_of key.0 key.1.now) listed ≡ false → AreIndexesOf numbers listed → kept ≡ listed
+pub follows_pushed : {S : Type 0} (numbers new : HashMap Key ℕ S) {listed kept pushed : List Occ} (key : Key) (at : ℕ)
+    {number : ℕ} {attr : List ℕ} → list_any (is_of key.0 key.1.now) listed ≡ false → AreIndexesOf numbers listed → kept ≡ listed
     → number ≡ length kept
     → Updates same_key numbers new key (Some number) → pushed ≡ kept ++ record { place = key.0; attr = attr; at = at } ∷ []
     → attr ≡ key.1.now → AreIndexesOf new pushed
-follows_pushed numbers new listed kept pushed key number at attr none follows same count updates more name =
+follows_pushed numbers new {listed} key at none follows same count updates more name =
     rw (more, same, name) (follows_on numbers new listed key at none follows (rw (count, same) at updates))
 
 -- if listed occurrences are different, they still are with one more whose place and name are not listed
-pub pushed_apart : (listed kept pushed : List Occ) (place at : ℕ) (attr name : List ℕ)
+pub pushed_apart : {listed kept pushed : List Occ} (place at : ℕ) {attr name : List ℕ}
     → list_any (is_of place attr) listed ≡ false → AreDifferent listed → kept ≡ listed
     → pushed ≡ kept ++ record { place = place; attr = name; at = at } ∷ [] → name ≡ attr
     → AreDifferent pushed
-pushed_apart listed kept pushed place at attr name none distinct_occurrences same more is =
+pushed_apart {listed} place at {attr} none distinct_occurrences same more is =
     let one : Occ = record { place = place; attr = attr; at = at } in
     let apart : (x : Occ) → (is_of place attr x ≡ true → list_any (is_of place attr) listed ≡ true) → AreApart x one =
     λ x found here named. let same : is_of place attr x ≡ true = rw (here, named) (is_own place attr x.at) in
-    let bad : true ≡ false = sym (found same) ∙ none in cc in
+    let bad : true ≡ false = cc (found same) in cc in
     rw (more, same, is)
     (all_pairs_push AreApart listed one distinct_occurrences
     (λ i d below. apart (get_or listed i d) (list_any_at (is_of place attr) listed i d below)))

@@ -65,26 +65,22 @@ some_token o h = grind arith
 
 module _ (s : State) (t : GrammarToken) (h : next_token (input s) ≡ Some t) where
   pub passed_input : input (after_token s) ≡ next (input s)
-  passed_input = sym (ap next (occurs s t h).is)
+  passed_input = cc ((occurs s t h).is)
 
   all_is : complete_list s
       ≡ listed_with_all s.listed (occurrence_in t (offset s.tokens) ++ all_occurrences (input (after_token s)).left)
   unfolding complete_list
-  all_is = ap (λ (i : Input). listed_with_all s.listed (all_occurrences i.left)) (occurs s t h).is
+  all_is = cc ((occurs s t h).is)
 
   -- a token that is not an occurrence lists nothing
   pub passed_keeps : NextIsOther s → KeepsContext s (after_token s)
   unfolding complete_list
-  passed_keeps other =
-      record {
-        occurrences =
-            sym
-            (all_is ∙ ap (λ os. listed_with_all s.listed (os ++ all_occurrences (input (after_token s)).left))
-            (none t (sym (ap is_occurrence h) ∙ other)));
-        names = refl;
-        kind = refl;
-        following = (occurs s t h).following;
-      }
+  passed_keeps other = record {
+    occurrences = cc (all_is, none t (sym (ap is_occurrence h) ∙ other));
+    names = refl;
+    kind = refl;
+    following = (occurs s t h).following;
+  }
     where
       none : (t : GrammarToken) → is_occurrence (Some t) ≡ false → occurrence_in t (offset s.tokens) ≡ []
       none t h = grind arith
@@ -118,7 +114,7 @@ module _ (s : State) (t : GrammarToken) (h : next_token (input s) ≡ Some t) wh
   too_deep b = level_is ∙ rw b refl
 
   pub not_begun : begins_here s.scope t ≡ false → level_fault s ≡ refusal (input s)
-  not_begun b = level_is ∙ rw b (sym (ap refusal (occurs s t h).is))
+  not_begun b = level_is ∙ rw b (cc ((occurs s t h).is))
 
 pub none_begun : (s : State) → next_token (input s) ≡ None → level_fault s ≡ refusal (input s)
 none_begun s h = grind arith
@@ -127,23 +123,19 @@ none_begun s h = grind arith
 module _ (s : State) (p : ℕ) (attr : List ℕ) (listed : List Occ) (h : next_token (input s) ≡ Some (token.Occurrence p attr))
     (is : listed ≡ listed_with s.listed (record { place = p; attr = attr; at = offset s.tokens })) where
   all_listed : complete_list s ≡ listed_with_all listed (all_occurrences (input (after_token s)).left)
-  all_listed =
-      all_is s (token.Occurrence p attr) h ∙ ap (λ os. listed_with_all os (all_occurrences (input (after_token s)).left)) (sym is)
+  all_listed = cc (all_is s (token.Occurrence p attr) h, is)
 
   pub taken_keeps : KeepsContext s (record s { listed = listed; tokens = next s.tokens })
   unfolding complete_list input
-  taken_keeps =
-      record {
-        occurrences = sym all_listed;
-        names = refl;
-        kind = refl;
-        following = (occurs s (token.Occurrence p attr) h).following;
-      }
+  taken_keeps = record {
+    occurrences = sym all_listed;
+    names = refl;
+    kind = refl;
+    following = (occurs s (token.Occurrence p attr) h).following;
+  }
 
   pub taken_number : (k : ℕ) → position_of listed p attr ≡ Some k → position_of (complete_list s) p attr ≡ Some k
-  taken_number k e =
-      ap (λ os. position_of os p attr) all_listed
-      ∙ position_stays listed p attr k (all_occurrences (input (after_token s)).left) e
+  taken_number k e = cc (all_listed, position_stays listed p attr k (all_occurrences (input (after_token s)).left) e)
 
   pub taken_tokens : input (record s { listed = listed; tokens = next s.tokens }) ≡ next (input s)
   unfolding input
@@ -152,7 +144,7 @@ module _ (s : State) (p : ℕ) (attr : List ℕ) (listed : List Occ) (h : next_t
 -- at the end of the tokens all occurrences are listed
 pub all_at_end : (s : State) → is_end (input s).ending (input s).left ≡ true → complete_list s ≡ s.listed
 unfolding complete_list
-all_at_end s h = ap (λ ps. listed_with_all s.listed (all_occurrences ps)) (none (input s).ending (input s).left h)
+all_at_end s h = cc (none (input s).ending (input s).left h)
   where
     none : (e : Ending) (ps : List PlacedToken) → is_end e ps ≡ true → ps ≡ []
     none e ps h = grind arith

@@ -9,8 +9,7 @@ use Rattle.ag_tokens.specs.GrammarToken.{GrammarToken}
 use Rattle.ag_tokens.specs.Parsing as parsing
 use Rattle.ag_tokens.specs.Parsing.{first_token, sees, Outcome, Parser, and_then, pure, one_from, choose, many_from}
 use Rattle.ag_tokens.specs.Parsing.{further_from}
-use Rattle.ag_tokens.specs.Languages as languages
-use Rattle.ag_tokens.specs.Languages.{gives, one, Many, none, more, further}
+use Rattle.ag_tokens.specs.Languages.{◌>>=◌, ◌or◌, gives, one, Many, none, more, further}
 
 -- What the theory needs to know about languages and faults. A word is a list of items of type T: `item` is the one for a token
 -- with its offset. `wrong` is the fault for an input whose next token cannot be accepted. `is_reported` is true of the faults of
@@ -21,22 +20,33 @@ pub record Manner (T Fault : Type 0) : Type 0 where
   pub is_reported : Fault → Bool
   pub is_deep : Fault → PlacedToken → Bool
 
+-- a language: which lists of items mean which values
+abbrev pub Language : Type 0 → Type 0 → Type 1
+Language T A = List T → A → Type 0
+
+abbrev pub Test : Type 0
+Test = GrammarToken → Bool
+
 -- the same input with these tokens before it
 abbrev pub before : List PlacedToken → Input → Input
 before us i = record i { left = us ++ i.left }
 
+-- the input i is the tokens of a word that means a, followed by j
+abbrev pub HasWord : {T Fault A : Type 0} → Manner T Fault → Language T A → Input → Input → A → Type 0
+HasWord m L i j a = (us : List PlacedToken) × (i ≡ before us j) × L (map m.item us) a
+
 -- whether the first token satisfies the test
-abbrev pub first_is : (GrammarToken → Bool) → List PlacedToken → Bool
+abbrev pub first_is : Test → List PlacedToken → Bool
 first_is test ps = parsing.next_satisfies test (first_token ps)
 
 -- each word of the language begins with a token that satisfies the test
-pub record Starts {T Fault A : Type 0} (m : Manner T Fault) (test : GrammarToken → Bool) (L : List T → A → Type 0) : Type 0 where
+pub record Starts {T Fault A : Type 0} (m : Manner T Fault) (test : Test) (L : Language T A) : Type 0 where
   pub leads : (us : List PlacedToken) (a : A) → L (map m.item us) a → first_is test us ≡ true
 
 -- the tokens that the parser accepts are a word of the language; each word is accepted if no token of `stops` follows
-pub record Exact {T Fault A : Type 0} (m : Manner T Fault) (stops : GrammarToken → Bool) (L : List T → A → Type 0)
+pub record Exact {T Fault A : Type 0} (m : Manner T Fault) (stops : Test) (L : Language T A)
     (r : Parser Fault A) : Type 0 where
-  pub sound : (i j : Input) (a : A) → r i ≡ Ok (a, j) → (us : List PlacedToken) × (i ≡ before us j) × L (map m.item us) a
+  pub sound : (i j : Input) (a : A) → r i ≡ Ok (a, j) → HasWord m L i j a
   pub complete : (us : List PlacedToken) (j : Input) (a : A) → L (map m.item us) a → first_is stops j.left ≡ false
       → r (before us j) ≡ Ok (a, j)
 
@@ -49,54 +59,54 @@ nowhere t = false
 split : {T : Type 0} (item : PlacedToken → T) (us : List PlacedToken) (vs ws : List T) → map item us ≡ vs ++ ws
     → (xs : List PlacedToken) × (ys : List PlacedToken) × (us ≡ xs ++ ys) × (map item xs ≡ vs) × (map item ys ≡ ws)
 split item us [] ws e = ([], us, refl, refl, e)
-split item [] (v ∷ vs) ws e = let bad : ⊥ = cc in absurd bad
-split item (u ∷ us) (v ∷ vs) ws e = let cut = split item us vs ws (cc) in (u ∷ cut.0, cut.1, ap (λ ys. u ∷ ys) cut.2, cc, cut.4)
+split item [] (v ∷ vs) ws e = cc
+split item (u ∷ us) (v ∷ vs) ws e = let cut = split item us vs ws (cc) in (u ∷ cut.0, cut.1, cc, cc, cut.4)
+
+no_tokens : {T : Type 0} (item : PlacedToken → T) (us : List PlacedToken) → map item us ≡ [] → us ≡ []
+no_tokens item [] e = refl
+no_tokens item (u ∷ us) e = cc
 
 -- tokens with offsets are split as their items: a word of two parts, and a list of words at its first word
 module _ {T A : Type 0} (item : PlacedToken → T) (us : List PlacedToken) where
-  pub parts : {B : Type 0} (R : List T → A → Type 0) (S : A → List T → B → Type 0) (b : B) → languages.◌>>=◌ R S (map item us) b
+  pub parts : {B : Type 0} (R : Language T A) (S : A → Language T B) (b : B) → (R >>= S) (map item us) b
       → (xs : List PlacedToken) × (ys : List PlacedToken) × (a : A) × (us ≡ xs ++ ys) × R (map item xs) a × S a (map item ys) b
   parts R S b (vs, ws, a, e, is, later) = let cut = split item us vs ws e in
-      (cut.0, cut.1, a, cut.2, subst (λ ts. R ts a) (sym cut.3) is, subst (λ ts. S a ts b) (sym cut.4) later)
+      (cut.0, cut.1, a, cut.2, rw cut.3 is, rw cut.4 later)
 
-  many_parts : {L : List T → A → Type 0} (x : A) (xs : List A) → Many L (map item us) (x ∷ xs)
+  many_parts : {L : Language T A} (x : A) (xs : List A) → Many L (map item us) (x ∷ xs)
       → (vs : List PlacedToken) × (ws : List PlacedToken) × (us ≡ vs ++ ws) × L (map item vs) x × Many L (map item ws) xs
   many_parts {L} x xs are = let all = cut_off (map item us) are in let cut = split item us all.0 all.1 all.2 in
-      (cut.0, cut.1, cut.2, subst (λ ts. L ts x) (sym cut.3) all.3, subst (λ ts. Many L ts xs) (sym cut.4) all.4)
+      (cut.0, cut.1, cut.2, rw cut.3 all.3, rw cut.4 all.4)
     where
       cut_off : (ts : List T) → Many L ts (x ∷ xs) → (vs : List T) × (ws : List T) × (ts ≡ vs ++ ws) × L vs x × Many L ws xs
       cut_off ts (more vs ws y ys is others) = (vs, ws, refl, is, others)
 
-  no_parts : {L : List T → A → Type 0} → Many L (map item us) [] → us ≡ []
-  no_parts {L} are = empty us (nothing (map item us) are)
+  no_parts : {L : Language T A} → Many L (map item us) [] → us ≡ []
+  no_parts {L} are = no_tokens item us (nothing (map item us) are)
     where
       nothing : (ts : List T) → Many L ts [] → ts ≡ []
       nothing ts none = refl
 
-      empty : (us : List PlacedToken) → map item us ≡ [] → us ≡ []
-      empty [] e = refl
-      empty (u ∷ us) e = let bad : ⊥ = cc in absurd bad
-
 pub before-append : (us vs : List PlacedToken) (k : Input) → before (us ++ vs) k ≡ before us (before vs k)
-before-append us vs k = ap (λ ys. record k { left = ys }) (append_assoc us vs k.left)
+before-append us vs k = cc (append_assoc us vs k.left)
 
-leads-append : (test : GrammarToken → Bool) (us vs : List PlacedToken) → first_is test us ≡ true → first_is test (us ++ vs) ≡ true
+leads-append : (test : Test) (us vs : List PlacedToken) → first_is test us ≡ true → first_is test (us ++ vs) ≡ true
 leads-append test us vs h = grind arith
 
 pub anywhere : (ps : List PlacedToken) → first_is nowhere ps ≡ false
 anywhere ps = grind arith
 
-leading : (test : GrammarToken → Bool) (ps : List PlacedToken) → first_is test ps ≡ true → 1 ≤ length ps
+leading : (test : Test) (ps : List PlacedToken) → first_is test ps ≡ true → 1 ≤ length ps
 leading test ps h = grind arith
 
 -- no token satisfies both tests
-abbrev pub Apart : (GrammarToken → Bool) → (GrammarToken → Bool) → Type 0
+abbrev pub Apart : Test → Test → Type 0
 Apart these those = (t : GrammarToken) → these t ≡ true → those t ≡ false
 
-apart_back : (these those : GrammarToken → Bool) → Apart these those → Apart those these
+apart_back : (these those : Test) → Apart these those → Apart those these
 apart_back these those apart t h = let no = apart t in grind arith
 
-led : (these those : GrammarToken → Bool) → Apart these those → (ps : List PlacedToken) → first_is these ps ≡ true
+led : (these those : Test) → Apart these those → (ps : List PlacedToken) → first_is these ps ≡ true
     → first_is those ps ≡ false
 led these those apart ps h = grind (arith, apart)
 
@@ -104,12 +114,12 @@ pub neither : (a b : Bool) → (a || b) ≡ false → (a ≡ false) × (b ≡ fa
 neither a b h = (grind arith, grind arith)
 
 -- the first token satisfies neither test
-pub both_without : (these those : GrammarToken → Bool) (ps : List PlacedToken) → first_is (λ t. these t || those t) ps ≡ false
+pub both_without : (these those : Test) (ps : List PlacedToken) → first_is (λ t. these t || those t) ps ≡ false
     → (first_is these ps ≡ false) × (first_is those ps ≡ false)
 both_without these those ps h = (grind arith, grind arith)
 
 -- the first token satisfies one of the tests
-either : (these those : GrammarToken → Bool) (ps : List PlacedToken) → first_is these ps ≡ true ⊎ first_is those ps ≡ true
+either : (these those : Test) (ps : List PlacedToken) → first_is these ps ≡ true ⊎ first_is those ps ≡ true
     → first_is (λ t. these t || those t) ps ≡ true
 either these those ps h = grind arith
 
@@ -117,216 +127,185 @@ either these those ps h = grind arith
 
 pub opened : {Fault A B : Type 0} (o : Outcome Fault A) (f : A → Parser Fault B) (y : B × Input) → and_then o f ≡ Ok y
     → (p : A × Input) × (o ≡ Ok p) × (f p.0 p.1 ≡ Ok y)
-opened (Err x) f y e = let bad : ⊥ = cc in absurd bad
+opened (Err x) f y e = cc
 opened (Ok p) f y e = (p, refl, e)
 
 pub answered : {Fault A : Type 0} (a b : A) (i j : Input) → (let o : Outcome Fault A = Ok (a, i) in o ≡ Ok (b, j))
     → (b ≡ a) × (i ≡ j)
-answered {Fault} {A} a b i j e = let same : ◌≡◌ {A = A × Input} (a, i) (b, j) = cc in
+answered {A = A} a b i j e = let same : ◌≡◌ {A = A × Input} (a, i) (b, j) = cc in
     (ap (λ p. p.0) (sym same), ap (λ p. p.1) same)
 
 -- a word of L, followed by no token of `outer`, does not begin with a token of `inner`
-abbrev pub Before : {T Fault B : Type 0} → Manner T Fault → (GrammarToken → Bool) → (GrammarToken → Bool) → (List T → B → Type 0)
-    → Type 0
+abbrev pub Before : {T Fault B : Type 0} → Manner T Fault → Test → Test → Language T B → Type 0
 Before {T} {Fault} {B} m outer inner L = (vs rest : List PlacedToken) (b : B) → L (map m.item vs) b → first_is outer rest ≡ false
     → first_is inner (vs ++ rest) ≡ false
 
+-- at most n more items after those found
+abbrev UpTo : {T A : Type 0} → ℕ → Language T A → List A → Language T (List A)
+UpTo {T} {A} n L found ts all = (xs : List A) × Many L ts xs × (length xs ≤ n) × (all ≡ found ++ xs)
+
 module _ {T Fault : Type 0} {m : Manner T Fault} where
-  pub weaker : {A : Type 0} {stops : GrammarToken → Bool} {L : List T → A → Type 0} {r : Parser Fault A} → Exact m nowhere L r
-      → Exact m stops L r
+  pub weaker : {A : Type 0} {stops : Test} {L : Language T A} {r : Parser Fault A} → Exact m nowhere L r → Exact m stops L r
   weaker x = record { sound = x.sound; complete = λ us j a is h. x.complete us j a is (anywhere j.left) }
 
-  pub pure_exact : {A : Type 0} {stops : GrammarToken → Bool} (a : A) → Exact m stops (gives a) (pure a)
-  pure_exact {A} {stops} a =
-      record { sound = λ i j b e. let same = answered a b i j e in ([], same.1, (refl, same.0)); complete = done }
-    where
-      done : (us : List PlacedToken) (j : Input) (b : A) → gives a (map m.item us) b → first_is stops j.left ≡ false
-          → pure {Fault = Fault} a (before us j) ≡ Ok (b, j)
-      done [] j b (e, same) h = ap (λ x. Ok (x, j)) (sym same)
-      done (u ∷ us) j b (e, same) h = let bad : ⊥ = cc in absurd bad
+  pub pure_exact : {A : Type 0} {stops : Test} (a : A) → Exact m stops (gives a) (pure a)
+  pure_exact a = record {
+    sound = λ i j b e. let same = answered a b i j e in ([], same.1, (refl, same.0));
+    complete = λ us j b (e, same) h. cc (no_tokens m.item us e);
+  }
 
-  pub then_exact : {A B : Type 0} {inner outer : GrammarToken → Bool} {R : List T → A → Type 0} {S : A → List T → B → Type 0}
-      {r : Parser Fault A} {s : A → Parser Fault B}
-      → Exact m inner R r → ((a : A) → Exact m outer (S a) (s a)) → ((a : A) → Before m outer inner (S a))
-      → Exact m outer (languages.◌>>=◌ R S) (parsing.◌>>=◌ r s)
-  then_exact {A} {B} {inner} {outer} {R} {S} {r} {s} x y following = record { sound = found; complete = read }
-    where
-      found : (i j : Input) (b : B) → parsing.◌>>=◌ r s i ≡ Ok (b, j)
-          → (us : List PlacedToken) × (i ≡ before us j) × languages.◌>>=◌ R S (map m.item us) b
-      found i j b h =
-          let one = opened (r i) s (b, j) h in
-          let first = x.sound i one.0.1 one.0.0 one.1 in
-          let second = (y one.0.0).sound one.0.1 j b one.2 in (
-            first.0 ++ second.0,
-            first.1 ∙ ap (before first.0) second.1 ∙ sym (before-append first.0 second.0 j),
-            (map m.item first.0, map m.item second.0, one.0.0, map-append m.item first.0 second.0, first.2, second.2),
-          )
-
-      read : (us : List PlacedToken) (j : Input) (b : B) → languages.◌>>=◌ R S (map m.item us) b → first_is outer j.left ≡ false
-          → parsing.◌>>=◌ r s (before us j) ≡ Ok (b, j)
-      read us j b is h =
-          let (vs, ws, a, cut, first, later) = parts m.item us R S b is in
-          let one = x.complete vs (before ws j) a first (following a ws j.left b later h) in
-          rw (cut, append_assoc, one) ((y a).complete ws j b later h)
+  pub then_exact : {A B : Type 0} {inner outer : Test} {R : Language T A} {S : A → Language T B} {r : Parser Fault A}
+      {s : A → Parser Fault B} → Exact m inner R r → ((a : A) → Exact m outer (S a) (s a))
+      → ((a : A) → Before m outer inner (S a)) → Exact m outer (R >>= S) (parsing.◌>>=◌ r s)
+  then_exact {R = R} {S = S} {r = r} {s = s} x y following = record {
+    sound = λ i j b h.
+        let one = opened (r i) s (b, j) h in
+        let first = x.sound i one.0.1 one.0.0 one.1 in
+        let second = (y one.0.0).sound one.0.1 j b one.2 in (
+          first.0 ++ second.0,
+          cc (first.1, before-append first.0 second.0 j),
+          (map m.item first.0, map m.item second.0, one.0.0, map-append m.item first.0 second.0, first.2, second.2),
+        );
+    complete = λ us j b is h.
+        let (vs, ws, a, cut, first, later) = parts m.item us R S b is in
+        let one = x.complete vs (before ws j) a first (following a ws j.left b later h) in
+        rw (cut, append_assoc, one) ((y a).complete ws j b later h);
+  }
 
   -- one of two languages, chosen by the first token
-  pub or_exact : {A : Type 0} {test those stops : GrammarToken → Bool} {L M : List T → A → Type 0} {l n : Parser Fault A}
+  pub or_exact : {A : Type 0} {test those stops : Test} {L M : Language T A} {l n : Parser Fault A}
       → Exact m stops L l → Exact m stops M n → Starts m test L → Starts m those M → Apart test those
-      → Exact m stops (languages.◌or◌ L M) (choose test l n)
-  or_exact {A} {test} {those} {stops} {L} {M} {l} {n} x y starts others apart =
-      record { sound = λ i j a. found (sees test i) i j a; complete = read }
-    where
-      found : (b : Bool) (i j : Input) (a : A) → (if b then l i else n i) ≡ Ok (a, j)
-          → (us : List PlacedToken) × (i ≡ before us j) × languages.◌or◌ L M (map m.item us) a
-      found true i j a h = let one = x.sound i j a h in (one.0, one.1, inl one.2)
-      found false i j a h = let one = y.sound i j a h in (one.0, one.1, inr one.2)
-
-      read : (us : List PlacedToken) (j : Input) (a : A) → languages.◌or◌ L M (map m.item us) a → first_is stops j.left ≡ false
-          → choose test l n (before us j) ≡ Ok (a, j)
-      read us j a (inl is) h = rw (leads-append test us j.left (starts.leads us a is)) (x.complete us j a is h)
-      read us j a (inr is) h =
+      → Exact m stops (L or M) (choose test l n)
+  or_exact {test = test} {those = those} {L = L} {M = M} {l = l} {n = n} x y starts others apart = record {
+    sound = λ i j a. elim (sees test i) as (λ b. (if b then l i else n i) ≡ Ok (a, j) → HasWord m (L or M) i j a) [
+      | true ↦ λ h. let one = x.sound i j a h in (one.0, one.1, inl one.2)
+      | false ↦ λ h. let one = y.sound i j a h in (one.0, one.1, inr one.2)
+    ];
+    complete = λ us j a. elim [
+      | inl is ↦ λ h. rw (leads-append test us j.left (starts.leads us a is)) (x.complete us j a is h)
+      | inr is ↦ λ h.
           rw (led those test (apart_back test those apart) (us ++ j.left) (leads-append those us j.left (others.leads us a is)))
           (y.complete us j a is h)
+    ];
+  }
 
   -- a language, or nothing
-  pub maybe_exact : {A : Type 0} {test stops : GrammarToken → Bool} {L : List T → A → Type 0} {l : Parser Fault A} (a : A)
-      → Exact m stops L l → Starts m test L
-      → Exact m (λ t. test t || stops t) (languages.◌or◌ L (gives a)) (choose test l (pure a))
-  maybe_exact {A} {test} {stops} {L} {l} a x starts = record { sound = λ i j b. found (sees test i) i j b; complete = read }
-    where
-      found : (b : Bool) (i j : Input) (c : A) → (if b then l i else pure a i) ≡ Ok (c, j)
-          → (us : List PlacedToken) × (i ≡ before us j) × languages.◌or◌ L (gives a) (map m.item us) c
-      found true i j c h = let one = x.sound i j c h in (one.0, one.1, inl one.2)
-      found false i j c h = let same = answered a c i j h in ([], same.1, inr (refl, same.0))
-
-      read : (us : List PlacedToken) (j : Input) (b : A) → languages.◌or◌ L (gives a) (map m.item us) b
-          → first_is (λ t. test t || stops t) j.left ≡ false → choose test l (pure a) (before us j) ≡ Ok (b, j)
-      read us j b (inl is) h =
+  pub maybe_exact : {A : Type 0} {test stops : Test} {L : Language T A} {l : Parser Fault A} (a : A)
+      → Exact m stops L l → Starts m test L → Exact m (λ t. test t || stops t) (L or gives a) (choose test l (pure a))
+  maybe_exact {test = test} {stops = stops} {L = L} {l = l} a x starts = record {
+    sound = λ i j c. elim (sees test i) as (λ b. (if b then l i else pure a i) ≡ Ok (c, j) → HasWord m (L or gives a) i j c) [
+      | true ↦ λ h. let one = x.sound i j c h in (one.0, one.1, inl one.2)
+      | false ↦ λ h. let same = answered a c i j h in ([], same.1, inr (refl, same.0))
+    ];
+    complete = λ us j b. elim [
+      | inl is ↦ λ h.
           rw (leads-append test us j.left (starts.leads us b is)) (x.complete us j b is (both_without test stops j.left h).1)
-      read [] j b (inr (empty, same)) h = rw (same, (both_without test stops j.left h).0) refl
-      read (u ∷ us) j b (inr (empty, same)) h = let bad : ⊥ = cc in absurd bad
+      | inr (e, same) ↦ λ h. rw (no_tokens m.item us e, same, (both_without test stops j.left h).0) refl
+    ];
+  }
 
   -- one token, with its meaning
-  pub one_exact : {A : Type 0} {stops : GrammarToken → Bool} (sign : ℕ → GrammarToken → Option A) (meaning : T → Option A)
+  pub one_exact : {A : Type 0} {stops : Test} (sign : ℕ → GrammarToken → Option A) (meaning : T → Option A)
       → ((p : PlacedToken) → sign p.at p.token ≡ meaning (m.item p)) → Exact m stops (one meaning) (one_from m.wrong sign)
   one_exact {A} {stops} sign meaning agree = record { sound = λ i j a. found i.left i.ending j a; complete = read }
     where
       found : (ps : List PlacedToken) (e : Ending) (j : Input) (a : A)
           → one_from m.wrong sign (record { left = ps; ending = e }) ≡ Ok (a, j)
-          → (us : List PlacedToken) × (record { left = ps; ending = e } ≡ before us j) × one meaning (map m.item us) a
-      found [] e j a h = let bad : ⊥ = cc in absurd bad
+          → HasWord m (one meaning) (record { left = ps; ending = e }) j a
+      found [] e j a h = cc
       found (p ∷ ps) e j a h = let is : sign p.at p.token ≡ Some a = grind arith in
-          (p ∷ [], grind arith, (m.item p, refl, sym (agree p) ∙ is))
+          (p ∷ [], grind arith, (m.item p, refl, cc (agree p)))
 
       read : (us : List PlacedToken) (j : Input) (a : A) → one meaning (map m.item us) a → first_is stops j.left ≡ false
           → one_from m.wrong sign (before us j) ≡ Ok (a, j)
-      read [] j a (t, is, means) h = let bad : ⊥ = cc in absurd bad
       read (u ∷ []) j a (t, is, means) h = let same : m.item u ≡ t = cc in rw (agree u ∙ ap meaning same ∙ means) refl
-      read (u ∷ v ∷ us) j a (t, is, means) h = let bad : ⊥ = cc in absurd bad
+      read us j a (t, is, means) h = cc
 
-  many_sound : {A : Type 0} (begins stops : GrammarToken → Bool) (L : List T → A → Type 0) (r : Parser Fault A)
-      → Exact m stops L r → (n : ℕ) (found : List A) (i j : Input) (all : List A) → many_from begins r n found i ≡ Ok (all, j)
-      → (us : List PlacedToken) × (xs : List A) × (i ≡ before us j) × Many L (map m.item us) xs × (all ≡ found ++ xs)
-      × (length xs ≤ n)
-  unfolding many_from
-  many_sound {A} begins stops L r x zero found i j all h = let same = answered {Fault = Fault} found all i j h in
-      ([], [], same.1, none, same.0 ∙ sym (append-nil found), omega arith)
-  many_sound {A} begins stops L r x (suc n) found i j all h = go (sees begins i) (many_sound begins stops L r x n) h
-    where
-      go : (b : Bool)
-          → ((found : List A) (i j : Input) (all : List A) → many_from begins r n found i ≡ Ok (all, j)
-          → (us : List PlacedToken) × (xs : List A) × (i ≡ before us j) × Many L (map m.item us) xs × (all ≡ found ++ xs)
-          × (length xs ≤ n))
-          → (if b then parsing.◌>>=◌ r (λ a. many_from begins r n (found ++ a ∷ [])) i else pure found i) ≡ Ok (all, j)
-          → (us : List PlacedToken) × (xs : List A) × (i ≡ before us j) × Many L (map m.item us) xs × (all ≡ found ++ xs)
-          × (length xs ≤ suc n)
-      go true ih e =
-          let one = opened (r i) (λ a. many_from begins r n (found ++ a ∷ [])) (all, j) e in
-          let first = x.sound i one.0.1 one.0.0 one.1 in
-          let others = ih (found ++ one.0.0 ∷ []) one.0.1 j all one.2 in
-          let text : i ≡ before (first.0 ++ others.0) j =
-          first.1 ∙ ap (before first.0) others.2 ∙ sym (before-append first.0 others.0 j) in
-          let long : length (one.0.0 ∷ others.1) ≤ suc n = omega (arith, others.5) in
-          let are : Many L (map m.item first.0 ++ map m.item others.0) (one.0.0 ∷ others.1) =
-          more (map m.item first.0) (map m.item others.0) one.0.0 others.1 first.2 others.3 in (
-            first.0 ++ others.0,
-            one.0.0 ∷ others.1,
-            text,
-            subst (λ ts. Many L ts (one.0.0 ∷ others.1)) (sym (map-append m.item first.0 others.0)) are,
-            others.4 ∙ append_assoc found (one.0.0 ∷ []) others.1,
-            long,
-          )
-      go false ih e = let same = answered {Fault = Fault} found all i j e in
-          ([], [], same.1, none, same.0 ∙ sym (append-nil found), omega arith)
+  -- items that begin with a token of `begins`
+  module _ {A : Type 0} (begins stops : Test) (L : Language T A) (starts : Starts m begins L) (apart : Apart begins stops) where
+    many_first : (us : List PlacedToken) (x : A) (xs : List A) → Many L (map m.item us) (x ∷ xs) → first_is begins us ≡ true
+    many_first us x xs are = let (vs, ws, cut, is, others) = many_parts m.item us x xs are in
+        rw cut (leads-append begins vs ws (starts.leads vs x is))
 
-  many_first : {A : Type 0} (begins : GrammarToken → Bool) (L : List T → A → Type 0) → Starts m begins L
-      → (us : List PlacedToken) (x : A) (xs : List A) → Many L (map m.item us) (x ∷ xs) → first_is begins us ≡ true
-  many_first begins L starts us x xs are = let (vs, ws, cut, is, others) = many_parts m.item us x xs are in
-      rw cut (leads-append begins vs ws (starts.leads vs x is))
+    pub many_leads : (us : List PlacedToken) (xs : List A) → Many L (map m.item us) xs → (rest : List PlacedToken)
+        → first_is stops rest ≡ false → first_is stops (us ++ rest) ≡ false
+    many_leads us [] are rest h = rw (no_parts m.item us are) h
+    many_leads us (x ∷ xs) are rest h =
+        led begins stops apart (us ++ rest) (leads-append begins us rest (many_first us x xs are))
 
-  pub many_leads : {A : Type 0} (begins stops : GrammarToken → Bool) (L : List T → A → Type 0) → Starts m begins L
-      → Apart begins stops → (us : List PlacedToken) (xs : List A) → Many L (map m.item us) xs → (rest : List PlacedToken)
-      → first_is stops rest ≡ false → first_is stops (us ++ rest) ≡ false
-  many_leads begins stops L starts apart us [] are rest h = rw (no_parts m.item us are) h
-  many_leads begins stops L starts apart us (x ∷ xs) are rest h =
-      led begins stops apart (us ++ rest) (leads-append begins us rest (many_first begins L starts us x xs are))
+    many_short : (us : List PlacedToken) (xs : List A) → Many L (map m.item us) xs → length xs ≤ length us
+    many_short us [] are = omega arith
+    many_short us (x ∷ xs) are =
+        let (vs, ws, cut, is, others) = many_parts m.item us x xs are in
+        let rest = many_short ws xs others in
+        let some = leading begins vs (starts.leads vs x is) in
+        omega (arith, length-append vs ws, ap length cut)
 
-  many_short : {A : Type 0} (begins : GrammarToken → Bool) (L : List T → A → Type 0) → Starts m begins L
-      → (us : List PlacedToken) (xs : List A) → Many L (map m.item us) xs → length xs ≤ length us
-  many_short begins L starts us [] are = omega arith
-  many_short begins L starts us (x ∷ xs) are =
-      let (vs, ws, cut, is, others) = many_parts m.item us x xs are in
-      let rest = many_short begins L starts ws xs others in
-      let some = leading begins vs (starts.leads vs x is) in
-      omega (arith, length-append vs ws, ap length cut)
+    module _ {r : Parser Fault A} (x : Exact m stops L r) where
+      many_sound : (n : ℕ) (found : List A) (i j : Input) (all : List A) → many_from begins r n found i ≡ Ok (all, j)
+          → HasWord m (UpTo n L found) i j all
+      unfolding many_from
+      many_sound zero found i j all = λ h. let same = answered {Fault = Fault} found all i j h in
+          ([], same.1, ([], none, omega arith, cc (append-nil found)))
+      many_sound (suc n) found i j all =
+          elim (sees begins i) as (λ b.
+          (if b then parsing.◌>>=◌ r (λ a. many_from begins r n (found ++ a ∷ [])) i else pure found i) ≡ Ok (all, j)
+          → HasWord m (UpTo (suc n) L found) i j all) [
+            | true ↦ λ h.
+                let one = opened (r i) (λ a. many_from begins r n (found ++ a ∷ [])) (all, j) h in
+                let first = x.sound i one.0.1 one.0.0 one.1 in
+                let (us, cut, (xs, are, le, same)) = many_sound n (found ++ one.0.0 ∷ []) one.0.1 j all one.2 in (
+                  first.0 ++ us,
+                  cc (first.1, before-append first.0 us j),
+                  (
+                    one.0.0 ∷ xs,
+                    rw map-append (more (map m.item first.0) (map m.item us) one.0.0 xs first.2 are),
+                    omega arith,
+                    cc (append_assoc found (one.0.0 ∷ []) xs),
+                  ),
+                )
+            | false ↦ λ h. let same = answered {Fault = Fault} found all i j h in
+                ([], same.1, ([], none, omega arith, cc (append-nil found)))
+          ]
 
-  many_complete : {A : Type 0} (begins stops : GrammarToken → Bool) (L : List T → A → Type 0) (r : Parser Fault A)
-      → Exact m stops L r → Starts m begins L → Apart begins stops
-      → (n : ℕ) (found : List A) (us : List PlacedToken) (xs : List A) → Many L (map m.item us) xs → (j : Input)
-      → first_is stops j.left ≡ false → first_is begins j.left ≡ false → length xs ≤ n
-      → many_from begins r n found (before us j) ≡ Ok (found ++ xs, j)
-  unfolding many_from
-  many_complete begins stops L r x starts apart n found us [] are j h g le =
-      rw (no_parts m.item us are, append-nil found) (stop n)
-    where
-      stop : (n : ℕ) → many_from begins r n found j ≡ Ok (found, j)
-      stop zero = refl
-      stop (suc n) = rw g refl
-  many_complete begins stops L r x starts apart zero found us (y ∷ ys) are j h g le = let bad : ⊥ = omega arith in absurd bad
-  many_complete {A} begins stops L r x starts apart (suc n) found us (y ∷ ys) are j h g le =
-      let (vs, ws, cut, is, others) = many_parts m.item us y ys are in
-      let yes : sees begins (before us j) ≡ true = leads-append begins us j.left (many_first begins L starts us y ys are) in
-      let one = x.complete vs (before ws j) y is (many_leads begins stops L starts apart ws ys others j.left h) in
-      let two = many_complete begins stops L r x starts apart n (found ++ y ∷ []) ws ys others j h g (omega arith) in
-      rw yes (rw (cut, append_assoc, one) (two ∙ ap (λ zs. Ok (zs, j)) (append_assoc found (y ∷ []) ys)))
+      many_complete : (n : ℕ) (found : List A) (us : List PlacedToken) (xs : List A) → Many L (map m.item us) xs → (j : Input)
+          → first_is (λ t. begins t || stops t) j.left ≡ false → length xs ≤ n
+          → many_from begins r n found (before us j) ≡ Ok (found ++ xs, j)
+      unfolding many_from
+      many_complete n found us [] are j h le = rw (no_parts m.item us are, append-nil found) (stop n)
+        where
+          stop : (n : ℕ) → many_from begins r n found j ≡ Ok (found, j)
+          stop zero = refl
+          stop (suc n) = rw (both_without begins stops j.left h).0 refl
+      many_complete zero found us (y ∷ ys) are j h le = absurd (omega arith)
+      many_complete (suc n) found us (y ∷ ys) are j h le =
+          let (vs, ws, cut, is, others) = many_parts m.item us y ys are in
+          let yes : sees begins (before us j) ≡ true = leads-append begins us j.left (many_first us y ys are) in
+          let next = many_leads ws ys others j.left (both_without begins stops j.left h).1 in
+          let one = x.complete vs (before ws j) y is next in
+          let two = many_complete n (found ++ y ∷ []) ws ys others j h (omega arith) in
+          rw yes (rw (cut, append_assoc, one) (cc (append_assoc found (y ∷ []) ys)))
 
   -- further items after those found
-  pub further_exact : {A : Type 0} (single : Bool) (found : List A) {begins stops : GrammarToken → Bool} {L : List T → A → Type 0}
+  pub further_exact : {A : Type 0} (single : Bool) (found : List A) {begins stops : Test} {L : Language T A}
       {r : Parser Fault A} → Exact m stops L r → Starts m begins L → Apart begins stops
       → Exact m (λ t. begins t || stops t) (further single found L) (further_from single begins r found)
-  further_exact {A} single found {begins} {stops} {L} {r} x starts apart =
-      record { sound = λ i j. read_as single i j; complete = λ us j all is. spelled_as single us j all is }
-    where
-      read_as : (single : Bool) (i j : Input) (all : List A) → further_from single begins r found i ≡ Ok (all, j)
-          → (us : List PlacedToken) × (i ≡ before us j) × further single found L (map m.item us) all
-      read_as true i j all h = let f = many_sound begins stops L r x 1 found i j all h in (f.0, f.2, (f.1, f.3, f.5, f.4))
-      read_as false i j all h = let f = many_sound begins stops L r x (length i.left) found i j all h in
-          (f.0, f.2, (f.1, f.3, tt, f.4))
-
-      turn : (n : ℕ) (us : List PlacedToken) (j : Input) (xs : List A) → Many L (map m.item us) xs → length xs ≤ n
-          → first_is (λ t. begins t || stops t) j.left ≡ false → many_from begins r n found (before us j) ≡ Ok (found ++ xs, j)
-      turn n us j xs are le h = let both = both_without begins stops j.left h in
-          many_complete begins stops L r x starts apart n found us xs are j both.1 both.0 le
-
-      spelled_as : (single : Bool) (us : List PlacedToken) (j : Input) (all : List A) → further single found L (map m.item us) all
-          → first_is (λ t. begins t || stops t) j.left ≡ false → further_from single begins r found (before us j) ≡ Ok (all, j)
-      spelled_as true us j all (xs, are, le, same) h = rw same (turn 1 us j xs are le h)
-      spelled_as false us j all (xs, are, le, same) h =
-          let short = many_short begins L starts us xs are in
-          rw same (turn (length (us ++ j.left)) us j xs are (omega (arith, length-append us j.left)) h)
+  further_exact true found {begins} {stops} {L} x starts apart = record {
+    sound = many_sound begins stops L starts apart x 1 found;
+    complete = λ us j all (xs, are, le, same) h. rw same (many_complete begins stops L starts apart x 1 found us xs are j h le);
+  }
+  further_exact false found {begins} {stops} {L} x starts apart = record {
+    sound = λ i j all h.
+        let (us, cut, (xs, are, le, same)) = many_sound begins stops L starts apart x (length i.left) found i j all h in
+        (us, cut, (xs, are, tt, same));
+    complete = λ us j all (xs, are, le, same) h.
+        let short = many_short begins stops L starts apart us xs are in
+        let enough : length xs ≤ length (us ++ j.left) = omega (arith, length-append us j.left) in
+        rw same (many_complete begins stops L starts apart x (length (us ++ j.left)) found us xs are j h enough);
+  }
 
   -- any number of items
-  pub many_exact : {A : Type 0} {begins stops : GrammarToken → Bool} {L : List T → A → Type 0} {r : Parser Fault A}
+  pub many_exact : {A : Type 0} {begins stops : Test} {L : Language T A} {r : Parser Fault A}
       → Exact m stops L r → Starts m begins L → Apart begins stops
       → Exact m (λ t. begins t || stops t) (Many L) (further_from false begins r [])
   many_exact {A} {L = L} x starts apart =
@@ -337,98 +316,86 @@ module _ {T Fault : Type 0} {m : Manner T Fault} where
       }
 
   -- items, followed by something else
-  pub further_then : {A B : Type 0} (single : Bool) (found : List A) (begins inner outer : GrammarToken → Bool)
-      {those : GrammarToken → Bool} {L : List T → A → Type 0} {S : List A → List T → B → Type 0} → Starts m begins L
+  pub further_then : {A B : Type 0} (single : Bool) (found : List A) (begins inner outer : Test)
+      {those : Test} {L : Language T A} {S : List A → Language T B} → Starts m begins L
       → Apart begins inner
       → ((xs : List A) → Starts m those (S xs)) → Apart those inner
-      → Before m outer inner (languages.◌>>=◌ (further single found L) S)
+      → Before m outer inner (further single found L >>= S)
   further_then {A} {B} single found begins inner outer {those} {L} {S} starts apart following away vs rest b word h =
       let (us, ws, all, cut, (xs, are, le, is), later) = parts m.item vs (further single found L) S b word in
       let next = led those inner away (ws ++ rest) (leads-append those ws rest ((following all).leads ws b later)) in
       rw (cut, append_assoc us ws rest) (many_leads begins inner L starts apart us xs are (ws ++ rest) next)
 
   -- and items followed by nothing
-  pub further_after : {A B : Type 0} (single : Bool) (found : List A) (begins stops : GrammarToken → Bool)
-      {L : List T → A → Type 0} (f : List A → B) → Starts m begins L → Apart begins stops
-      → Before m (λ t. begins t || stops t) stops (languages.◌>>=◌ (further single found L) (λ xs. gives (f xs)))
+  pub further_after : {A B : Type 0} (single : Bool) (found : List A) (begins stops : Test)
+      {L : Language T A} (f : List A → B) → Starts m begins L → Apart begins stops
+      → Before m (λ t. begins t || stops t) stops (further single found L >>= (λ xs. gives (f xs)))
   further_after single found begins stops {L} f starts apart vs rest b (us, ws, all, e, (xs, are, le, is), (no_more, same)) h =
-      let whole : map m.item vs ≡ us = e ∙ ap (λ ys. us ++ ys) no_more ∙ append-nil us in
-      many_leads begins stops L starts apart vs xs (subst (λ ts. Many L ts xs) (sym whole) are) rest
-      (both_without begins stops rest h).1
+      let whole : map m.item vs ≡ us = cc (append-nil us) in
+      many_leads begins stops L starts apart vs xs (rw whole are) rest (both_without begins stops rest h).1
 
   -- ---- first tokens
 
-  pub then_starts : {A B : Type 0} {test : GrammarToken → Bool} {R : List T → A → Type 0} {S : A → List T → B → Type 0}
-      → Starts m test R → Starts m test (languages.◌>>=◌ R S)
-  then_starts {A} {B} {test} {R} {S} x =
-      record {
-        leads = λ us b word. let (vs, ws, a, cut, is, later) = parts m.item us R S b word in
-            rw cut (leads-append test vs ws (x.leads vs a is));
-      }
+  pub then_starts : {A B : Type 0} {test : Test} {R : Language T A} {S : A → Language T B}
+      → Starts m test R → Starts m test (R >>= S)
+  then_starts {A} {B} {test} {R} {S} x = record {
+    leads = λ us b word. let (vs, ws, a, cut, is, later) = parts m.item us R S b word in
+        rw cut (leads-append test vs ws (x.leads vs a is));
+  }
 
-  pub one_starts : {A : Type 0} {test : GrammarToken → Bool} (meaning : T → Option A)
+  pub one_starts : {A : Type 0} {test : Test} (meaning : T → Option A)
       → ((p : PlacedToken) (a : A) → meaning (m.item p) ≡ Some a → test p.token ≡ true) → Starts m test (one meaning)
-  one_starts {A} {test} meaning h = record { leads = go }
-    where
-      go : (us : List PlacedToken) (a : A) → one meaning (map m.item us) a → first_is test us ≡ true
-      go [] a (t, e, is) = let bad : ⊥ = cc in absurd bad
-      go (u ∷ us) a (t, e, is) = let same : m.item u ≡ t = cc in h u a (ap meaning same ∙ is)
+  one_starts meaning h = record { leads = elim [ [] ↦ λ a (t, e, is). cc | u ∷ us ↦ λ a (t, e, is). h u a (cc) ] }
 
-  pub or_starts : {A : Type 0} {these those : GrammarToken → Bool} {L M : List T → A → Type 0} → Starts m these L
-      → Starts m those M → Starts m (λ t. these t || those t) (languages.◌or◌ L M)
-  or_starts {A} {these} {those} {L} {M} x y = record { leads = first }
-    where
-      first : (us : List PlacedToken) (a : A) → languages.◌or◌ L M (map m.item us) a
-          → first_is (λ t. these t || those t) us ≡ true
-      first us a (inl is) = either these those us (inl (x.leads us a is))
-      first us a (inr is) = either these those us (inr (y.leads us a is))
+  pub or_starts : {A : Type 0} {these those : Test} {L M : Language T A} → Starts m these L
+      → Starts m those M → Starts m (λ t. these t || those t) (L or M)
+  or_starts {these = these} {those = those} x y = record {
+    leads = λ us a. elim [
+      | inl is ↦ either these those us (inl (x.leads us a is))
+      | inr is ↦ either these those us (inr (y.leads us a is))
+    ];
+  }
 
   -- a language or nothing, followed by what begins with another token
-  pub maybe_starts : {A B : Type 0} {these those : GrammarToken → Bool} {L : List T → A → Type 0} {S : A → List T → B → Type 0}
+  pub maybe_starts : {A B : Type 0} {these those : Test} {L : Language T A} {S : A → Language T B}
       (c : A) → Starts m these L → ((a : A) → Starts m those (S a))
-      → Starts m (λ t. these t || those t) (languages.◌>>=◌ (languages.◌or◌ L (gives c)) S)
-  maybe_starts {A} {B} {these} {those} {L} {S} c x y = record { leads = go }
-    where
-      go : (us : List PlacedToken) (b : B) → languages.◌>>=◌ (languages.◌or◌ L (gives c)) S (map m.item us) b
-          → first_is (λ t. these t || those t) us ≡ true
-      go us b (vs, ws, a, e, inl is, later) =
+      → Starts m (λ t. these t || those t) ((L or gives c) >>= S)
+  maybe_starts {these = these} {those = those} c x y = record {
+    leads = λ us b (vs, ws, a, e, how, later). elim how [
+      | inl is ↦
           let cut = split m.item us vs ws e in
           either these those us
-          (inl
-          (subst (λ qs. first_is these qs ≡ true) (sym cut.2)
-          (leads-append these cut.0 cut.1 (x.leads cut.0 a (subst (λ ts. L ts a) (sym cut.3) is)))))
-      go us b (vs, ws, a, e, inr (empty, same), later) = let all : map m.item us ≡ ws = rw (e, empty) refl in
-          either these those us (inr ((y a).leads us b (subst (λ ts. S a ts b) (sym all) later)))
+          (inl (rw cut.2 (leads-append these cut.0 cut.1 (x.leads cut.0 a (rw cut.3 is)))))
+      | inr (empty, same) ↦
+          let all : map m.item us ≡ ws = cc in either these those us (inr ((y a).leads us b (rw all later)))
+    ];
+  }
 
   -- ---- the rest after a part
 
   -- the end of a form
-  pub ends_exact : {A B : Type 0} {stops : GrammarToken → Bool} {R : List T → A → Type 0} {r : Parser Fault A} (f : A → B)
-      → Exact m stops R r → Exact m stops (languages.◌>>=◌ R (λ a. gives (f a))) (parsing.◌>>=◌ r (λ a. pure (f a)))
-  ends_exact {A} {B} {stops} f x = then_exact x (λ a. pure_exact (f a)) nothing
-    where
-      nothing : (a : A) → Before m stops stops (gives (f a))
-      nothing a [] rest b is h = h
-      nothing a (v ∷ vs) rest b (e, is) h = let bad : ⊥ = cc in absurd bad
+  pub ends_exact : {A B : Type 0} {stops : Test} {R : Language T A} {r : Parser Fault A} (f : A → B)
+      → Exact m stops R r → Exact m stops (R >>= (λ a. gives (f a))) (parsing.◌>>=◌ r (λ a. pure (f a)))
+  ends_exact f x = then_exact x (λ a. pure_exact (f a)) (λ a vs rest b (e, is) h. rw (no_tokens m.item vs e) h)
 
   -- any continuation
-  pub any_then : {A B : Type 0} {stops : GrammarToken → Bool} {R : List T → A → Type 0} {S : A → List T → B → Type 0}
-      {r : Parser Fault A} {s : A → Parser Fault B}
-      → Exact m nowhere R r → ((a : A) → Exact m stops (S a) (s a)) → Exact m stops (languages.◌>>=◌ R S) (parsing.◌>>=◌ r s)
+  pub any_then : {A B : Type 0} {stops : Test} {R : Language T A} {S : A → Language T B} {r : Parser Fault A}
+      {s : A → Parser Fault B}
+      → Exact m nowhere R r → ((a : A) → Exact m stops (S a) (s a)) → Exact m stops (R >>= S) (parsing.◌>>=◌ r s)
   any_then x y = then_exact x y (λ a vs rest b is h. anywhere (vs ++ rest))
 
   -- a continuation that begins with a token that cannot continue the part
-  pub start_then : {A B : Type 0} {these inner stops : GrammarToken → Bool} {R : List T → A → Type 0}
-      {S : A → List T → B → Type 0} {r : Parser Fault A} {s : A → Parser Fault B}
+  pub start_then : {A B : Type 0} {these inner stops : Test} {R : Language T A} {S : A → Language T B} {r : Parser Fault A}
+      {s : A → Parser Fault B}
       → Exact m inner R r → ((a : A) → Exact m stops (S a) (s a)) → ((a : A) → Starts m these (S a)) → Apart these inner
-      → Exact m stops (languages.◌>>=◌ R S) (parsing.◌>>=◌ r s)
+      → Exact m stops (R >>= S) (parsing.◌>>=◌ r s)
   start_then {these = these} {inner = inner} x y starts apart =
       then_exact x y (λ a vs rest b is h.
       led these inner apart (vs ++ rest) (leads-append these vs rest ((starts a).leads vs b is)))
 
   -- ---- a parser that succeeds shortens the input
 
-  pub shortens : {A : Type 0} {stops test : GrammarToken → Bool} {L : List T → A → Type 0} {r : Parser Fault A}
+  pub shortens : {A : Type 0} {stops test : Test} {L : Language T A} {r : Parser Fault A}
       → Exact m stops L r → Starts m test L → (i j : Input) (a : A) → r i ≡ Ok (a, j) → length j.left < length i.left
   shortens {A} {stops} {test} {L} {r} x starts i j a h =
       let found = x.sound i j a h in

@@ -1,5 +1,5 @@
 -- Parts that are parsed one after the other, for the proofs of loops.
-use Rattle.std.proofs.Common.{◌≡◌, ◌<◌, ℕ, zero, suc, Bool, true, false, List, [], ◌∷◌, ◌++◌, length, Ok, Err, refl, sym, ◌∙◌}
+use Rattle.std.proofs.Common.{◌≡◌, ◌<◌, ℕ, zero, suc, Bool, true, false, List, [], ◌∷◌, ◌++◌, length, Ok, Err, refl}
 use Rattle.std.proofs.Common.{arith}
 use Rattle.ag_tokens.specs.PlacedToken.{Input}
 use Rattle.ag_tokens.specs.Parsing.{Outcome, Parser, sees, item_bound, many_from, further_from}
@@ -26,7 +26,7 @@ none_further {Fault} {A} single begins item found i none = go (item_bound single
 module _ {Fault A : Type 0} (single : Bool) (begins : GrammarToken → Bool) (item : Parser Fault A) (found : List A) (i : Input)
     (whole : Outcome Fault (List A)) where
   pub stopped : Going single begins item found i whole → sees begins i ≡ false → whole ≡ Ok (found, i)
-  stopped so_far none = sym so_far.same ∙ none_further single begins item found i none
+  stopped so_far none = cc (none_further single begins item found i none)
 
   pub goes_on : (j : Input) (x : A) → Going single begins item found i whole → single ≡ false → sees begins i ≡ true
       → item i ≡ Ok (x, j) → Going single begins item (found ++ x ∷ []) j whole

@@ -1,6 +1,4 @@
-use Rattle.std.proofs.Common.{◌≡◌, ◌∙◌, true, length, refl, ap, sym, subst}
-use Rattle.ag_tokens.specs.Parsing.{next}
-use Rattle.ag_grammar.specs.expressions.Trees.{is_below}
+use Rattle.std.proofs.Common.{◌∙◌, true, refl, ap}
 use Rattle.ag_expr.specs.language.State.{IsReadEnded, start}
 use Rattle.ag_expr.proofs.language.Texts.{passed_on}
 use Rattle.ag_expr.proofs.expression.read_ended.Goals as goal
@@ -13,8 +11,7 @@ returns-in_err-tree c =
 
 pub new-requires-2-clause-below : goal.new-requires-2-clause-below
 new-requires-2-clause-below c =
-    subst (λ os. is_below (length os) c.in_ok-tree.tree ≡ true)
-    (sym c.into_parts-occurrences.ensures.listed) c.in_ok-tree.ensures.below
+    rw c.into_parts-occurrences.ensures.listed c.in_ok-tree.ensures.below
 
 pub returns : goal.returns
 returns c =
@@ -22,5 +19,5 @@ returns c =
     let read = rw prefix at c.in_ok-tree.ensures.read in
     let parts = c.into_parts-occurrences.ensures in (
       read.0 ∙ rw (c.new-2.ensures, c.offset-at.ensures, parts.tokens, parts.listed) refl,
-      c.bump.ensures ∙ ap next parts.tokens ∙ read.1,
+      cc,
     )

@@ -1,12 +1,9 @@
-use Rattle.std.proofs.Common.{subst}
-use Rattle.ag_expr.specs.language.State.{IsReadToEnd}
 use Rattle.ag_expr.proofs.language.Texts.{read_to, reads_as, refuses_of, first_of, offsets_of}
 use Rattle.ag_expr.proofs.expression.read_expr.Goals as goal
 
 pub returns-clause-exact : goal.returns-clause-exact
 returns-clause-exact c =
-    read_to c.args.text.now 0 _ c.new.ensures c.whole.result
-    (subst (λ s. IsReadToEnd s c.whole.result) c.new-2.ensures c.whole.ensures)
+    read_to c.args.text.now 0 _ c.new.ensures c.whole.result (rw c.new-2.ensures at c.whole.ensures)
 
 pub returns-clause-first : goal.returns-clause-first
 returns-clause-first c = first_of c.args.text.now c.whole.result (returns-clause-exact c)

@@ -1,6 +1,5 @@
-use Rattle.std.proofs.Common.{◌≡◌, ◌∙◌, true, [], length, Err, refl, ap, sym, subst}
+use Rattle.std.proofs.Common.{◌∙◌, [], Err, refl, sym}
 use Rattle.std.specs.Result.{IfErr}
-use Rattle.ag_grammar.specs.expressions.Trees.{is_below}
 use Rattle.ag_expr.specs.language.State.{IsReadEnded}
 use Rattle.ag_expr.proofs.language.Agree.{expr_exact}
 use Rattle.ag_expr.proofs.language.Below.{expr_below}
@@ -17,7 +16,7 @@ returns-in_err-tree-clause-refused c =
 pub returns-then-not-sees_semicolon-clause-refused : goal.returns-then-not-sees_semicolon-clause-refused
 returns-then-not-sees_semicolon-clause-refused c memory =
     let read = rw c.requires at c.in_ok-tree.ensures in
-    refused_of c.args.reader.now.tokens _ _ read.0 read.1 (sym c.if-not-sees_semicolon.ensures) ∙ ap Err (sym c.refusal.ensures)
+    cc (refused_of c.args.reader.now.tokens _ _ read.0 read.1 (sym c.if-not-sees_semicolon.ensures))
 
 pub returns-clause-read : goal.returns-clause-read
 returns-clause-read c =
@@ -29,6 +28,6 @@ returns-clause-read c =
 pub returns-clause-below : goal.returns-clause-below
 returns-clause-below c =
     let read = rw c.requires at c.in_ok-tree.ensures in
-    let listed = all_of c.args.reader.now.tokens _ _ read.0 read.1 (sym c.if-not-sees_semicolon.ensures) in
-    subst (λ os. is_below (length os) c.in_ok-tree.tree ≡ true) (sym listed)
+    let listed = all_of c.args.reader.now.tokens _ _ read.0 read.1 (cc) in
+    rw listed
     (expr_below _ 64 _ _ ((expr_exact _ 64 []).sound _ _ _ read.0).2)

@@ -1,5 +1,3 @@
-use Rattle.std.proofs.Common.{◌≡◌, true, length, sym, subst}
-use Rattle.ag_grammar.specs.expressions.Trees.{is_below}
 use Rattle.ag_expr.specs.language.State.{IsReadToEnd}
 use Rattle.ag_expr.proofs.language.Texts.{passed_on}
 use Rattle.ag_expr.proofs.expression.whole.Goals as goal
@@ -12,5 +10,4 @@ returns c = rw (c.new.ensures, c.into_parts-occurrences.ensures.listed) c.in_ok-
 
 pub new-requires-clause-below : goal.new-requires-clause-below
 new-requires-clause-below c =
-    subst (λ os. is_below (length os) c.in_ok-tree.tree ≡ true)
-    (sym c.into_parts-occurrences.ensures.listed) c.in_ok-tree.ensures.below
+    rw c.into_parts-occurrences.ensures.listed c.in_ok-tree.ensures.below

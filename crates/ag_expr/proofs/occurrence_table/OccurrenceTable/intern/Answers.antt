@@ -11,13 +11,10 @@ invariant_of-self-2 c =
     let none =
     rw (← c.self.view_is) at (unlisted_where c.args.self.now c.args.place c.args.attr.now (sym c.in_default.ensures)) in
     let name = c.from_string-copied.ensures ∙ c.in_ok-from_str.ensures.ok in (
-      follows_pushed c.self.inside.indexes c.insert.new.self c.self.inside.listed.items c.reserve.new.self.items
-          c.push_reserved.new.self.items
-          (c.args.place, c.args.attr) c.len-number.result c.args.at c.from_string-copied.result none c.self.invariant.0
+      follows_pushed c.self.inside.indexes c.insert.new.self (c.args.place, c.args.attr) c.args.at none c.self.invariant.0
           c.in_ok-reserve.ensures.items c.len-number.ensures.value c.in_ok-insert.ensures.updates
           c.push_reserved.ensures.items name,
-      pushed_apart c.self.inside.listed.items c.reserve.new.self.items c.push_reserved.new.self.items c.args.place c.args.at
-          c.args.attr.now c.from_string-copied.result none c.self.invariant.1 c.in_ok-reserve.ensures.items
+      pushed_apart c.args.place c.args.at none c.self.invariant.1 c.in_ok-reserve.ensures.items
           c.push_reserved.ensures.items name,
     )
 
@@ -31,6 +28,5 @@ pub returns-clause-number : goal.returns-clause-number
 returns-clause-number c =
     let none = rw (← c.self.view_is) at (sym c.in_default.ensures) in
     let name = c.from_string-copied.ensures ∙ c.in_ok-from_str.ensures.ok in
-    number_pushed c.self.inside.listed.items c.reserve.new.self.items c.push_reserved.new.self.items c.args.place
-    c.len-number.result c.args.at c.args.attr.now c.from_string-copied.result none c.in_ok-reserve.ensures.items
-    c.len-number.ensures.value c.push_reserved.ensures.items name
+    number_pushed c.args.place c.args.at none c.in_ok-reserve.ensures.items c.len-number.ensures.value
+    c.push_reserved.ensures.items name

@@ -15,29 +15,26 @@ others-returns-in_err-other t c =
     (other_from c.args.precedence (ranked_from (atom_from (expr_in all c.args.levels) names all) (closer c.args.precedence)))
     [])
     c.args.self.now c.other.new.self _ _ c.from_residual.ensures.1
-    (λ memory. failed _ _ _ _ _ _ _ c.loop-precedence.invariant.so_far (sym c.loop-precedence-test.ensures) _
-    (c.in_err-other.ensures memory))
+    (λ memory. failed c.loop-precedence.invariant.so_far (cc) _ (c.in_err-other.ensures memory))
 
 pub others-returns-then-takes_one : goal.others-returns-then-takes_one
 others-returns-then-takes_one t c =
     let last =
-    ends _ _ _ _ _ _ _ c.loop-precedence.invariant.so_far (sym c.if-takes_one.ensures)
-    (sym c.loop-precedence-test.ensures) _ _ c.in_ok-other.ensures.0 c.in_ok-other.ensures.1 in
+    ends c.loop-precedence.invariant.so_far (cc) (cc) _ _ c.in_ok-other.ensures.0 c.in_ok-other.ensures.1 in
     (last.0 ∙ ap (λ others. Ok (others, input c.other.new.self)) (sym c.in_ok-push.ensures.items), last.1)
 
 pub others-loop-precedence-preserved : goal.others-loop-precedence-preserved
 others-loop-precedence-preserved t c = record {
   so_far =
       rw c.in_ok-push.ensures.items
-      (goes_on _ _ _ _ _ _ _ c.loop-precedence.invariant.so_far (sym c.if-takes_one.ensures)
-      (sym c.loop-precedence-test.ensures) _ _ c.in_ok-other.ensures.0 c.in_ok-other.ensures.1);
+      (goes_on c.loop-precedence.invariant.so_far (cc) (cc) _ _ c.in_ok-other.ensures.0 c.in_ok-other.ensures.1);
   same = refl;
   ranked = refl;
 }
 
 pub others-returns : goal.others-returns
 others-returns t c = (
-  stopped _ _ _ _ _ _ _ c.loop-precedence.invariant.so_far (sym c.loop-precedence-test.ensures),
+  stopped c.loop-precedence.invariant.so_far (cc),
   c.loop-precedence.invariant.so_far.keeps,
 )
 
@@ -48,17 +45,16 @@ items-returns-in_err-item t c =
     answered (λ items. items.items)
     (λ all names. items_from (expr_in all c.args.levels) names c.args.first) c.args.self.now c.next.new.self _ _
     c.from_residual-in_err-item.ensures.1
-    (λ memory. failed _ _ _ _ _ _ _ c.loop-self.invariant.so_far (sym c.loop-self-test.ensures) _ (c.in_err-item.ensures memory))
+    (λ memory. failed c.loop-self.invariant.so_far (cc) _ (c.in_err-item.ensures memory))
 
 pub items-loop-self-preserved : goal.items-loop-self-preserved
 items-loop-self-preserved t c = record {
   so_far =
       rw c.in_ok-push-2.ensures.items
-      (goes_on _ _ _ _ _ _ _ c.loop-self.invariant.so_far refl
-      (sym c.loop-self-test.ensures) _ _ c.in_ok-item.ensures.0 c.in_ok-item.ensures.1);
+      (goes_on c.loop-self.invariant.so_far refl (cc) _ _ c.in_ok-item.ensures.0 c.in_ok-item.ensures.1);
   same = refl;
 }
 
 pub items-returns : goal.items-returns
 items-returns t c =
-    (stopped _ _ _ _ _ _ _ c.loop-self.invariant.so_far (sym c.loop-self-test.ensures), c.loop-self.invariant.so_far.keeps)
+    (stopped c.loop-self.invariant.so_far (cc), c.loop-self.invariant.so_far.keeps)

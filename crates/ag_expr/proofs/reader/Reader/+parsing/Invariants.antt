@@ -1,9 +1,14 @@
-use Rattle.std.proofs.Common.{false, [], ◌≡◌, ℕ, ◌+◌, ◌*◌, length}
+use Rattle.std.proofs.Common.{List, false, [], ◌≡◌, ℕ, ◌+◌, ◌*◌, length}
 use Rattle.ag_tokens.specs.Parsing.{further_from, is_sign}
 use Rattle.ag_tokens.specs.GrammarToken.{mark}
 use Rattle.ag_tokens.specs.declared.token.Punctuation.TheVariants as punctuation
 use Rattle.ag_expr.proofs.language.Parts.{Looping}
-use Rattle.ag_expr.specs.language.Reading.{items_from, is_operator_of, next_from, other_from, ranked_from, atom_from, expr_in}
+use Rattle.ag_grammar.specs.declared.syntax.node.Operator.{Operator}
+use Rattle.ag_grammar.specs.declared.syntax.node.Node.{Node}
+use Rattle.ag_grammar.specs.declared.syntax.occurrence.Occ.{Occ}
+use Rattle.ag_expr.specs.language.Names.{Names}
+use Rattle.ag_expr.specs.language.Reading.{Parser, items_from, is_operator_of, next_from, other_from, ranked_from, atom_from}
+use Rattle.ag_expr.specs.language.Reading.{expr_in}
 use Rattle.ag_expr.specs.language.State.{input}
 use Rattle.ag_expr.specs.language.Syntax.{closer, takes_one}
 use Rattle.ag_expr.specs.declared.parser.Precedence.{Precedence}
@@ -17,6 +22,10 @@ above precedence.Comparison = 21
 above precedence.Join = 16
 above precedence.Sum = 11
 above precedence.Product = 6
+
+-- the parser of an operator with the operand after it
+abbrev pub operand_from : Precedence → ℕ → List Occ → Names → Parser (Operator × Node)
+operand_from k levels all names = other_from k (ranked_from (atom_from (expr_in all levels) names all) (closer k))
 
 abbrev pub decreases-expression : goal.decreases-expression
 decreases-expression l = 40 * l.levels
@@ -72,11 +81,9 @@ decreases-call l = 40 * l.levels + 4
 abbrev pub invariant-others-loop-precedence : goal.invariant-others-loop-precedence
 invariant-others-loop-precedence l = record {
   so_far : Looping (takes_one l.fn.precedence) (is_operator_of l.fn.precedence)
-      (λ all names. other_from l.fn.precedence
-      (ranked_from (atom_from (expr_in all l.fn.levels) names all) (closer l.fn.precedence)))
+      (operand_from l.fn.precedence l.fn.levels)
       (λ all names. further_from (takes_one l.fn.precedence) (is_operator_of l.fn.precedence)
-      (other_from l.fn.precedence (ranked_from (atom_from (expr_in all l.fn.levels) names all) (closer l.fn.precedence)))
-      []) l.fn.self l.self l.others.items;
+      (operand_from l.fn.precedence l.fn.levels all names) []) l.fn.self l.self l.others.items;
   same : l.levels ≡ l.fn.levels;
   ranked : l.precedence ≡ l.fn.precedence;
 }
