@@ -1,5 +1,5 @@
 -- The examples of conflicts.
-use Rattle.std.proofs.Common.{◌≡◌, ℕ, zero, suc, inl, inr, refl, arith, sym, ◌∙◌}
+use Rattle.std.proofs.Common.{◌≡◌, ℕ, zero, suc, inl, inr, refl, arith, sym}
 use Rattle.std.proofs.lemmas.Bool.{cases_eq}
 use Rattle.ag_grammar.specs.declared.grammar.Production.{Production}
 use Rattle.ag_grammar.specs.declared.grammar.Terminal.TheVariants.{Literal}
@@ -30,7 +30,7 @@ left_is (suc (suc p)) q e = cc
 
 pub sample_free : HasNoConflict sample
 sample_free p r x c =
-    let same : p ≡ r = sym (left_is p c.one c.first_is) ∙ c.of_one_symbol ∙ left_is r c.other c.second_is in
+    let same : p ≡ r = cc (left_is p c.one c.first_is, left_is r c.other c.second_is) in
     let less = c.earlier in
     omega arith
 
@@ -42,8 +42,8 @@ left_recursion_least = record {
   of_symbol = refl;
   least = λ a b y c. elim (cases_eq a 0) [
     | inl same ↦ elim (cases_eq b 1) [
-      | inl second ↦ inr (sym same, inr (sym second, omega arith))
-      | inr other ↦ inr (sym same, inl (omega (arith, c.earlier)))
+      | inl second ↦ inr (cc, inr (cc, omega arith))
+      | inr other ↦ inr (cc, inl (omega (arith, c.earlier)))
     ]
     | inr other ↦ inl (omega arith)
   ];

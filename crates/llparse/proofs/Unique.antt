@@ -1,7 +1,6 @@
 -- A grammar without a conflict has at most one tree of a list of words.
-use Rattle.std.proofs.Common.{◌≡◌, ◌<◌, ℕ, List, [], ◌∷◌, ◌++◌, ◌⊎◌, inl, inr, refl, ap, sym, ◌∙◌, subst, append_assoc, arith}
+use Rattle.std.proofs.Common.{ap, ◌≡◌, ◌<◌, ℕ, List, [], ◌∷◌, ◌++◌, ◌⊎◌, inl, inr, refl, sym, append_assoc, arith}
 use Rattle.std.proofs.Common.{slice_get}
-use Rattle.std.proofs.lemmas.Option.{same_Some}
 use Rattle.ag_grammar.specs.declared.grammar.Item.TheVariants as item
 use Rattle.ag_grammar.specs.declared.grammar.Item.{Item}
 use Rattle.ag_grammar.specs.declared.grammar.Production.{Production}
@@ -12,9 +11,6 @@ use Rattle.ag_grammar.specs.grammars.Yield.{Lexeme, right_side, yield_along, yie
 use Rattle.llparse.specs.declared.ahead.Ahead.{Ahead}
 use Rattle.llparse.specs.Ahead.{IsNullable, by_production, AreNullable, nothing, a_symbol, InFirst, of_production, InFirstOf}
 use Rattle.llparse.specs.Ahead.{here, inside, later, InFollow, at_end, next, last, Predicts, HasNoConflict, ahead_of}
-
-neither : (p r : ℕ) → (p < r → ⊥) → (r < p → ⊥) → p ≡ r
-neither p r below above = grind arith
 
 module _ (g : Grammar) where
   abbrev Tr : ℕ → Tree → Type 0
@@ -30,7 +26,7 @@ module _ (g : Grammar) where
   all_words ts xs = yield_along g xs ts
 
   pub items_are : (p : ℕ) (q : Production) → IsProduction g p q → right_side (slice_get g.productions p) ≡ q.items
-  items_are p q e = ap right_side e
+  items_are p q e = cc
 
   -- The words ws begin with a terminal in FIRST of the symbol s, or there are no words and s is nullable. By `begins` this holds
   -- of the words of each tree of s.
@@ -47,18 +43,16 @@ module _ (g : Grammar) where
 
   follow_on : (s : ℕ) (xs : List Item) (us vs : List Lexeme) → Begins s us → BeginAs xs vs
       → BeginAs (item.Symbol s ∷ xs) (us ++ vs)
-  follow_on s xs us vs (inl (n, e)) (inl (m, f)) = inl (a_symbol n m, ap (λ z. z ++ vs) e ∙ f)
-  follow_on s xs us vs (inl (n, e)) (inr (w, rest, f, h)) = inr (w, rest, ap (λ z. z ++ vs) e ∙ f, later n h)
-  follow_on s xs us vs (inr (w, rest, e, f)) b = inr (w, rest ++ vs, ap (λ z. z ++ vs) e, inside f)
+  follow_on s xs us vs (inl (n, e)) (inl (m, f)) = inl (a_symbol n m, cc)
+  follow_on s xs us vs (inl (n, e)) (inr (w, rest, f, h)) = inr (w, rest, cc, later n h)
+  follow_on s xs us vs (inr (w, rest, e, f)) b = inr (w, rest ++ vs, cc, inside f)
 
   mutual
     pub begins : (t : Tree) (s : ℕ) → Tr s t → Begins s (words t)
     begins (leaf c lex) s i = absurd i
     begins (node p ts) s (q, get, l, fits) =
-        let all : BeginAs q.items (all_words ts q.items) = begin_as ts q.items fits in
-        let same : all_words ts q.items ≡ all_words ts (right_side (slice_get g.productions p)) =
-        ap (all_words ts) (sym (items_are p q get)) in
-        subst (Begins s) same (lift p q s get l (all_words ts q.items) all)
+        let same : all_words ts q.items ≡ words (node p ts) = cc (items_are p q get) in
+        rw same at (lift p q s get l (all_words ts q.items) (begin_as ts q.items fits))
 
     pub begin_as : (ts : Forest) (xs : List Item) → Trs ts xs → BeginAs xs (all_words ts xs)
     begin_as none [] fit = inl (nothing, refl)
@@ -68,12 +62,7 @@ module _ (g : Grammar) where
         follow_on s xs (words t) (all_words ts xs) (begins t s fit.0) (begin_as ts xs fit.1)
     begin_as none (item.Terminal (Class c) ∷ xs) fit = absurd fit
     begin_as (more (leaf d lex) ts) (item.Terminal (Class c) ∷ xs) fit =
-        inr (
-          (Class d, lex),
-          all_words ts xs,
-          refl,
-          subst (λ z. InFirstOf g (item.Terminal (Class c) ∷ xs) (Class z)) fit.0.0 here,
-        )
+        inr ((Class d, lex), all_words ts xs, refl, rw fit.0.0 here)
     begin_as (more (node p us) ts) (item.Terminal (Class c) ∷ xs) fit = absurd fit.0
     begin_as none (item.Terminal (Literal l) ∷ xs) fit = inr ((Literal l, literal_text g l), all_words none xs, refl, here)
     begin_as (more t ts) (item.Terminal (Literal l) ∷ xs) fit =
@@ -87,55 +76,38 @@ module _ (g : Grammar) where
   pub follows : (p : ℕ) (q : Production) → At p q → (xs ys : List Item) (s : ℕ) → q.items ≡ xs ++ item.Symbol s ∷ ys
       → (ts : Forest) → Trs ts ys → (r : List Lexeme) → InFollow g q.left (ahead_of r)
       → InFollow g s (ahead_of (all_words ts ys ++ r))
-  follows p q get xs ys s e ts fit r f = go (begin_as ts ys fit)
-    where
-      go : BeginAs ys (all_words ts ys) → InFollow g s (ahead_of (all_words ts ys ++ r))
-      go (inl (n, none_left)) = subst (λ z. InFollow g s (ahead_of (z ++ r))) (sym none_left) (last p q xs ys get e n f)
-      go (inr (w, rest, some_left, f1)) = subst (λ z. InFollow g s (ahead_of (z ++ r))) (sym some_left) (next p q xs ys get e f1)
+  follows p q get xs ys s e ts fit r f = elim (begin_as ts ys fit) [
+    | inl empty ↦ rw empty.1 (last p q xs ys get e empty.0 f)
+    | inr begun ↦ rw begun.2 (next p q xs ys get e begun.3)
+  ]
 
   pub predicted : (p : ℕ) (q : Production) → At p q → (ts : Forest) → Trs ts q.items → (r : List Lexeme)
       → InFollow g q.left (ahead_of r) → Predicts g q (ahead_of (all_words ts q.items ++ r))
-  predicted p q get ts fit r f = go (begin_as ts q.items fit)
-    where
-      go : BeginAs q.items (all_words ts q.items) → Predicts g q (ahead_of (all_words ts q.items ++ r))
-      go (inl (n, e)) = subst (λ z. Predicts g q (ahead_of (z ++ r))) (sym e) (inr (n, f))
-      go (inr (w, rest, e, f1)) = subst (λ z. Predicts g q (ahead_of (z ++ r))) (sym e) (inl f1)
+  predicted p q get ts fit r f = elim (begin_as ts q.items fit) [
+    | inl empty ↦ rw empty.1 (inr (empty.0, f))
+    | inr begun ↦ rw begun.2 (inl begun.3)
+  ]
 
   -- without a conflict, productions of one symbol that the same look-ahead predicts are the same
-  one_production : HasNoConflict g → (p r : ℕ) (q s : Production) (x : Ahead) → IsProduction g p q → IsProduction g r s
+  not_before : HasNoConflict g → (p r : ℕ) (q s : Production) (x : Ahead) → IsProduction g p q → IsProduction g r s
+      → q.left ≡ s.left → Predicts g q x → Predicts g s x → p < r → ⊥
+  not_before free p r q s x getq gets left one other less = free p r x (record {
+    one = q;
+    other = s;
+    first_is = getq;
+    second_is = gets;
+    earlier = less;
+    of_one_symbol = left;
+    one_predicts = one;
+    other_predicts = other;
+  })
+
+  pub one_production : HasNoConflict g → (p r : ℕ) (q s : Production) (x : Ahead) → IsProduction g p q → IsProduction g r s
       → q.left ≡ s.left → Predicts g q x → Predicts g s x → p ≡ r
   one_production free p r q s x getq gets left one other =
-      let below : p < r → ⊥ =
-      λ less.
-      free p r x
-      (record {
-        one = q;
-        other = s;
-        first_is = getq;
-        second_is = gets;
-        earlier = less;
-        of_one_symbol = left;
-        one_predicts = one;
-        other_predicts = other;
-      }) in
-      let above : r < p → ⊥ =
-      λ less.
-      free r p x
-      (record {
-        one = s;
-        other = q;
-        first_is = gets;
-        second_is = getq;
-        earlier = less;
-        of_one_symbol = sym left;
-        one_predicts = other;
-        other_predicts = one;
-      }) in
-      neither p r below above
-
-  pub past : (ts : Forest) (l : ℕ) (ys : List Item) → Trs ts (item.Terminal (Literal l) ∷ ys) → Trs ts ys
-  past none l ys i = i
-  past (more t ts) l ys i = i
+      let below = not_before free p r q s x getq gets left one other in
+      let above = not_before free r p s q x gets getq (sym left) other one in
+      grind arith
 
   module _ (free : HasNoConflict g) where
     mutual
@@ -144,21 +116,17 @@ module _ (g : Grammar) where
       same_tree s (leaf c lex) u i j r z f h e = absurd i
       same_tree s (node p ts) (leaf d lex) i j r z f h e = absurd j
       same_tree s (node p ts) (node k us) (q, get, l, fits) (q2, get2, l2, fits2) r z f h e =
-          let fq : InFollow g q.left (ahead_of r) = subst (λ y. InFollow g y (ahead_of r)) (sym l) f in
-          let fq2 : InFollow g q2.left (ahead_of z) = subst (λ y. InFollow g y (ahead_of z)) (sym l2) h in
-          let e2 : all_words ts q.items ++ r ≡ all_words us q2.items ++ z =
-          ap (λ y. all_words ts y ++ r) (sym (items_are p q get)) ∙ e ∙ ap (λ y. all_words us y ++ z) (items_are k q2 get2) in
-          let two : Predicts g q2 (ahead_of (all_words ts q.items ++ r)) =
-          subst (λ y. Predicts g q2 (ahead_of y)) (sym e2) (predicted k q2 get2 us fits2 z fq2) in
+          let fq : InFollow g q.left (ahead_of r) = rw l f in
+          let fq2 : InFollow g q2.left (ahead_of z) = rw l2 h in
+          let e2 : all_words ts q.items ++ r ≡ all_words us q2.items ++ z = cc (items_are p q get, items_are k q2 get2) in
+          let two : Predicts g q2 (ahead_of (all_words ts q.items ++ r)) = rw e2 (predicted k q2 get2 us fits2 z fq2) in
           let same : p ≡ k =
-          one_production free p k q q2 (ahead_of (all_words ts q.items ++ r)) get get2 (l ∙ sym l2)
+          one_production free p k q q2 (ahead_of (all_words ts q.items ++ r)) get get2 (cc)
           (predicted p q get ts fits r fq) two in
-          let equal : q2 ≡ q = same_Some q2 q (sym get2 ∙ ap (slice_get g.productions) (sym same) ∙ get) in
-          let fits3 : Trs us q.items = subst (λ y. Trs us y.items) equal fits2 in
-          let fz : InFollow g q.left (ahead_of z) = subst (λ y. InFollow g y.left (ahead_of z)) equal fq2 in
-          let e3 : all_words ts q.items ++ r ≡ all_words us q.items ++ z = e2 ∙ ap (λ y. all_words us y.items ++ z) equal in
-          let both_same = same_forest p q get [] q.items refl ts us fits fits3 r z fq fz e3 in
-          (ap (λ y. node y ts) same ∙ ap (node k) both_same.0, both_same.1)
+          let equal : q2 ≡ q = cc in
+          let both_same =
+          same_forest p q get [] q.items refl ts us fits (rw equal at fits2) r z fq (rw equal at fq2) (cc) in
+          (cc, both_same.1)
 
       same_forest : (p : ℕ) (q : Production) → At p q → (xs ys : List Item) → q.items ≡ xs ++ ys → (ts us : Forest) → Trs ts ys
           → Trs us ys → (r z : List Lexeme) → InFollow g q.left (ahead_of r) → InFollow g q.left (ahead_of z)
@@ -170,35 +138,26 @@ module _ (g : Grammar) where
       same_forest p q get xs (item.Symbol s ∷ ys) e (more t ts) none i j r z f h w = absurd j
       same_forest p q get xs (item.Symbol s ∷ ys) e (more t ts) (more u us) i j r z f h w =
           let split : words t ++ (all_words ts ys ++ r) ≡ words u ++ (all_words us ys ++ z) =
-          sym (append_assoc (words t) (all_words ts ys) r) ∙ w ∙ append_assoc (words u) (all_words us ys) z in
+          cc (append_assoc (words t) (all_words ts ys) r, append_assoc (words u) (all_words us ys) z) in
           let one =
           same_tree s t u i.0 j.0 (all_words ts ys ++ r) (all_words us ys ++ z) (follows p q get xs ys s e ts i.1 r f)
           (follows p q get xs ys s e us j.1 z h) split in
-          let further : q.items ≡ (xs ++ item.Symbol s ∷ []) ++ ys = e ∙ sym (append_assoc xs (item.Symbol s ∷ []) ys) in
-          let rest = same_forest p q get (xs ++ item.Symbol s ∷ []) ys further ts us i.1 j.1 r z f h one.1 in
-          (ap (λ y. more y ts) one.0 ∙ ap (more u) rest.0, rest.1)
+          let rest = same_forest p q get (xs ++ item.Symbol s ∷ []) ys (rw append_assoc e) ts us i.1 j.1 r z f h one.1 in
+          (cc, rest.1)
       same_forest p q get xs (item.Terminal (Class c) ∷ ys) e none us i j r z f h w = absurd i
       same_forest p q get xs (item.Terminal (Class c) ∷ ys) e (more (node k vs) ts) us i j r z f h w = absurd i.0
       same_forest p q get xs (item.Terminal (Class c) ∷ ys) e (more (leaf d lex) ts) none i j r z f h w = absurd j
       same_forest p q get xs (item.Terminal (Class c) ∷ ys) e (more (leaf d lex) ts) (more (node k vs) us) i j r z f h w =
           absurd j.0
       same_forest p q get xs (item.Terminal (Class c) ∷ ys) e (more (leaf d lex) ts) (more (leaf b mex) us) i j r z f h w =
-          let further : q.items ≡ (xs ++ item.Terminal (Class c) ∷ []) ++ ys =
-          e ∙ sym (append_assoc xs (item.Terminal (Class c) ∷ []) ys) in
+          let rest =
+          same_forest p q get (xs ++ item.Terminal (Class c) ∷ []) ys (rw append_assoc e) ts us i.1 j.1 r z f h (cc) in
           let heads : (Class d, lex) ≡ (Class b, mex) = cc in
-          let tails : all_words ts ys ++ r ≡ all_words us ys ++ z = cc in
-          let classes : d ≡ b = sym i.0.0 ∙ j.0.0 in
           let texts_same : lex ≡ mex = ap (λ (y : Lexeme). y.1) heads in
-          let rest = same_forest p q get (xs ++ item.Terminal (Class c) ∷ []) ys further ts us i.1 j.1 r z f h tails in (
-            ap (λ y. more (leaf y lex) ts) classes ∙ ap (λ y. more (leaf b y) ts) texts_same ∙ ap (more (leaf b mex)) rest.0,
-            rest.1,
-          )
+          let classes : d ≡ b = cc (i.0.0, j.0.0) in
+          (cc rest.0, rest.1)
       same_forest p q get xs (item.Terminal (Literal l) ∷ ys) e ts us i j r z f h w =
-          let further : q.items ≡ (xs ++ item.Terminal (Literal l) ∷ []) ++ ys =
-          e ∙ sym (append_assoc xs (item.Terminal (Literal l) ∷ []) ys) in
-          let tails : all_words ts ys ++ r ≡ all_words us ys ++ z = cc in
-          same_forest p q get (xs ++ item.Terminal (Literal l) ∷ []) ys further ts us (past ts l ys i)
-          (past us l ys j) r z f h tails
+          same_forest p q get (xs ++ item.Terminal (Literal l) ∷ []) ys (rw append_assoc e) ts us i j r z f h (cc)
 
     pub one_tree : (t u : Tree) → Tr g.start t → Tr g.start u → words t ≡ words u → t ≡ u
-    one_tree t u i j e = (same_tree g.start t u i j [] [] at_end at_end (ap (λ y. y ++ []) e)).0
+    one_tree t u i j e = (same_tree g.start t u i j [] [] at_end at_end (cc)).0

@@ -1,12 +1,12 @@
 -- The meaning of a parse for each tree of its tokens.
-use Rattle.std.proofs.Common.{◌≡◌, ℕ, Bool, List, ◌++◌, drop, Result, Ok, Err, refl, ap, sym, ◌∙◌, subst}
+use Rattle.std.proofs.Common.{◌≡◌, ℕ, Bool, List, drop, Result, Ok, Err, refl}
 use Rattle.std.specs.Prelude.{IfErr, IfOk, OnOk}
 use Rattle.ag_grammar.specs.grammars.AttributeGrammar.{Grammar}
 use Rattle.ag_grammar.specs.grammars.Tree.{Tree}
 use Rattle.ag_scan.specs.Tokens.{Token}
 use Rattle.treefile.specs.devices.Device.{WhenHonest}
 use Rattle.treefile.specs.records.TreeFile.{header, version_two}
-use Rattle.llparse.specs.sentence.Parsing.{task_of, IsParsed, IsRefused, tree_frames}
+use Rattle.llparse.specs.sentence.Parsing.{task_of, IsParsed, IsRefused}
 use Rattle.treefile.specs.records.FirstFile.{IsFirstFile}
 use Rattle.ag_scan.specs.TokenReader.{offset_at}
 use Rattle.llparse.specs.sentence.Sentences.{words_of, IsTreeWith}
@@ -26,14 +26,12 @@ module _ (g : Grammar) (tokens : List Token) (honest : Bool) (prefix bytes : Lis
           → OnOk r (WhenHonest honest (IsFirstFile version_two g t bytes))
       go (Ok count) p =
           λ h. first_file g t bytes has.tree
-          (p.content h ∙ ap (λ z. z ++ tree_frames p.tree) (begun h)
-          ∙ ap (λ z. header version_two 0 ++ tree_frames z) (sym (p.only t has)))
+          (cc (p.content h, begun h, p.only t has))
       go (Err e) p = tt
 
   -- after P1, no tree has the tokens
   pub none_of : IfErr result (IsRefused (task_of g tokens honest prefix) (offset_at tokens)) → (at : ℕ) (t : Tree)
       → result ≡ Err (fault.Unexpected at) → IsTreeWith g (words_of tokens) t → ⊥
   none_of refused at t e has =
-      let r : IsRefused (task_of g tokens honest prefix) (offset_at tokens) (fault.Unexpected at) =
-      subst (λ z. IfErr z (IsRefused (task_of g tokens honest prefix) (offset_at tokens))) e refused in
+      let r = rw e at refused in
       r.1.ends (drop r.0 (words_of tokens)) t refl (whole g (words_of tokens) r.0 t has)

@@ -1,34 +1,27 @@
 -- The bytes that a parser writes of a tree are its file of pass 0.
-use Rattle.std.proofs.Common.{◌≡◌, ℕ, List, [], ◌++◌, refl, ap, sym, ◌∙◌, append-nil}
+use Rattle.std.proofs.Common.{◌≡◌, ℕ, List, ◌++◌, refl, append-nil}
 use Rattle.std.specs.List.{flat_map}
 use Rattle.std.proofs.lemmas.Grind.{flat_map-append}
 use Rattle.ag_grammar.specs.grammars.AttributeGrammar.{Grammar}
 use Rattle.ag_grammar.specs.declared.direction.Direction.TheVariants.{LeftToRight}
 use Rattle.ag_grammar.specs.grammars.Tree.{Tree, Forest, IsTreeOf, leaf, node, none, more}
-use Rattle.treefile.specs.records.FirstFile.{IsFirstFile, first_bodies, first_bodies_all, leaf_texts}
+use Rattle.treefile.specs.records.FirstFile.{IsFirstFile, first_bodies, first_bodies_all}
 use Rattle.treefile.specs.records.Orders.{postfix, postfix_all}
 use Rattle.treefile.specs.records.TreeFile.{frame, header, version_two}
 use Rattle.treefile.proofs.records.FirstFile.{is_first_file}
-use Rattle.llparse.specs.sentence.Parsing.{leaf_frame, node_frame, tree_frames, forest_frames}
+use Rattle.llparse.specs.sentence.Parsing.{leaf_frame, tree_frames, forest_frames}
 
 mutual
   frames : (t : Tree) → flat_map frame (postfix LeftToRight (first_bodies version_two t)) ≡ tree_frames t
   frames (leaf c x) = append-nil (leaf_frame c x)
-  frames (node p ts) =
-      flat_map-append frame (postfix_all LeftToRight (first_bodies_all version_two ts)) _
-      ∙ ap (λ z. z ++ (node_frame p (leaf_texts ts) ++ [])) (frames_all ts)
-      ∙ ap (λ z. forest_frames ts ++ z) (append-nil (node_frame p (leaf_texts ts)))
+  frames (node p ts) = rw (flat_map-append, frames_all ts, append-nil)
 
   frames_all : (ts : Forest) → flat_map frame (postfix_all LeftToRight (first_bodies_all version_two ts)) ≡ forest_frames ts
   frames_all none = refl
-  frames_all (more t ts) =
-      flat_map-append frame (postfix LeftToRight (first_bodies version_two t))
-      (postfix_all LeftToRight (first_bodies_all version_two ts))
-      ∙ ap (λ z. z ++ flat_map frame (postfix_all LeftToRight (first_bodies_all version_two ts))) (frames t)
-      ∙ ap (λ z. tree_frames t ++ z) (frames_all ts)
+  frames_all (more t ts) = rw (flat_map-append, frames t, frames_all ts)
 
 -- the header, followed by the frames of a tree, is the tree's file of pass 0
 pub first_file : (g : Grammar) (t : Tree) (content : List ℕ) → IsTreeOf g t → content ≡ header version_two 0 ++ tree_frames t
     → IsFirstFile version_two g t content
 first_file g t content fits is =
-    is_first_file version_two g t content fits (is ∙ ap (λ z. header version_two 0 ++ z) (sym (frames t)))
+    is_first_file version_two g t content fits (cc (frames t))

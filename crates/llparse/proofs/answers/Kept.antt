@@ -1,5 +1,5 @@
 -- The texts that a parser keeps: at the end of a node its own are few, and each is well.
-use Rattle.std.proofs.Common.{◌≡◌, ℕ, ◌≤◌, List, [], ◌∷◌, ◌++◌, length, take, drop, All, refl, ap, sym, ◌∙◌, subst, arith}
+use Rattle.std.proofs.Common.{◌≡◌, ℕ, ◌≤◌, List, [], ◌∷◌, ◌++◌, length, take, drop, All, refl, sym, arith}
 use Rattle.std.proofs.lemmas.List.{drop_at, length-append, take_at}
 use Rattle.std.proofs.lemmas.List.Elements.{All-cons, All-nil}
 use Rattle.ag_value.specs.declared.value.Value.{Value, Text}
@@ -22,14 +22,14 @@ use Rattle.llparse.proofs.steps.Steps as step
 
 pub texts-joined : (a b : Forest) → leaf_texts (joined a b) ≡ leaf_texts a ++ leaf_texts b
 texts-joined none b = refl
-texts-joined (more (leaf c x) a) b = ap (λ z. Text x ∷ z) (texts-joined a b)
+texts-joined (more (leaf c x) a) b = cc (texts-joined a b)
 texts-joined (more (node p us) a) b = texts-joined a b
 
 -- texts that are `others` and then `own` are parted at the number of the others
 pub parted : (texts others own : List Value) (base : ℕ) → texts ≡ others ++ own → base ≡ length others
     → (take base texts ≡ others) × (drop base texts ≡ own)
 parted texts others own base is at =
-    (ap (take base) is ∙ take_at others own base (sym at), ap (drop base) is ∙ drop_at others own base (sym at))
+    (cc (take_at others own base (sym at)), cc (drop_at others own base (sym at)))
 
 module _ (g : Grammar) where
   -- trees of some items have at most as many texts as there are items, and each text is well
@@ -62,16 +62,16 @@ module _ (g : Grammar) where
   -- a child of the open nodes in a tree of the grammar is a tree of an item
   child_fits : (os : List Open) (c : Tree) (ws : List Lexeme) (t : Tree) → Continues g os c ws t → IsTreeOf g t
       → (x : Item) × Fits g x c
-  child_fits [] c ws t k is = (item.Symbol g.start, subst (Fits g (item.Symbol g.start)) k.1 is)
+  child_fits [] c ws t k is = (item.Symbol g.start, rw k.1 at is)
   child_fits (o ∷ os) c ws t k is =
       let outer = child_fits os (node o.production (joined o.done (more c k.0))) k.1 t k.4 is in
       let items = has_items outer.0 o.production (joined o.done (more c k.0)) outer.1 in
       among o.done (stored_items items.0.items) c k.0 items.2
 
 module _ (k : Task) (accepted : IsAccepted k.grammar) where
-  pub own_texts : (p base : ℕ) (fs : List OpenProduction) (i n : ℕ) (made : Output) → Reading k p base [] fs i n made
+  pub own_texts : {p base : ℕ} {fs : List OpenProduction} {i n : ℕ} {made : Output} → Reading k p base [] fs i n made
       → (base ≤ length made.texts) × (length (drop base made.texts) ≤ max_children) × All IsWell (drop base made.texts)
-  own_texts p base fs i n made r =
+  own_texts {p = p} {base = base} {made = made} r =
       let s = r.occurs in
       let outer = finish k.grammar accepted r.under s.0.left s.4 (node p r.done) in
       let whole = r.sound outer.0 outer.1 ((step.close k.grammar p r.done r.under outer.0 outer.1).1 outer.2) in
@@ -81,8 +81,8 @@ module _ (k : Task) (accepted : IsAccepted k.grammar) where
       let few = accepted.limits.stored_count p items.0 items.1 in
       let own : drop base made.texts ≡ leaf_texts r.done =
       (parted made.texts (kept r.under) (leaf_texts r.done) base r.held.texts r.begins).1 in
-      let all : length made.texts ≡ length (kept r.under ++ leaf_texts r.done) = ap length r.held.texts in (
+      let all : length made.texts ≡ length (kept r.under ++ leaf_texts r.done) = cc in (
         omega (arith, r.begins, all, length-append (kept r.under) (leaf_texts r.done)),
-        subst (λ (texts : List Value). length texts ≤ max_children) (sym own) (omega (arith, fit.0, few)),
-        subst (λ (texts : List Value). All IsWell texts) (sym own) fit.1,
+        rw own (omega (arith, fit.0, few)),
+        rw own fit.1,
       )

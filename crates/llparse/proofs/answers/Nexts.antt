@@ -1,6 +1,6 @@
 -- The remaining words, by the tokens.
 use Rattle.std.proofs.Common.{◌≡◌, ℕ, zero, suc, ◌+◌, ◌<◌, ◌≤◌, true, false, List, [], ◌∷◌, drop, length, slice_get, Option, Some}
-use Rattle.std.proofs.Common.{None, is_some, option_map, refl, ap, sym, ◌∙◌, add-one}
+use Rattle.std.proofs.Common.{None, is_some, option_map, refl, sym, add-one}
 use Rattle.std.proofs.lemmas.Option.{slice_get_within}
 use Rattle.ag_scan.specs.TokenReader.{token_of}
 use Rattle.ag_scan.specs.Tokens.{Token}
@@ -14,10 +14,8 @@ use Rattle.llparse.specs.sentence.Sentences.{words_of}
 pub next_is : (xs : List Token) (i : ℕ) (x : Token) → slice_get xs i ≡ Some x
     → drop i (words_of xs) ≡ (x.kind, x.lex) ∷ drop (i + 1) (words_of xs)
 next_is [] i x e = absurd (cc)
-next_is (y ∷ ys) zero x e = let same : y ≡ x = cc in ap (λ (z : Token). (z.kind, z.lex) ∷ words_of ys) same
-next_is (y ∷ ys) (suc i) x e =
-    next_is ys i x e ∙ ap (λ j. (x.kind, x.lex) ∷ drop j (words_of ys)) (add-one i)
-    ∙ ap (λ j. (x.kind, x.lex) ∷ drop j (words_of (y ∷ ys))) (sym (add-one (suc i)))
+next_is (y ∷ ys) zero x e = let same : y ≡ x = cc in cc
+next_is (y ∷ ys) (suc i) x e = cc (next_is ys i x e, add-one i, add-one (suc i))
 
 pub no_next : (xs : List Token) (i : ℕ) → slice_get xs i ≡ None → drop i (words_of xs) ≡ []
 no_next [] zero e = refl
@@ -29,13 +27,13 @@ no_next (y ∷ ys) (suc i) e = no_next ys i e
 pub other_next : (xs : List Token) (i : ℕ) (x : Token) (a : Terminal) → slice_get xs i ≡ Some x → (x.kind ≡ a → ⊥)
     → ahead_of (drop i (words_of xs)) ≡ ahead.Terminal a → ⊥
 other_next xs i x a there other e =
-    let same : ahead.Terminal x.kind ≡ ahead.Terminal a = sym (ap ahead_of (next_is xs i x there)) ∙ e in
+    let same : ahead.Terminal x.kind ≡ ahead.Terminal a = cc (next_is xs i x there) in
     other (cc)
 
 -- after the last token, the look-ahead is not a terminal
 pub none_is : (xs : List Token) (i : ℕ) (a : Terminal) → slice_get xs i ≡ None
     → ahead_of (drop i (words_of xs)) ≡ ahead.Terminal a → ⊥
-none_is xs i a none e = let bad : ahead.End ≡ ahead.Terminal a = sym (ap ahead_of (no_next xs i none)) ∙ e in cc
+none_is xs i a none e = let bad : ahead.End ≡ ahead.Terminal a = cc (no_next xs i none) in cc
 
 -- whether tokens are left at an index, by the token there or by what `Tokens::ahead` returns
 pub is_left : (xs : List Token) (i : ℕ) (x : Token) → slice_get xs i ≡ Some x → i < length xs

@@ -1,5 +1,5 @@
 -- Faults are justified where a parser stops.
-use Rattle.std.proofs.Common.{◌≡◌, ℕ, ◌≤◌, Bool, List, ◌∷◌, length, reverse, slice_get, Some, refl, sym, subst, arith}
+use Rattle.std.proofs.Common.{◌≡◌, ℕ, ◌≤◌, Bool, List, ◌∷◌, length, reverse, slice_get, Some, refl, arith}
 use Rattle.std.proofs.lemmas.List.{length-reverse}
 use Rattle.ag_grammar.specs.declared.grammar.Item.TheVariants as item
 use Rattle.ag_grammar.specs.declared.grammar.Terminal.TheVariants.{Class}
@@ -15,7 +15,7 @@ use Rattle.llparse.specs.declared.sentence.parse_fault.ParseFault.{ParseFault}
 use Rattle.llparse.specs.declared.sentence.parse_fault.ParseFault.TheVariants as fault
 use Rattle.llparse.specs.declared.sentence.parser.OpenProduction.{OpenProduction}
 use Rattle.llparse.specs.declared.sentence.parser.Parser.{Parser}
-use Rattle.llparse.proofs.steps.Stacks as stacks
+use Rattle.llparse.proofs.steps.Leaves as leaves
 use Rattle.llparse.proofs.steps.Starts as starts
 
 module _ (g : Grammar) (tokens : List Token) (honest : Bool) (prefix : List ℕ) where
@@ -26,9 +26,9 @@ module _ (g : Grammar) (tokens : List Token) (honest : Bool) (prefix : List ℕ)
   full_node accepted node p s bytes (fault.Unexpected at) full a = absurd full
   full_node accepted node p s bytes fault.TooDeep full a =
       let deep : max_depth ≤ length (node ∷ reverse p.waiting.items) = omega (arith, length-reverse p.waiting.items) in
-      starts.deep_node (task_of g tokens honest prefix) accepted deep a
+      starts.deep_node (task_of g tokens honest prefix) accepted a deep
   full_node accepted node p s bytes fault.TooManyNodes full a =
-      starts.large_node (task_of g tokens honest prefix) accepted full a
+      starts.large_node (task_of g tokens honest prefix) accepted a full
   full_node accepted node p s bytes fault.Device full a = absurd full
   full_node accepted node p s bytes fault.NoMemory full a = absurd full
 
@@ -39,16 +39,16 @@ module _ (g : Grammar) (tokens : List Token) (honest : Bool) (prefix : List ℕ)
   full_leaf accepted node p c bytes (fault.Unexpected at) full b = absurd full
   full_leaf accepted node p c bytes fault.TooDeep full b =
       let deep : max_depth ≤ length (node ∷ reverse p.waiting.items) = omega (arith, length-reverse p.waiting.items) in
-      stacks.deep_leaf (task_of g tokens honest prefix) accepted c (node ∷ reverse p.waiting.items) _ _ _ deep b
+      leaves.deep_leaf (task_of g tokens honest prefix) accepted b deep
   full_leaf accepted node p c bytes fault.TooManyNodes full b =
-      stacks.large_leaf (task_of g tokens honest prefix) accepted c (node ∷ reverse p.waiting.items) _ _ _ full b
+      leaves.large_leaf (task_of g tokens honest prefix) accepted b full
   full_leaf accepted node p c bytes fault.Device full b = absurd full
   full_leaf accepted node p c bytes fault.NoMemory full b = absurd full
 
   -- P1 is justified where the sentence can't continue
   pub stuck : (i : ℕ) (e : ParseFault) → e ≡ fault.Unexpected (offset_at tokens i) → IsStuckAt g (words_of tokens) i
       → IsRefused (task_of g tokens honest prefix) (offset_at tokens) e
-  stuck i e is s = subst (IsRefused (task_of g tokens honest prefix) (offset_at tokens)) (sym is) (i, s, refl)
+  stuck i e is s = rw is (i, s, refl)
 
 -- the text of a literal in the list of literals is its `literal_text`
 pub text_is : (g : Grammar) (l : ℕ) (x : List ℕ) → slice_get g.literals l ≡ Some x → x ≡ literal_text g l

@@ -1,6 +1,6 @@
 -- The symbols with a look-ahead in FIRST are those that the edges for FIRST reach from it.
-use Rattle.std.proofs.Common.{ℕ, Contains, take, ◌+◌, ◌≡◌, ◌<◌, ◌⊎◌, ◌↔◌, Bool, true, false, List, [], ◌∷◌, length, map, get_or}
-use Rattle.std.proofs.Common.{All, refl, ap, sym, ◌∙◌, subst, inl, inr, arith}
+use Rattle.std.proofs.Common.{ℕ, Contains, ◌+◌, ◌≡◌, ◌<◌, ◌⊎◌, ◌↔◌, Bool, true, false, List, [], ◌∷◌, length, map, get_or}
+use Rattle.std.proofs.Common.{All, refl, subst, sym, inl, inr, arith}
 use Rattle.std.specs.Prelude.{if◌then◌else◌}
 use Rattle.std.proofs.lemmas.List.Elements.{Contains-get_or}
 use Rattle.ag_grammar.specs.declared.grammar.Item.TheVariants as item
@@ -16,12 +16,17 @@ use Rattle.closure.specs.declared.edges.Edge.{Edge}
 use Rattle.closure.proofs.Positions.{element_at, position_of_element}
 use Rattle.closure.proofs.Reached.{reached_in, step}
 use Rattle.llparse.specs.Ahead.{IsNullable, InFirst, of_production, InFirstOf, here, inside, later}
-use Rattle.llparse.specs.table.Edges.{Adds, starting_items, node_in, InFirstOfItem, IsEdge, IsFirstEdge, IsKnownAhead, OfSome}
-use Rattle.llparse.specs.table.Nodes.{node_of, index_of}
+use Rattle.llparse.specs.table.Edges.{starting_items, node_in, InFirstOfItem, IsFirstEdge, IsKnownAhead, OfSome}
+use Rattle.llparse.specs.table.Nodes.{index_of}
 use Rattle.llparse.specs.table.Nullable.{is_nullable_item}
 use Rattle.llparse.specs.declared.ahead.Ahead.{Ahead}
 use Rattle.llparse.specs.declared.ahead.Ahead.TheVariants as ahead
-use Rattle.llparse.proofs.look_ahead.Edges.{adds_more, contains_none, contains_here, contains_there, cons_cases}
+use Rattle.llparse.proofs.look_ahead.Edges.{contains_none, contains_here, contains_there, cons_cases}
+
+-- an element of a list that is empty unless b holds
+within_if : (b : Bool) (zs : List Item) (y : Item) → Contains (if b then zs else []) y → (b ≡ true) × Contains zs y
+within_if true zs y h = (refl, h)
+within_if false zs y h = absurd (contains_none y h)
 
 module _ (g : Grammar) (ok : IsAccepted g) where
   -- an item of a production is named
@@ -40,7 +45,7 @@ module _ (g : Grammar) (ok : IsAccepted g) where
   node_below (item.Terminal (Class c)) h = let lt = ok.named.classes_known h.0 c h.1 in omega arith
 
   pub symbol_item : (y : Item) (u : ℕ) → u < length g.symbols → u ≡ node_in g y → y ≡ item.Symbol u
-  symbol_item (item.Symbol s) u lt e = ap item.Symbol (sym e)
+  symbol_item (item.Symbol s) u lt e = cc
   symbol_item (item.Terminal a) u lt e = absurd (omega arith)
 
   pub known_terminal : (a : Terminal) → IsNamedItem g (item.Terminal a) → IsKnownAhead g (ahead.Terminal a)
@@ -50,12 +55,11 @@ module _ (g : Grammar) (ok : IsAccepted g) where
   -- look-aheads with the same index are equal
   pub same_ahead : (x y : Ahead) → IsKnownAhead g x → IsKnownAhead g y
       → index_of (length g.literals) x ≡ index_of (length g.literals) y → x ≡ y
-  same_ahead (ahead.Terminal (Literal l)) (ahead.Terminal (Literal m)) h k e = ap (λ z. ahead.Terminal (Literal z)) e
+  same_ahead (ahead.Terminal (Literal l)) (ahead.Terminal (Literal m)) h k e = cc
   same_ahead (ahead.Terminal (Literal l)) (ahead.Terminal (Class c)) h k e = absurd (omega arith)
   same_ahead (ahead.Terminal (Literal l)) ahead.End h k e = absurd (omega arith)
   same_ahead (ahead.Terminal (Class c)) (ahead.Terminal (Literal m)) h k e = absurd (omega arith)
-  same_ahead (ahead.Terminal (Class c)) (ahead.Terminal (Class d)) h k e = let same : c ≡ d = omega arith in
-      ap (λ z. ahead.Terminal (Class z)) same
+  same_ahead (ahead.Terminal (Class c)) (ahead.Terminal (Class d)) h k e = let same : c ≡ d = omega arith in cc
   same_ahead (ahead.Terminal (Class c)) ahead.End h k e = absurd (omega arith)
   same_ahead ahead.End (ahead.Terminal (Literal m)) h k e = absurd (omega arith)
   same_ahead ahead.End (ahead.Terminal (Class c)) h k e = absurd (omega arith)
@@ -69,57 +73,17 @@ module _ (g : Grammar) (ok : IsAccepted g) where
   first_below : (s : ℕ) (a : Terminal) → InFirst g s a → s < length g.symbols
   first_below s a (of_production p q e l h) = rw (← l) (ok.named.left_sides p q e)
 
+  abbrev root : Ahead → ℕ
+  root x = length g.symbols + index_of (length g.literals) x
+
   module _ (n : ℕ → Bool) where
     prefix_within : (xs : List Item) (y : Item) → Contains (starting_items n xs) y → Contains xs y
     prefix_within [] y h = h
-    prefix_within (x ∷ xs) y h = elim (cons_cases x (if is_nullable_item n x then starting_items n xs else []) y h) [
+    prefix_within (x ∷ xs) y h = elim (cons_cases x _ y h) [
       | inl e ↦ rw e (contains_here y xs)
-      | inr more ↦ contains_there x xs y (prefix_within xs y (among (is_nullable_item n x) (starting_items n xs) more))
+      | inr more ↦
+          contains_there x xs y (prefix_within xs y (within_if (is_nullable_item n x) (starting_items n xs) y more).1)
     ]
-      where
-        among : (b : Bool) (zs : List Item) → Contains (if b then zs else []) y → Contains zs y
-        among true zs h = h
-        among false zs h = absurd (contains_none y h)
-
-    later_at : (xs : List Item) (y : Item) (a : Terminal) (s : ℕ) (b : Bool) → (b ≡ true → IsNullable g s)
-        → (Contains (starting_items n xs) y → InFirstOf g xs a)
-        → Contains (if b then starting_items n xs else []) y → InFirstOf g (item.Symbol s ∷ xs) a
-    later_at xs y a s true sound rec h = later (sound refl) (rec h)
-    later_at xs y a s false sound rec h = absurd (contains_none y h)
-
-    later_in : ((s : ℕ) → n s ≡ true → IsNullable g s) → (xs : List Item) (y : Item) (a : Terminal) (x : Item)
-        → (Contains (starting_items n xs) y → InFirstOf g xs a)
-        → Contains (if is_nullable_item n x then starting_items n xs else []) y → InFirstOf g (x ∷ xs) a
-    later_in sound xs y a (item.Symbol s) rec h = later_at xs y a s (n s) (sound s) rec h
-    later_in sound xs y a (item.Terminal b) rec h = absurd (contains_none y h)
-
-    -- a terminal in FIRST of a starting item of some items is in FIRST of the items
-    pub prefix_first : ((s : ℕ) → n s ≡ true → IsNullable g s) → (xs : List Item) (y : Item) (a : Terminal)
-        → Contains (starting_items n xs) y → ((zs : List Item) → InFirstOf g (y ∷ zs) a) → InFirstOf g xs a
-    prefix_first sound [] y a h begins = absurd (contains_none y h)
-    prefix_first sound (x ∷ xs) y a h begins =
-        elim (cons_cases x (if is_nullable_item n x then starting_items n xs else []) y h) [
-          | inl e ↦ rw e (begins xs)
-          | inr more ↦ later_in sound xs y a x (λ k. prefix_first sound xs y a k begins) more
-        ]
-
-    -- if the edges of the productions before index `at` were added, and then those of the production there, all up to it were
-    -- added
-    pub edges_more : (at : ℕ) (q : Production) (symbols literals left : ℕ) (items : List Item) (k : ℕ) (A B C : Edge → Type 0)
-        → at < length g.productions → symbols ≡ length g.symbols → literals ≡ length g.literals
-        → left ≡ (get_or g.productions at q).left
-        → items ≡ (get_or g.productions at q).items → take k items ≡ starting_items n items
-        → Adds (OfSome (IsFirstEdge g n) (take at g.productions)) A B
-        → Adds (OfSome (λ x e. IsEdge (node_of symbols literals x) left e) (take k items)) B C
-        → Adds (OfSome (IsFirstEdge g n) (take (at + 1) g.productions)) A C
-    edges_more at q symbols literals left items k A B C lt ss ll to same fits old new =
-        let q' = get_or g.productions at q in
-        let a = subst (λ z. Adds (OfSome (λ x e. IsEdge (node_of z literals x) left e) (take k items)) B C) ss new in
-        let b = subst (λ z. Adds (OfSome (λ x e. IsEdge (node_of (length g.symbols) z x) left e) (take k items)) B C) ll a in
-        let c = subst (λ z. Adds (OfSome (λ x e. IsEdge (node_in g x) z e) (take k items)) B C) to b in
-        let d =
-        subst (λ zs. Adds (OfSome (λ x e. IsEdge (node_in g x) q'.left e) zs) B C) (fits ∙ ap (starting_items n) same) c in
-        adds_more (IsFirstEdge g n) g.productions at q A B C lt old d
 
     -- the edges are between nodes
     pub edges_below : (edges : List Edge) → ((e : Edge) → Contains edges e → OfSome (IsFirstEdge g n) g.productions e)
@@ -131,107 +95,95 @@ module _ (g : Grammar) (ok : IsAccepted g) where
         let is = r.2.2 in
         record { from = rw is.tail from; to = omega (arith, is.head) }
 
-    module _ (edges : List Edge) (x : Ahead) (known : IsKnownAhead g x) where
-      abbrev root : ℕ
-      root = length g.symbols + index_of (length g.literals) x
+    module _ (known_empty : (s : ℕ) → n s ≡ true ↔ IsNullable g s) where
+      after_nullable : (x : Item) (xs : List Item) (a : Terminal) → is_nullable_item n x ≡ true → InFirstOf g xs a
+          → InFirstOf g (x ∷ xs) a
+      after_nullable (item.Symbol s) xs a h k = later ((known_empty s).0 h) k
+      after_nullable (item.Terminal b) xs a h k = cc
 
-      abbrev Reached : ℕ → Type 0
-      Reached t = Follows (map clause_of_edge edges) (root ∷ []) t
+      -- a terminal in FIRST of a starting item of some items is in FIRST of the items
+      prefix_first : (xs : List Item) (y : Item) (a : Terminal) → Contains (starting_items n xs) y
+          → ((zs : List Item) → InFirstOf g (y ∷ zs) a) → InFirstOf g xs a
+      prefix_first [] y a h begins = absurd (contains_none y h)
+      prefix_first (x ∷ xs) y a h begins = elim (cons_cases x _ y h) [
+        | inl e ↦ rw e (begins xs)
+        | inr more ↦
+            let after = within_if (is_nullable_item n x) (starting_items n xs) y more in
+            after_nullable x xs a after.0 (prefix_first xs y a after.1 begins)
+      ]
 
-      abbrev May : ℕ → Type 0
-      May t = (a : Terminal) × (x ≡ ahead.Terminal a) × InFirst g t a
+      module _ (edges : List Edge) (exact : (e : Edge) → Contains edges e ↔ OfSome (IsFirstEdge g n) g.productions e) where
+        abbrev Reached : Ahead → ℕ → Type 0
+        Reached x t = Follows (map clause_of_edge edges) (root x ∷ []) t
 
-      root_item : (y : Item) → IsNamedItem g y → node_in g y ≡ root
-          → (a : Terminal) × (y ≡ item.Terminal a) × (x ≡ ahead.Terminal a)
-      root_item (item.Symbol s) h e = absurd (omega arith)
-      root_item (item.Terminal a) h e =
-          let same : index_of (length g.literals) x ≡ index_of (length g.literals) (ahead.Terminal a) = omega arith in
-          (a, refl, same_ahead x (ahead.Terminal a) known (known_terminal a h) same)
+        -- the node of a symbol with a terminal in FIRST is reached from the node of the terminal
+        mutual
+          first_reached : (s : ℕ) (a : Terminal) → InFirst g s a → Reached (ahead.Terminal a) s
+          first_reached s a (of_production p q e l h) =
+              let r = prefix_reached q.items a h in
+              let new : Edge = record { from = node_in g r.0; to = s } in
+              step edges _ new
+              ((exact new).1 (q, element_at g.productions p q e, (r.0, r.1, record { tail = refl; head = cc }))) r.2
 
-      -- a node that is reached is that of the look-ahead, or that of a symbol with the look-ahead in FIRST
-      reached_may : ((s : ℕ) → n s ≡ true → IsNullable g s)
-          → ((e : Edge) → Contains edges e → OfSome (IsFirstEdge g n) g.productions e) → (t : ℕ) → Reached t → (t ≡ root) ⊎ May t
-      reached_may sound some_edge = reached_in edges (root ∷ []) (λ t. (t ≡ root) ⊎ May t) (λ t h. elim (cons_cases root [] t h) [
-        | inl e ↦ inl (sym e)
-        | inr none ↦ absurd (contains_none t none)
-      ]) (λ e h before.
-          let r = some_edge e h in
-          let q = r.0 in
-          let p = position_of_element g.productions q r.1 in
-          let y = r.2.0 in
-          elim before [
-            | inl at_root ↦
-                let f = root_item y (named_in q y r.1 (prefix_within q.items y r.2.1)) (sym r.2.2.tail ∙ at_root) in
-                inr (
-                  f.0,
-                  f.2,
-                  of_production p.0 q p.1 (sym r.2.2.head)
-                      (prefix_first sound q.items y f.0 r.2.1 (λ zs. subst (λ z. InFirstOf g (z ∷ zs) f.0) (sym f.1) here)),
-                )
-            | inr may ↦
-                let same = symbol_item y e.from (first_below e.from may.0 may.2) r.2.2.tail in
-                inr (
-                  may.0,
-                  may.1,
-                  of_production p.0 q p.1 (sym r.2.2.head)
-                      (prefix_first sound q.items y may.0 r.2.1
-                      (λ zs. subst (λ z. InFirstOf g (z ∷ zs) may.0) (sym same) (inside may.2))),
-                )
-          ])
+          prefix_reached : (xs : List Item) (a : Terminal) → InFirstOf g xs a
+              → (y : Item) × Contains (starting_items n xs) y × Reached (ahead.Terminal a) (node_in g y)
+          prefix_reached (item.Terminal b ∷ xs) a here =
+              (item.Terminal a, contains_here (item.Terminal a) [], seed (contains_here (root (ahead.Terminal a)) []))
+          prefix_reached (item.Symbol s ∷ xs) a (inside h) =
+              (item.Symbol s, contains_here (item.Symbol s) _, first_reached s a h)
+          prefix_reached (item.Symbol s ∷ xs) a (later k h) =
+              let r = prefix_reached xs a h in
+              (r.0, contains_there (item.Symbol s) _ r.0 (rw ((known_empty s).1 k) r.1), r.2)
 
-    -- the node of a symbol with a terminal in FIRST is reached from the node of the terminal
-    module _ (edges : List Edge) (a : Terminal) where
-      abbrev FromTerminal : ℕ → Type 0
-      FromTerminal t =
-          Follows (map clause_of_edge edges) ((length g.symbols + index_of (length g.literals) (ahead.Terminal a)) ∷ []) t
+        reached_of : (x : Ahead) (y : Item) → InFirstOfItem g y x → Reached x (node_in g y)
+        reached_of (ahead.Terminal a) (item.Symbol s) h = first_reached s a h
+        reached_of ahead.End (item.Symbol s) h = absurd h
+        reached_of x (item.Terminal b) h = rw (← h) (seed (contains_here (node_in g (item.Terminal b)) []))
 
-      mutual
-        first_reached : ((s : ℕ) → IsNullable g s → n s ≡ true)
-            → ((e : Edge) → OfSome (IsFirstEdge g n) g.productions e → Contains edges e) → (s : ℕ) (b : Terminal) → b ≡ a
-            → InFirst g s b → FromTerminal s
-        first_reached whole all_edges s b is (of_production p q e l h) =
-            let r = prefix_reached whole all_edges q.items b is h in
-            step edges _ (record { from = node_in g r.0; to = s })
-            (all_edges (record { from = node_in g r.0; to = s })
-            (q, element_at g.productions p q e, (r.0, r.1, record { tail = refl; head = sym l }))) r.2
+        module _ (x : Ahead) (known : IsKnownAhead g x) where
+          abbrev May : ℕ → Type 0
+          May t = (a : Terminal) × (x ≡ ahead.Terminal a) × InFirst g t a
 
-        prefix_reached : ((s : ℕ) → IsNullable g s → n s ≡ true)
-            → ((e : Edge) → OfSome (IsFirstEdge g n) g.productions e → Contains edges e) → (xs : List Item) (b : Terminal) → b ≡ a
-            → InFirstOf g xs b → (y : Item) × Contains (starting_items n xs) y × FromTerminal (node_in g y)
-        prefix_reached whole all_edges (item.Terminal c ∷ xs) b is here = (
-          item.Terminal a,
-          subst (λ z. Contains (item.Terminal c ∷ []) (item.Terminal z)) is (contains_here (item.Terminal c) []),
-          seed (contains_here (node_in g (item.Terminal a)) []),
-        )
-        prefix_reached whole all_edges (item.Symbol s ∷ xs) b is (inside h) = (
-          item.Symbol s,
-          contains_here (item.Symbol s) (if n s then starting_items n xs else []),
-          first_reached whole all_edges s b is h,
-        )
-        prefix_reached whole all_edges (item.Symbol s ∷ xs) b is (later k h) =
-            let r = prefix_reached whole all_edges xs b is h in
-            (r.0, contains_there (item.Symbol s) (if n s then starting_items n xs else []) r.0 (rw (whole s k) r.1), r.2)
+          root_item : (y : Item) → IsNamedItem g y → node_in g y ≡ root x
+              → (a : Terminal) × (y ≡ item.Terminal a) × (x ≡ ahead.Terminal a)
+          root_item (item.Symbol s) h e = absurd (omega arith)
+          root_item (item.Terminal a) h e =
+              (a, refl, same_ahead x (ahead.Terminal a) known (known_terminal a h) (omega arith))
 
-    module _ (edges : List Edge) (known_empty : (s : ℕ) → n s ≡ true ↔ IsNullable g s)
-        (exact : (e : Edge) → Contains edges e ↔ OfSome (IsFirstEdge g n) g.productions e) where
-      begins_of : (x : Ahead) (known : IsKnownAhead g x) (y : Item) → IsNamedItem g y
-          → (node_in g y ≡ root edges x known) ⊎ May edges x known (node_in g y) → InFirstOfItem g y x
-      begins_of x known (item.Symbol s) h (inl e) = absurd (omega arith)
-      begins_of x known (item.Symbol s) h (inr may) = rw may.1 may.2
-      begins_of x known (item.Terminal b) h (inl e) = let f = root_item edges x known (item.Terminal b) h e in
-          rw f.2 (ap ahead.Terminal (let same : b ≡ f.0 = (let e = f.1 in cc) in same))
-      begins_of x known (item.Terminal b) h (inr may) = let lt = first_below (node_in g (item.Terminal b)) may.0 may.2 in
-          absurd (omega arith)
+          -- a node that is reached is that of the look-ahead, or that of a symbol with the look-ahead in FIRST
+          reached_may : (t : ℕ) → Reached x t → (t ≡ root x) ⊎ May t
+          reached_may = reached_in edges (root x ∷ []) (λ t. (t ≡ root x) ⊎ May t) (λ t h. elim (cons_cases (root x) [] t h) [
+            | inl e ↦ inl (cc)
+            | inr none ↦ absurd (contains_none t none)
+          ]) (λ e h before.
+              let r = (exact e).0 h in
+              let q = r.0 in
+              let p = position_of_element g.productions q r.1 in
+              let y = r.2.0 in
+              elim before [
+                | inl at_root ↦
+                    let f = root_item y (named_in q y r.1 (prefix_within q.items y r.2.1)) (cc (r.2.2.tail, at_root)) in
+                    inr (
+                      f.0,
+                      f.2,
+                      of_production p.0 q p.1 (cc)
+                          (prefix_first q.items y f.0 r.2.1 (λ zs. subst (λ z. InFirstOf g (z ∷ zs) f.0) (sym f.1) here)),
+                    )
+                | inr may ↦
+                    let same = symbol_item y e.from (first_below e.from may.0 may.2) r.2.2.tail in
+                    inr (
+                      may.0,
+                      may.1,
+                      of_production p.0 q p.1 (cc) (prefix_first q.items y may.0 r.2.1 (λ zs. rw same (inside may.2))),
+                    )
+              ])
 
-      reached_of : (x : Ahead) (known : IsKnownAhead g x) (y : Item) → InFirstOfItem g y x → Reached edges x known (node_in g y)
-      reached_of (ahead.Terminal a) known (item.Symbol s) h =
-          first_reached edges a (λ t. (known_empty t).1) (λ e. (exact e).1) s a refl h
-      reached_of ahead.End known (item.Symbol s) h = absurd h
-      reached_of x known (item.Terminal b) h = rw (← h) (seed (contains_here (node_in g (item.Terminal b)) []))
+          begins_of : (y : Item) → IsNamedItem g y → (node_in g y ≡ root x) ⊎ May (node_in g y) → InFirstOfItem g y x
+          begins_of (item.Symbol s) h (inl e) = absurd (omega arith)
+          begins_of (item.Symbol s) h (inr may) = rw may.1 may.2
+          begins_of (item.Terminal b) h (inl e) = let f = root_item (item.Terminal b) h e in cc (f.1, f.2)
+          begins_of (item.Terminal b) h (inr may) = let lt = first_below (node_in g (item.Terminal b)) may.0 may.2 in
+              absurd (omega arith)
 
-      pub first_iff : (x : Ahead) (known : IsKnownAhead g x) (y : Item) → IsNamedItem g y
-          → Reached edges x known (node_in g y) ↔ InFirstOfItem g y x
-      first_iff x known y h = (
-        λ r. begins_of x known y h (reached_may edges x known (λ t. (known_empty t).0) (λ e. (exact e).0) (node_in g y) r),
-        reached_of x known y,
-      )
+          pub first_iff : (y : Item) → IsNamedItem g y → Reached x (node_in g y) ↔ InFirstOfItem g y x
+          first_iff y h = (λ r. begins_of y h (reached_may (node_in g y) r), reached_of x y)

@@ -1,5 +1,5 @@
 -- The consequences of the clauses of a grammar are its nullable symbols.
-use Rattle.std.proofs.Common.{ℕ, ◌+◌, ◌<◌, ◌↔◌, List, [], ◌∷◌, length, map, get_or, All, ap, arith}
+use Rattle.std.proofs.Common.{ℕ, ◌+◌, ◌<◌, ◌↔◌, List, [], ◌∷◌, length, map, get_or, All, arith}
 use Rattle.std.proofs.lemmas.List.Elements.{All-head, All-map, All-tail, Contains-get_or}
 use Rattle.ag_grammar.specs.declared.grammar.Item.TheVariants as item
 use Rattle.ag_grammar.specs.declared.grammar.Item.{Item}
@@ -7,7 +7,6 @@ use Rattle.ag_grammar.specs.grammars.AttributeGrammar.{Grammar}
 use Rattle.ag_grammar.specs.grammars.Accepted.{IsAccepted}
 use Rattle.closure.specs.Clauses.{IsClauseBelow}
 use Rattle.closure.specs.Following.{Follows, FollowAll, by_clause, nothing as no_number, one_more}
-use Rattle.closure.specs.declared.clause.Clause.{Clause}
 use Rattle.closure.proofs.Following.{follows_in}
 use Rattle.closure.proofs.Positions.{at_mapped, mapped_at}
 use Rattle.llparse.specs.Ahead.{IsNullable, by_production, AreNullable, nothing, a_symbol}
@@ -49,7 +48,7 @@ module _ (g : Grammar) (ok : IsAccepted g) where
   follows_nullable : (s : ℕ) → Follows (clauses_of g) [] s → IsNullable g s
   follows_nullable = follows_in (clauses_of g) [] (IsNullable g) (λ t none. absurd (omega (arith, none.1))) (λ p c e all.
       let w = mapped_at (clause_of (length g.symbols) (length g.literals)) g.productions p c e in
-      by_production p w.0 w.1 (ap (λ (d : Clause). d.head) w.2) (items_nullable w.0.items (rw (← w.2) at all)))
+      by_production p w.0 w.1 (cc) (items_nullable w.0.items (rw (← w.2) at all)))
 
   mutual
     nullable_follows : (s : ℕ) → IsNullable g s → Follows (clauses_of g) [] s

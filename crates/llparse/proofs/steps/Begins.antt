@@ -1,6 +1,7 @@
 -- The open nodes can be completed to a whole tree, since each symbol of an accepted grammar has a tree.
-use Rattle.std.proofs.Common.{◌≡◌, ℕ, ◌<◌, List, [], ◌∷◌, ◌++◌, length, Some, slice_get, refl, ap, sym, ◌∙◌, subst}
+use Rattle.std.proofs.Common.{◌≡◌, ℕ, ◌<◌, List, [], ◌∷◌, ◌++◌, Contains, length, refl}
 use Rattle.std.proofs.Common.{append_assoc, arith}
+use Rattle.std.proofs.lemmas.List.Elements.{Contains-append_right}
 use Rattle.std.proofs.lemmas.Option.{slice_get_within}
 use Rattle.std.proofs.lemmas.Str.{is_utf8-from_IsUtf8}
 use Rattle.ag_grammar.specs.declared.grammar.Item.TheVariants as item
@@ -12,21 +13,19 @@ use Rattle.ag_grammar.specs.grammars.AttributeGrammar.{Grammar, stored_items, Is
 use Rattle.ag_grammar.specs.grammars.Tree.{IsTokenText, Tree, leaf, node, Forest, none, more, Fits, FitsAll}
 use Rattle.ag_grammar.specs.grammars.Yield.{Lexeme, yield_along, yield_of}
 use Rattle.ag_grammar.proofs.grammars.Productive.{by_trees}
+use Rattle.closure.proofs.Positions.{element_at}
+use Rattle.llparse.proofs.look_ahead.Edges.{contains_here}
+use Rattle.llparse.proofs.look_ahead.Firsts.{named_in}
 use Rattle.llparse.specs.sentence.Opened.{joined, Open, open_at, Continues, IsCutAt, IsNext, IsStack}
 use Rattle.llparse.specs.sentence.Parsing.{Task, Output, IsTreeAfter, Reading, AtSymbol}
 use Rattle.llparse.specs.declared.sentence.parser.OpenProduction.{OpenProduction}
-use Rattle.llparse.proofs.steps.Steps as step
-
-here : {A : Type 0} (xs : List A) (x : A) (ys : List A) → slice_get (xs ++ x ∷ ys) (length xs) ≡ Some x
-here [] x ys = refl
-here (z ∷ xs) x ys = here xs x ys
 
 -- a token's text may be empty
 no_text : IsTokenText []
 no_text = record { utf8 = is_utf8-from_IsUtf8 [] ([], (refl, refl)); short = omega arith }
 
 is_next : (g : Grammar) (os : List Open) (s : ℕ) → IsStack g os s → IsNext g os (item.Symbol s)
-is_next g [] s is = ap item.Symbol is
+is_next g [] s is = cc
 is_next g (o ∷ os) s is = is
 
 module _ (g : Grammar) (accepted : IsAccepted g) where
@@ -37,9 +36,8 @@ module _ (g : Grammar) (accepted : IsAccepted g) where
   symbol_tree : (p : ℕ) (q : Production) → IsProduction g p q → (before ys : List Item) (s : ℕ)
       → q.items ≡ before ++ item.Symbol s ∷ ys → (t : Tree) × Fits g (item.Symbol s) t
   symbol_tree p q get before ys s e =
-      let there : slice_get q.items (length before) ≡ Some (item.Symbol s) =
-      subst (λ zs. slice_get zs (length before) ≡ Some (item.Symbol s)) (sym e) (here before (item.Symbol s) ys) in
-      tree_of s (accepted.named.items_named p q get (length before) (item.Symbol s) there)
+      let there : Contains q.items (item.Symbol s) = rw e (Contains-append_right before _ _ (contains_here (item.Symbol s) ys)) in
+      tree_of s (named_in g accepted q (item.Symbol s) (element_at g.productions p q get) there)
 
   -- trees of the remaining items of a right side
   columns_of : (p : ℕ) (q : Production) → IsProduction g p q → (before ys : List Item) → q.items ≡ before ++ ys
@@ -47,34 +45,26 @@ module _ (g : Grammar) (accepted : IsAccepted g) where
   columns_of p q get before [] e = (none, tt)
   columns_of p q get before (item.Symbol s ∷ ys) e =
       let one = symbol_tree p q get before ys s e in
-      let others = columns_of p q get (before ++ item.Symbol s ∷ []) ys (e ∙ sym (append_assoc before (item.Symbol s ∷ []) ys)) in
+      let others = columns_of p q get (before ++ item.Symbol s ∷ []) ys (rw append_assoc e) in
       (more one.0 others.0, (one.1, others.1))
   columns_of p q get before (item.Terminal (Class c) ∷ ys) e =
-      let others =
-      columns_of p q get (before ++ item.Terminal (Class c) ∷ []) ys
-      (e ∙ sym (append_assoc before (item.Terminal (Class c) ∷ []) ys)) in
+      let others = columns_of p q get (before ++ item.Terminal (Class c) ∷ []) ys (rw append_assoc e) in
       (more (leaf c []) others.0, ((refl, no_text), others.1))
   columns_of p q get before (item.Terminal (Literal l) ∷ ys) e =
-      let others =
-      columns_of p q get (before ++ item.Terminal (Literal l) ∷ []) ys
-      (e ∙ sym (append_assoc before (item.Terminal (Literal l) ∷ []) ys)) in
-      (others.0, step.before g others.0 l ys others.1)
+      columns_of p q get (before ++ item.Terminal (Literal l) ∷ []) ys (rw append_assoc e)
 
   -- a whole tree around a child of the open nodes
   pub finish : (os : List Open) (s : ℕ) → IsStack g os s → (c : Tree) → (ws : List Lexeme) × (t : Tree) × Continues g os c ws t
   finish [] s is c = ([], c, (refl, refl))
   finish (o ∷ os) s (q, before, get, items, is) c =
-      let fs =
-      columns_of o.production q get (before ++ item.Symbol s ∷ []) o.rest
-      (items ∙ sym (append_assoc before (item.Symbol s ∷ []) o.rest)) in
+      let fs = columns_of o.production q get (before ++ item.Symbol s ∷ []) o.rest (rw append_assoc items) in
       let outer = finish os q.left is (node o.production (joined o.done (more c fs.0))) in
       (yield_along g o.rest fs.0 ++ outer.0, outer.1, (fs.0, outer.0, fs.1, refl, outer.2))
 
   -- a tree of the expected symbol
   some_tree : (os : List Open) (s : ℕ) → IsStack g os s → (t : Tree) × Fits g (item.Symbol s) t
   some_tree [] s is =
-      subst (λ z. (t : Tree) × Fits g (item.Symbol z) t) (sym is)
-      (tree_of g.start (slice_get_within g.symbols g.start accepted.start.symbol accepted.start.declared))
+      rw is (tree_of g.start (slice_get_within g.symbols g.start accepted.start.symbol accepted.start.declared))
   some_tree (o ∷ os) s (q, before, get, items, is) = symbol_tree o.production q get before o.rest s items
 
 module _ (k : Task) (accepted : IsAccepted k.grammar) where
@@ -115,9 +105,7 @@ module _ (k : Task) (accepted : IsAccepted k.grammar) where
       → (rest : List Lexeme) × (t : Tree) × IsTreeAfter k i rest t × IsCutAt k.grammar (open_at p r.done ys ∷ r.under) rest t
   begins_leaf {p = p} {c = c} {ys = ys} r =
       let s = r.occurs in
-      let own =
-      columns_of k.grammar accepted p s.0 s.2 (s.1 ++ item.Terminal (Class c) ∷ []) ys
-      (s.3 ∙ sym (append_assoc s.1 (item.Terminal (Class c) ∷ []) ys)) in
+      let own = columns_of k.grammar accepted p s.0 s.2 (s.1 ++ item.Terminal (Class c) ∷ []) ys (rw append_assoc s.3) in
       let outer = finish k.grammar accepted r.under s.0.left s.4 (node p (joined r.done (more (leaf c []) own.0))) in
       let following = yield_along k.grammar ys own.0 ++ outer.0 in
       let rest = yield_of k.grammar (leaf c []) ++ following in (

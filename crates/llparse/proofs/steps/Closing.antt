@@ -1,8 +1,7 @@
 -- The invariants of closing a node, and the state at the end.
-use Rattle.std.proofs.Common.{◌≡◌, ℕ, ◌<◌, ◌≤◌, List, [], ◌∷◌, ◌++◌, length, take, drop, refl, ap, sym, ◌∙◌, subst}
+use Rattle.std.proofs.Common.{◌≡◌, ℕ, ◌<◌, ◌≤◌, List, [], ◌∷◌, ◌++◌, length, take, drop, refl}
 use Rattle.std.proofs.Common.{append_assoc, append-nil, arith}
 use Rattle.std.proofs.lemmas.List.{drop_all, length-drop, take_all}
-use Rattle.ag_value.specs.declared.value.Value.{Value}
 use Rattle.ag_grammar.specs.declared.grammar.Item.TheVariants as item
 use Rattle.ag_grammar.specs.grammars.AttributeGrammar.{Grammar}
 use Rattle.ag_grammar.specs.grammars.Tree.{Tree, node, Forest, none, more}
@@ -13,7 +12,7 @@ use Rattle.llparse.specs.sentence.Opened.{joined, Open, open_at, Completes, Fits
 use Rattle.treefile.specs.records.FirstFile.{leaf_texts}
 use Rattle.llparse.specs.sentence.Parsing.{Task, Output, IsTreeAfter, Shows, kept, written, Agrees, Reading, Between, Finished}
 use Rattle.llparse.specs.sentence.Parsing.{IsParsed, node_frame, tree_frames, forest_frames}
-use Rattle.llparse.specs.sentence.Sentences.{IsTreeWith, IsStuckAt}
+use Rattle.llparse.specs.sentence.Sentences.{IsStuckAt}
 use Rattle.llparse.specs.declared.ahead.Ahead.TheVariants as ahead
 use Rattle.llparse.specs.declared.sentence.parser.OpenProduction.{OpenProduction}
 use Rattle.llparse.proofs.answers.Kept.{parted, texts-joined}
@@ -54,15 +53,17 @@ module _ (k : Task) where
           let parts = parted rs.texts (kept (o ∷ os)) (leaf_texts r.done) base held.texts begins in
           let own : List ℕ = node_frame p (leaf_texts r.done) in
           let content : WhenHonest k.honest (out.bytes ≡ k.prefix ++ (written os ++ forest_frames d)) = λ h.
-          put h ∙ ap (λ (z : List Value). rs.bytes ++ node_frame p z) parts.1 ∙ ap (λ z. z ++ own) (held.content h)
-          ∙ append_assoc k.prefix ((written os ++ forest_frames o.done) ++ forest_frames r.done) own
-          ∙ ap (λ z. k.prefix ++ z) (append_assoc (written os ++ forest_frames o.done) (forest_frames r.done) own
-          ∙ append_assoc (written os) (forest_frames o.done) (tree_frames (node p r.done))
-          ∙ ap (λ z. written os ++ (forest_frames o.done ++ z)) (sym (append-nil (tree_frames (node p r.done))))
-          ∙ ap (λ z. written os ++ z) (sym (size.forest_frames-joined o.done (more (node p r.done) none)))) in
+          cc (
+            put h,
+            held.content h,
+            append_assoc k.prefix ((written os ++ forest_frames o.done) ++ forest_frames r.done) own,
+            append_assoc (written os ++ forest_frames o.done) (forest_frames r.done) own,
+            append_assoc (written os) (forest_frames o.done) (tree_frames (node p r.done)),
+            append-nil (tree_frames (node p r.done)),
+            size.forest_frames-joined o.done (more (node p r.done) none),
+          ) in
           let texts : out.texts ≡ kept os ++ leaf_texts d =
-          cut ∙ parts.0 ∙ ap (λ z. kept os ++ z)
-          (sym (texts-joined o.done (more (node p r.done) none) ∙ append-nil (leaf_texts o.done))) in
+          cc (texts-joined o.done (more (node p r.done) none), append-nil (leaf_texts o.done)) in
           let whole : Reading k o.production f.base o.rest fs i n out = record {
             done = d;
             under = os;
@@ -81,7 +82,7 @@ module _ (k : Task) where
               expected_symbol.0,
               expected_symbol.1 ++ item.Symbol occurs.0.left ∷ [],
               expected_symbol.2,
-              expected_symbol.3 ∙ sym (append_assoc expected_symbol.1 (item.Symbol occurs.0.left ∷ []) o.rest),
+              rw append_assoc expected_symbol.3,
               expected_symbol.4,
             );
             sound =
@@ -93,8 +94,7 @@ module _ (k : Task) where
                 λ rest t e w. (step.child k.grammar o.production o.done o.rest os (node p r.done) rest t).0
                 ((step.close k.grammar p r.done (o ∷ os) rest t).0 (complete rest t e w));
           } in
-          subst (λ x. Reading k f.production f.base x fs i n out) shows.1
-          (subst (λ x. Reading k x f.base o.rest fs i n out) shows.0 whole)
+          rw (shows.0, shows.1) at whole
 
   -- if the node that is closed is the root, the tree is done
   pub on_root : {p base i n : ℕ} {rs : Output} (out : Output)
@@ -115,9 +115,7 @@ module _ (k : Task) where
             tree = node p r.done;
             within = held.within;
             content =
-                λ h. put h ∙ ap (λ (z : List Value). rs.bytes ++ node_frame p z) own
-                ∙ ap (λ z. z ++ node_frame p (leaf_texts r.done)) (held.content h)
-                ∙ append_assoc k.prefix (forest_frames r.done) (node_frame p (leaf_texts r.done));
+                λ h. cc (put h, held.content h, append_assoc k.prefix (forest_frames r.done) (node_frame p (leaf_texts r.done)));
             counted = omega arith;
             few = held.few;
             shallow = omega arith;
@@ -136,11 +134,10 @@ module _ (k : Task) where
       let few = w.few in
       record {
         tree = w.tree;
-        has_words = subst (λ ws. IsTreeWith k.grammar ws w.tree) (append-nil (take i k.words) ∙ every) w.sound;
+        has_words = rw (append-nil, every) at w.sound;
         only =
             λ t h.
-            (w.complete [] t (sym (ap ahead_of none_left))
-            (subst (λ ws. IsTreeWith k.grammar ws t) (sym (append-nil (take i k.words) ∙ every)) h)).1;
+            (w.complete [] t (cc) (rw (append-nil, every) h)).1;
         content = w.content;
         counted = counted;
         few = omega arith;
@@ -154,7 +151,7 @@ module _ (k : Task) where
     begins = ([], w.tree, w.sound);
     ends = λ rest t e h.
         let nil : rest ≡ [] = (w.complete rest t e h).0 in
-        let none_left = ends (drop i k.words) (sym e ∙ ap ahead_of nil) in
-        let zero_left : length (drop i k.words) ≡ 0 = ap length none_left in
+        let none_left = ends (drop i k.words) (cc) in
+        let zero_left : length (drop i k.words) ≡ 0 = cc in
         omega (arith, length-drop i k.words);
   }

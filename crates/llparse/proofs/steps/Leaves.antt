@@ -1,5 +1,5 @@
 -- The invariants of taking a token of a class.
-use Rattle.std.proofs.Common.{◌≡◌, ℕ, suc, ◌+◌, ◌<◌, ◌≤◌, List, [], ◌∷◌, ◌++◌, length, drop, ap, sym, ◌∙◌, subst, append_assoc}
+use Rattle.std.proofs.Common.{◌≡◌, ℕ, suc, ◌+◌, ◌<◌, ◌≤◌, List, [], ◌∷◌, ◌++◌, length, drop, append_assoc}
 use Rattle.std.proofs.Common.{append-nil, arith}
 use Rattle.ag_value.specs.declared.value.Value.{Text}
 use Rattle.ag_grammar.specs.declared.grammar.Item.TheVariants as item
@@ -10,14 +10,12 @@ use Rattle.ag_grammar.specs.grammars.AttributeGrammar.{Grammar}
 use Rattle.ag_grammar.specs.grammars.Tree.{IsTokenText, Tree, leaf, none, more, depth_of, node_count}
 use Rattle.ag_grammar.specs.grammars.Yield.{Lexeme}
 use Rattle.treefile.specs.devices.Device.{WhenHonest}
-use Rattle.llparse.specs.Ahead.{ahead_of}
 use Rattle.llparse.specs.sentence.Opened.{joined, Completes, Open, open_at, opened}
 use Rattle.treefile.specs.records.FirstFile.{leaf_texts}
 use Rattle.llparse.specs.sentence.Parsing.{Task, Output, kept, written, Reading, IsTooDeep, IsTooLarge, leaf_frame, forest_frames}
-use Rattle.llparse.specs.sentence.Sentences.{IsTreeWith, IsStuckAt, LeavesOnly}
-use Rattle.llparse.specs.declared.ahead.Ahead.TheVariants as ahead
+use Rattle.llparse.specs.sentence.Sentences.{LeavesOnly}
 use Rattle.llparse.specs.declared.sentence.parser.OpenProduction.{OpenProduction}
-use Rattle.llparse.proofs.steps.Begins.{begins_leaf, begins_reading}
+use Rattle.llparse.proofs.steps.Begins.{begins_leaf}
 use Rattle.ag_scan.proofs.Lefts.{following}
 use Rattle.llparse.proofs.steps.Prefixes.{one_more}
 use Rattle.llparse.proofs.answers.Kept.{texts-joined}
@@ -45,14 +43,16 @@ module _ (k : Task) where
       let levels = size.deepest-joined r.done (more (leaf c x) none) in
       let content : WhenHonest k.honest
       (out.bytes ≡ k.prefix ++ (written r.under ++ forest_frames (joined r.done (more (leaf c x) none)))) = λ h.
-      put h ∙ ap (λ z. z ++ leaf_frame c x) (r.held.content h)
-      ∙ append_assoc k.prefix (written r.under ++ forest_frames r.done) (leaf_frame c x)
-      ∙ ap (λ z. k.prefix ++ z) (append_assoc (written r.under) (forest_frames r.done) (leaf_frame c x)
-      ∙ ap (λ z. written r.under ++ (forest_frames r.done ++ z)) (sym (append-nil (leaf_frame c x)))
-      ∙ ap (λ z. written r.under ++ z) (sym (size.forest_frames-joined r.done (more (leaf c x) none)))) in
+      cc (
+        put h,
+        r.held.content h,
+        append_assoc k.prefix (written r.under ++ forest_frames r.done) (leaf_frame c x),
+        append_assoc (written r.under) (forest_frames r.done) (leaf_frame c x),
+        append-nil (leaf_frame c x),
+        size.forest_frames-joined r.done (more (leaf c x) none),
+      ) in
       let texts : out.texts ≡ kept r.under ++ leaf_texts (joined r.done (more (leaf c x) none)) =
-      grown ∙ ap (λ z. z ++ Text x ∷ []) r.held.texts ∙ append_assoc (kept r.under) (leaf_texts r.done) (Text x ∷ [])
-      ∙ ap (λ z. kept r.under ++ z) (sym (texts-joined r.done (more (leaf c x) none))) in
+      cc (append_assoc (kept r.under) (leaf_texts r.done) (Text x ∷ []), texts-joined r.done (more (leaf c x) none)) in
       record {
         done = joined r.done (more (leaf c x) none);
         under = r.under;
@@ -67,63 +67,49 @@ module _ (k : Task) where
               few = omega arith;
               shallow = (omega arith, r.held.shallow.1);
             };
-        occurs =
-            (s.0, s.1 ++ item.Terminal (Class c) ∷ [], s.2, s.3 ∙ sym (append_assoc s.1 (item.Terminal (Class c) ∷ []) ys), s.4);
-        sound = λ others t w. subst (λ ws. IsTreeWith k.grammar ws t) (sym (one_more k.words i (Class c, x) rest others next))
-            (r.sound ((Class c, x) ∷ others) t ((step.class k.grammar p r.done c x ys r.under others t text).1 w));
+        occurs = (s.0, s.1 ++ item.Terminal (Class c) ∷ [], s.2, rw append_assoc s.3, s.4);
+        sound = λ others t w. rw (one_more k.words i (Class c, x) rest others next)
+            (r.sound _ t ((step.class k.grammar p r.done c x ys r.under others t text).1 w));
         complete = λ others t e w. (step.class k.grammar p r.done c x ys r.under others t text).0
-            (r.complete ((Class c, x) ∷ others) t (sym (ap ahead_of next))
-            (subst (λ ws. IsTreeWith k.grammar ws t) (one_more k.words i (Class c, x) rest others next) w));
+            (r.complete _ t (cc) (rw (one_more k.words i (Class c, x) rest others next) at w));
       }
 
-  pub no_class : {p base c : ℕ} {ys : List Item} {fs : List OpenProduction} {i n : ℕ} {rs : Output} → IsAccepted k.grammar
-      → (ahead_of (drop i k.words) ≡ ahead.Terminal (Class c) → ⊥)
-      → Reading k p base (item.Terminal (Class c) ∷ ys) fs i n rs → IsStuckAt k.grammar k.words i
-  no_class {p = p} {c = c} {ys = ys} accepted other r = record {
-    within = r.held.within;
-    begins = begins_reading k accepted r;
-    ends = λ rest t e h.
-        let w = step.class_next k.grammar p r.done c ys r.under rest t (r.complete rest t e h) in
-        other (sym e ∙ ap ahead_of w.2);
-  }
+  -- the next item is a leaf, and a limit is reached
+  module _ {p base c : ℕ} {ys : List Item} {fs : List OpenProduction} {i n : ℕ} {rs : Output} (accepted : IsAccepted k.grammar)
+      (r : Reading k p base (item.Terminal (Class c) ∷ ys) fs i n rs) where
+    -- if each tree that has the leaf and the open nodes is beyond the limit, the words leave only trees beyond it
+    beyond_leaf : (size : Tree → ℕ) (begun : List Open → ℕ) (limit : ℕ) → limit ≤ begun (open_at p r.done ys ∷ r.under)
+        → ((x : List ℕ) (ws : List Lexeme) (t : Tree)
+        → Completes k.grammar (open_at p (joined r.done (more (leaf c x) none)) ys) r.under ws t → limit < size t)
+        → LeavesOnly k.grammar k.words size begun limit
+    beyond_leaf size begun limit full passed =
+        let b = begins_leaf k accepted r in
+        record {
+          index = i;
+          within = r.held.within;
+          rest = b.0;
+          tree = b.1;
+          begins = b.2;
+          above = open_at p r.done ys ∷ r.under;
+          cut = b.3;
+          full = full;
+          only = λ others t e h.
+              let w = step.class_next k.grammar p r.done c ys r.under others t (r.complete others t e h) in
+              passed w.0 w.1 t w.3;
+        }
 
-  -- The next item is a leaf, and a limit is reached. If each tree that has the leaf and the open nodes is beyond the limit, the
-  -- words leave only trees beyond it.
-  beyond_leaf : {p base c : ℕ} {ys : List Item} {fs : List OpenProduction} {i n : ℕ} {rs : Output}
-      (size : Tree → ℕ) (begun : List Open → ℕ) (limit : ℕ) → IsAccepted k.grammar
-      → (r : Reading k p base (item.Terminal (Class c) ∷ ys) fs i n rs) → limit ≤ begun (open_at p r.done ys ∷ r.under)
-      → ((x : List ℕ) (ws : List Lexeme) (t : Tree)
-      → Completes k.grammar (open_at p (joined r.done (more (leaf c x) none)) ys) r.under ws t → limit < size t)
-      → LeavesOnly k.grammar k.words size begun limit
-  beyond_leaf {p = p} {c = c} {ys = ys} {i = i} size begun limit accepted r full passed =
-      let b = begins_leaf k accepted r in
-      record {
-        index = i;
-        within = r.held.within;
-        rest = b.0;
-        tree = b.1;
-        begins = b.2;
-        above = open_at p r.done ys ∷ r.under;
-        cut = b.3;
-        full = full;
-        only = λ others t e h. let w = step.class_next k.grammar p r.done c ys r.under others t (r.complete others t e h) in
-            passed w.0 w.1 t w.3;
-      }
+    pub deep_leaf : k.depth ≤ suc (length fs) → IsTooDeep k
+    deep_leaf full =
+        let same = length-shows g r.under fs r.shows in
+        beyond_leaf depth_of (λ above. length above) k.depth (omega arith) (λ x ws t h.
+        let d = size.depth_open k.grammar (open_at p (joined r.done (more (leaf c x) none)) ys) r.under ws t h in
+        let levels = size.deepest-joined r.done (more (leaf c x) none) in
+        omega arith)
 
-  pub deep_leaf : {p base c : ℕ} {ys : List Item} {fs : List OpenProduction} {i n : ℕ} {rs : Output} → IsAccepted k.grammar
-      → k.depth ≤ suc (length fs) → Reading k p base (item.Terminal (Class c) ∷ ys) fs i n rs → IsTooDeep k
-  deep_leaf {p = p} {c = c} {ys = ys} {fs = fs} accepted full r =
-      let same = length-shows g r.under fs r.shows in
-      beyond_leaf depth_of (λ above. length above) k.depth accepted r (omega arith) (λ x ws t h.
-      let d = size.depth_open k.grammar (open_at p (joined r.done (more (leaf c x) none)) ys) r.under ws t h in
-      let levels = size.deepest-joined r.done (more (leaf c x) none) in
-      omega arith)
-
-  pub large_leaf : {p base c : ℕ} {ys : List Item} {fs : List OpenProduction} {i n : ℕ} {rs : Output} → IsAccepted k.grammar
-      → k.nodes ≤ n → Reading k p base (item.Terminal (Class c) ∷ ys) fs i n rs → IsTooLarge k
-  large_leaf {p = p} {c = c} {ys = ys} accepted full r =
-      let counted = r.held.counted in
-      beyond_leaf node_count opened k.nodes accepted r (omega arith) (λ x ws t h.
-      let d = size.count_open k.grammar (open_at p (joined r.done (more (leaf c x) none)) ys) r.under ws t h in
-      let counts = size.node_counts-joined r.done (more (leaf c x) none) in
-      omega arith)
+    pub large_leaf : k.nodes ≤ n → IsTooLarge k
+    large_leaf full =
+        let counted = r.held.counted in
+        beyond_leaf node_count opened k.nodes (omega arith) (λ x ws t h.
+        let d = size.count_open k.grammar (open_at p (joined r.done (more (leaf c x) none)) ys) r.under ws t h in
+        let counts = size.node_counts-joined r.done (more (leaf c x) none) in
+        omega arith)

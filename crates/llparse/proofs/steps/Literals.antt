@@ -1,14 +1,15 @@
--- The invariants of taking a token of a literal.
-use Rattle.std.proofs.Common.{◌≡◌, ℕ, ◌+◌, List, [], ◌∷◌, ◌++◌, drop, ap, sym, ◌∙◌, subst, append_assoc}
+-- The invariants of taking a token of a literal, and of refusing a token.
+use Rattle.std.proofs.Common.{◌≡◌, ℕ, ◌+◌, List, [], ◌∷◌, ◌++◌, drop, append_assoc}
 use Rattle.ag_grammar.specs.declared.grammar.Item.TheVariants as item
 use Rattle.ag_grammar.specs.declared.grammar.Item.{Item}
+use Rattle.ag_grammar.specs.declared.grammar.Terminal.{Terminal}
 use Rattle.ag_grammar.specs.declared.grammar.Terminal.TheVariants.{Literal}
 use Rattle.ag_grammar.specs.grammars.Accepted.{IsAccepted}
 use Rattle.ag_grammar.specs.grammars.AttributeGrammar.{Grammar, literal_text}
 use Rattle.ag_grammar.specs.grammars.Yield.{Lexeme}
 use Rattle.llparse.specs.Ahead.{ahead_of}
 use Rattle.llparse.specs.sentence.Parsing.{Task, Output, Reading}
-use Rattle.llparse.specs.sentence.Sentences.{IsTreeWith, IsStuckAt}
+use Rattle.llparse.specs.sentence.Sentences.{IsStuckAt}
 use Rattle.llparse.specs.declared.ahead.Ahead.TheVariants as ahead
 use Rattle.llparse.specs.declared.sentence.parser.OpenProduction.{OpenProduction}
 use Rattle.llparse.proofs.steps.Begins.{begins_reading}
@@ -40,31 +41,19 @@ module _ (k : Task) where
               few = r.held.few;
               shallow = r.held.shallow;
             };
-        occurs = (
-          s.0,
-          s.1 ++ item.Terminal (Literal l) ∷ [],
-          s.2,
-          s.3 ∙ sym (append_assoc s.1 (item.Terminal (Literal l) ∷ []) ys),
-          s.4,
-        );
-        sound =
-            λ others t w. subst (λ ws. IsTreeWith k.grammar ws t)
-            (sym (one_more k.words i (Literal l, literal_text k.grammar l) rest others next))
-            (r.sound ((Literal l, literal_text k.grammar l) ∷ others) t
-            ((step.literal k.grammar p r.done l ys r.under others t).1 w));
+        occurs = (s.0, s.1 ++ item.Terminal (Literal l) ∷ [], s.2, rw append_assoc s.3, s.4);
+        sound = λ others t w. rw (one_more k.words i (Literal l, literal_text k.grammar l) rest others next)
+            (r.sound _ t ((step.literal k.grammar p r.done l ys r.under others t).1 w));
         complete = λ others t e w. (step.literal k.grammar p r.done l ys r.under others t).0
-            (r.complete ((Literal l, literal_text k.grammar l) ∷ others) t (sym (ap ahead_of next))
-            (subst (λ ws. IsTreeWith k.grammar ws t)
-            (one_more k.words i (Literal l, literal_text k.grammar l) rest others next) w));
+            (r.complete _ t (cc) (rw (one_more k.words i (Literal l, literal_text k.grammar l) rest others next) at w));
       }
 
-  pub no_literal : {p base l : ℕ} {ys : List Item} {fs : List OpenProduction} {i n : ℕ} {rs : Output} → IsAccepted k.grammar
-      → (ahead_of (drop i k.words) ≡ ahead.Terminal (Literal l) → ⊥)
-      → Reading k p base (item.Terminal (Literal l) ∷ ys) fs i n rs → IsStuckAt k.grammar k.words i
-  no_literal {p = p} {l = l} {ys = ys} accepted other r = record {
+  pub no_terminal : {p base : ℕ} {a : Terminal} {ys : List Item} {fs : List OpenProduction} {i n : ℕ} {rs : Output}
+      → IsAccepted k.grammar → (ahead_of (drop i k.words) ≡ ahead.Terminal a → ⊥)
+      → Reading k p base (item.Terminal a ∷ ys) fs i n rs → IsStuckAt k.grammar k.words i
+  no_terminal {p = p} {a = a} {ys = ys} accepted other r = record {
     within = r.held.within;
     begins = begins_reading k accepted r;
     ends = λ rest t e h.
-        let c = step.literal_next k.grammar p r.done l ys r.under rest t (r.complete rest t e h) in
-        other (sym e ∙ ap ahead_of c.1);
+        other (cc (e, step.terminal_next k.grammar p r.done a ys r.under rest t (r.complete rest t e h)));
   }

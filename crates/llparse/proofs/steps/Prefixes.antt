@@ -1,5 +1,5 @@
 -- Prefixes of lists that grow by one element, and stacks from their top.
-use Rattle.std.proofs.Common.{◌≡◌, ℕ, zero, suc, ◌+◌, List, [], ◌∷◌, ◌++◌, take, drop, reverse, ap, sym, ◌∙◌, append_assoc}
+use Rattle.std.proofs.Common.{◌≡◌, ℕ, zero, suc, ◌+◌, List, [], ◌∷◌, ◌++◌, take, drop, reverse, append_assoc}
 use Rattle.std.proofs.Common.{add-one}
 use Rattle.std.proofs.lemmas.List.{reverse-append}
 
@@ -7,14 +7,13 @@ use Rattle.std.proofs.lemmas.List.{reverse-append}
 prefix : {A : Type 0} (xs : List A) (i : ℕ) (x : A) (rest : List A) → drop i xs ≡ x ∷ rest → take (i + 1) xs ≡ take i xs ++ x ∷ []
 prefix [] zero x rest e = absurd (cc)
 prefix [] (suc i) x rest e = absurd (cc)
-prefix (y ∷ ys) zero x rest e = let same : y ≡ x = cc in ap (λ z. z ∷ []) same
-prefix {A} (y ∷ ys) (suc i) x rest e =
-    ap (λ j. take j (y ∷ ys)) (add-one (suc i)) ∙ ap (λ z. y ∷ z) (ap (λ j. take j ys) (sym (add-one i)) ∙ prefix ys i x rest e)
+prefix (y ∷ ys) zero x rest e = let same : y ≡ x = cc in cc
+prefix {A} (y ∷ ys) (suc i) x rest e = cc (add-one (suc i), add-one i, prefix ys i x rest e)
 
 pub one_more : {A : Type 0} (xs : List A) (i : ℕ) (x : A) (rest others : List A) → drop i xs ≡ x ∷ rest
     → take (i + 1) xs ++ others ≡ take i xs ++ (x ∷ others)
-one_more xs i x rest others e = ap (λ z. z ++ others) (prefix xs i x rest e) ∙ append_assoc (take i xs) (x ∷ []) others
+one_more xs i x rest others e = cc (prefix xs i x rest e, append_assoc (take i xs) (x ∷ []) others)
 
 -- a stack from its top, with one element pushed or popped
 pub on_top : {A : Type 0} (less full : List A) (x : A) → full ≡ less ++ x ∷ [] → reverse full ≡ x ∷ reverse less
-on_top less full x e = ap reverse e ∙ reverse-append less (x ∷ [])
+on_top less full x e = cc (reverse-append less (x ∷ []))

@@ -1,5 +1,5 @@
 -- The open nodes of a stack, and the words read so far as a part of all words.
-use Rattle.std.proofs.Common.{◌≡◌, ℕ, suc, List, [], ◌∷◌, ◌++◌, length, take, drop, refl, ap, sym, subst}
+use Rattle.std.proofs.Common.{◌≡◌, ℕ, suc, List, [], ◌∷◌, ◌++◌, length, take, drop, refl, ap}
 use Rattle.std.proofs.lemmas.List.{take-append-drop}
 use Rattle.ag_grammar.specs.grammars.AttributeGrammar.{Grammar}
 use Rattle.ag_grammar.specs.grammars.Tree.{Tree}
@@ -18,4 +18,4 @@ length-shows g (o ∷ os) (f ∷ fs) h = ap suc (length-shows g os fs h.3)
 -- the words so far and the remaining ones are all words
 pub whole : (g : Grammar) (words : List Lexeme) (i : ℕ) (t : Tree) → IsTreeWith g words t
     → IsTreeWith g (take i words ++ drop i words) t
-whole g words i t is = subst (λ ws. IsTreeWith g ws t) (sym (take-append-drop i words)) is
+whole g words i t is = rw take-append-drop is

@@ -1,5 +1,5 @@
 -- The nodes that are open or done are a part of each tree that completes them.
-use Rattle.std.proofs.Common.{◌≡◌, suc, ◌+◌, ◌≤◌, max, List, [], ◌∷◌, ◌++◌, length, refl, ap, sym, ◌∙◌, append_assoc, arith}
+use Rattle.std.proofs.Common.{◌≡◌, suc, ◌+◌, ◌≤◌, max, List, [], ◌∷◌, ◌++◌, length, refl, append_assoc, arith}
 use Rattle.ag_grammar.specs.grammars.AttributeGrammar.{Grammar}
 use Rattle.ag_grammar.specs.grammars.Tree.{Tree, leaf, node, Forest, none, more, depth_of, deepest, node_count, node_counts}
 use Rattle.ag_grammar.specs.grammars.Yield.{Lexeme}
@@ -17,8 +17,7 @@ deepest-joined (more t a) b = let e = deepest-joined a b in omega arith
 pub forest_frames-joined : (a b : Forest) → forest_frames (joined a b) ≡ forest_frames a ++ forest_frames b
 forest_frames-joined none b = refl
 forest_frames-joined (more t a) b =
-    ap (λ x. tree_frames t ++ x) (forest_frames-joined a b)
-    ∙ sym (append_assoc (tree_frames t) (forest_frames a) (forest_frames b))
+    cc (forest_frames-joined a b, append_assoc (tree_frames t) (forest_frames a) (forest_frames b))
 
 pub depth_some : (t : Tree) → 1 ≤ depth_of t
 depth_some (leaf c x) = omega arith
@@ -31,7 +30,7 @@ count_some (node p ts) = omega arith
 module _ (g : Grammar) where
   pub count_under : (os : List Open) (c : Tree) (ws : List Lexeme) (t : Tree) → Continues g os c ws t
       → node_count c + opened os ≤ node_count t
-  count_under [] c ws t (nil, same) = let e : node_count t ≡ node_count c = ap node_count same in omega arith
+  count_under [] c ws t (nil, same) = let e : node_count t ≡ node_count c = cc in omega arith
   count_under (o ∷ os) c ws t (fs, vs, fit, e, k) =
       let outer = count_under os (node o.production (joined o.done (more c fs))) vs t k in
       let parts = node_counts-joined o.done (more c fs) in
@@ -46,7 +45,7 @@ module _ (g : Grammar) where
 
   pub depth_under : (os : List Open) (c : Tree) (ws : List Lexeme) (t : Tree) → Continues g os c ws t
       → depth_of c + length os ≤ depth_of t
-  depth_under [] c ws t (nil, same) = let e : depth_of t ≡ depth_of c = ap depth_of same in omega arith
+  depth_under [] c ws t (nil, same) = let e : depth_of t ≡ depth_of c = cc in omega arith
   depth_under (o ∷ os) c ws t (fs, vs, fit, e, k) =
       let outer = depth_under os (node o.production (joined o.done (more c fs))) vs t k in
       let parts = deepest-joined o.done (more c fs) in

@@ -1,16 +1,15 @@
 -- The expected symbol at the beginning, and the invariants of opening a node.
-use Rattle.std.proofs.Common.{◌≡◌, ℕ, ◌+◌, ◌<◌, ◌≤◌, List, [], ◌∷◌, ◌++◌, length, drop, Option, Some, None, refl, ap, sym, ◌∙◌}
-use Rattle.std.proofs.Common.{subst, append-nil, arith}
+use Rattle.std.proofs.Common.{◌≡◌, ℕ, ◌+◌, ◌<◌, ◌≤◌, List, [], ◌∷◌, length, drop, Some, None, refl}
+use Rattle.std.proofs.Common.{append-nil, arith}
 use Rattle.ag_grammar.specs.declared.grammar.Item.TheVariants as item
 use Rattle.ag_grammar.specs.declared.grammar.Item.{Item}
 use Rattle.ag_grammar.specs.declared.grammar.Production.{Production}
 use Rattle.ag_grammar.specs.grammars.Accepted.{IsAccepted}
 use Rattle.ag_grammar.specs.grammars.AttributeGrammar.{Grammar}
 use Rattle.ag_grammar.specs.grammars.Tree.{Tree, none, depth_of, node_count}
-use Rattle.ag_grammar.specs.grammars.Yield as yields
 use Rattle.ag_grammar.specs.grammars.Yield.{Lexeme}
 use Rattle.llparse.specs.Ahead.{ahead_of}
-use Rattle.llparse.specs.sentence.Opened.{Continues, IsStack, Open, open_at, opened}
+use Rattle.llparse.specs.sentence.Opened.{Continues, Open, open_at, opened}
 use Rattle.llparse.specs.sentence.Parsing.{Task, Output, kept, written, Reading, AtSymbol, IsTooDeep, IsTooLarge, right_side}
 use Rattle.llparse.specs.sentence.Sentences.{IsStuckAt, LeavesOnly}
 use Rattle.llparse.specs.table.Tables.{Choices, FitsGrammar, choice_of}
@@ -31,7 +30,7 @@ module _ (k : Task) where
     held =
         record {
           within = omega arith;
-          content = λ h. same ∙ sym (append-nil k.prefix);
+          content = λ h. cc (append-nil k.prefix);
           texts = bare;
           counted = refl;
           few = omega arith;
@@ -69,78 +68,76 @@ module _ (k : Task) where
     on_open s p base fs i n rs chosen at more_nodes more_levels a =
         let c = (fits s (ahead_of (drop i k.words)) p).0 chosen in
         let q : Production = c.0 in
-        let items : q.items ≡ right_side g p = sym (ap (λ (o : Option Production). yields.right_side o) c.1) in
+        let items : q.items ≡ right_side g p = cc in
         let same = length-shows g a.under fs a.shows in
         let counted = a.held.counted in
         let r : Reading k p base q.items fs i (n + 1) rs = record {
           done = none;
           under = a.under;
           shows = a.shows;
-          begins = at ∙ ap length a.held.texts;
+          begins = cc;
           held =
               record {
                 within = a.held.within;
-                content = λ h. a.held.content h ∙ ap (λ x. k.prefix ++ x) (sym (append-nil (written a.under)));
-                texts = a.held.texts ∙ sym (append-nil (kept a.under));
+                content = λ h. cc (a.held.content h, append-nil (written a.under));
+                texts = cc (append-nil (kept a.under));
                 counted = omega arith;
                 few = omega arith;
                 shallow = (omega arith, a.held.shallow);
               };
-          occurs = (q, [], c.1, refl, subst (IsStack k.grammar a.under) (sym c.2) a.occurs);
+          occurs = (q, [], c.1, refl, rw c.2 a.occurs);
           sound = λ rest t w. a.sound rest t (step.open_back k.grammar a.under s rest t p q c.1 c.2 w);
           complete =
               λ rest t e w.
-              (step.opens k.grammar tables fits a.under s rest t p q a.occurs (ap (choice_of tables s) e ∙ chosen) c.1 c.2).0
+              (step.opens k.grammar tables fits a.under s rest t p q a.occurs (cc) c.1 c.2).0
               (a.complete rest t e w);
         } in
-        subst (λ x. Reading k p base x fs i (n + 1) rs) items r
+        rw items at r
 
     pub no_rule : {fs : List OpenProduction} {i n : ℕ} {rs : Output} → IsAccepted k.grammar → (s : ℕ)
         → choice_of tables s (ahead_of (drop i k.words)) ≡ None → AtSymbol k s fs i n rs → IsStuckAt k.grammar k.words i
     no_rule accepted s unnamed a = record {
       within = a.held.within;
       ends =
-          λ rest t e p. step.no_rule k.grammar tables fits a.under s rest t a.occurs (ap (choice_of tables s) e ∙ unnamed)
+          λ rest t e p. step.no_rule k.grammar tables fits a.under s rest t a.occurs (cc)
           (a.complete rest t e p);
       begins = let b = begins_symbol k accepted a in (b.0, b.1, b.2);
     }
 
-  -- A node is to be opened, and a limit is reached. If each tree that has this node below the open nodes is beyond the limit, the
-  -- words leave only trees beyond it.
-  beyond_node : {s : ℕ} {fs : List OpenProduction} {i n : ℕ} {rs : Output}
-      (size : Tree → ℕ) (begun : List Open → ℕ) (limit : ℕ) → IsAccepted k.grammar → (a : AtSymbol k s fs i n rs)
-      → limit ≤ begun a.under
-      → ((c : Tree) (ws : List Lexeme) (t : Tree) → Continues k.grammar a.under c ws t → limit < size t)
-      → LeavesOnly k.grammar k.words size begun limit
-  beyond_node {i = i} size begun limit accepted a full passed =
-      let b = begins_symbol k accepted a in
-      record {
-        index = i;
-        within = a.held.within;
-        rest = b.0;
-        tree = b.1;
-        begins = b.2;
-        above = a.under;
-        cut = b.3;
-        full = full;
-        only = λ others t e p. let w = a.complete others t e p in passed w.0 w.1 t w.4;
-      }
+  -- a node is to be opened, and a limit is reached
+  module _ {s : ℕ} {fs : List OpenProduction} {i n : ℕ} {rs : Output} (accepted : IsAccepted k.grammar)
+      (a : AtSymbol k s fs i n rs) where
+    -- if each tree that has this node below the open nodes is beyond the limit, the words leave only trees beyond it
+    beyond_node : (size : Tree → ℕ) (begun : List Open → ℕ) (limit : ℕ) → limit ≤ begun a.under
+        → ((c : Tree) (ws : List Lexeme) (t : Tree) → Continues k.grammar a.under c ws t → limit < size t)
+        → LeavesOnly k.grammar k.words size begun limit
+    beyond_node size begun limit full passed =
+        let b = begins_symbol k accepted a in
+        record {
+          index = i;
+          within = a.held.within;
+          rest = b.0;
+          tree = b.1;
+          begins = b.2;
+          above = a.under;
+          cut = b.3;
+          full = full;
+          only = λ others t e p. let w = a.complete others t e p in passed w.0 w.1 t w.4;
+        }
 
-  -- if a node is to be opened and the limit of levels is reached, the words leave only trees that are too deep
-  pub deep_node : {s : ℕ} {fs : List OpenProduction} {i n : ℕ} {rs : Output} → IsAccepted k.grammar → k.depth ≤ length fs
-      → AtSymbol k s fs i n rs → IsTooDeep k
-  deep_node {fs = fs} accepted full a =
-      let same = length-shows g a.under fs a.shows in
-      beyond_node depth_of (λ above. length above) k.depth accepted a (omega arith) (λ c ws t h.
-      let d = size.depth_under k.grammar a.under c ws t h in
-      let one : 1 ≤ depth_of c = size.depth_some c in
-      omega arith)
+    -- if the limit of levels is reached, the words leave only trees that are too deep
+    pub deep_node : k.depth ≤ length fs → IsTooDeep k
+    deep_node full =
+        let same = length-shows g a.under fs a.shows in
+        beyond_node depth_of (λ above. length above) k.depth (omega arith) (λ c ws t h.
+        let d = size.depth_under k.grammar a.under c ws t h in
+        let one : 1 ≤ depth_of c = size.depth_some c in
+        omega arith)
 
-  pub large_node : {s : ℕ} {fs : List OpenProduction} {i n : ℕ} {rs : Output} → IsAccepted k.grammar → k.nodes ≤ n
-      → AtSymbol k s fs i n rs → IsTooLarge k
-  large_node accepted full a =
-      let counted = a.held.counted in
-      beyond_node node_count opened k.nodes accepted a (omega arith) (λ c ws t h.
-      let d = size.count_under k.grammar a.under c ws t h in
-      let one : 1 ≤ node_count c = size.count_some c in
-      omega arith)
+    pub large_node : k.nodes ≤ n → IsTooLarge k
+    large_node full =
+        let counted = a.held.counted in
+        beyond_node node_count opened k.nodes (omega arith) (λ c ws t h.
+        let d = size.count_under k.grammar a.under c ws t h in
+        let one : 1 ≤ node_count c = size.count_some c in
+        omega arith)

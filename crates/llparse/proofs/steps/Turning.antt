@@ -1,6 +1,6 @@
 -- The invariants of one step of a parser: the innermost open node is closed, or moves past its next item.
 use Rattle.std.proofs.Common.{◌≡◌, ℕ, ◌<◌, ◌≤◌, Bool, List, [], ◌∷◌, ◌++◌, drop, take, length, reverse, All, Some, None, refl}
-use Rattle.std.proofs.Common.{sym, subst, arith}
+use Rattle.std.proofs.Common.{arith}
 use Rattle.std.proofs.lemmas.List.{length-map}
 use Rattle.std.proofs.lemmas.Option.{slice_get_within}
 use Rattle.ag_value.specs.declared.value.Value.{Value}
@@ -16,7 +16,7 @@ use Rattle.llparse.specs.Ahead.{ahead_of}
 use Rattle.llparse.specs.sentence.Parsing.{Task, task_of, Output, AtSymbol, Between, Finished, IsParsed, node_frame, right_side}
 use Rattle.llparse.specs.sentence.Sentences.{IsStuckAt, words_of}
 use Rattle.llparse.specs.table.Tables.{Choices, FitsGrammar, choice_of}
-use Rattle.llparse.specs.sentence.Turns.{advanced, left_of, output_of, Advances, IsAtItem, IsBetween}
+use Rattle.llparse.specs.sentence.Turns.{advanced, left_of, Advances, IsAtItem, IsBetween}
 use Rattle.llparse.specs.declared.sentence.parser.OpenProduction.{OpenProduction}
 use Rattle.llparse.specs.declared.sentence.parser.Parser.{Parser}
 use Rattle.llparse.proofs.steps.Closing.{no_end, on_end}
@@ -64,7 +64,7 @@ module _ (k : Task) (node new : OpenProduction) (x : Item)
     (passed : Advances (right_side k.grammar node.production) node (Some x) new) where
   pub faced : (y : Item) → x ≡ y → (p : Parser) (bytes : List ℕ) → IsBetween k node p bytes → IsAtItem k y new p bytes
   faced y is p bytes occurs =
-      rw (sym is, passed.1) (faces k node x (reverse p.waiting.items) _ _ _ passed.0 occurs)
+      rw (← is, passed.1) (faces k node x passed.0 occurs)
 
   -- fewer steps are left
   pub smaller : (p r : Parser) → r.waiting.items ≡ p.waiting.items → p.count ≤ r.count
@@ -82,24 +82,14 @@ module _ (k : Task) (node new : OpenProduction) (p : Parser) (bytes : List ℕ)
       → (new.base ≤ length p.texts.items) × (length (drop new.base p.texts.items) ≤ max_children)
       × All IsWell (drop new.base p.texts.items)
   own_few accepted =
-      let few =
-      own_texts k accepted node.production node.base (reverse p.waiting.items) _ _ (output_of p bytes)
-      (ends k node (reverse p.waiting.items) _ _ _ over.0 occurs) in
-      subst (λ (f : OpenProduction). (f.base ≤ length p.texts.items) × (length (drop f.base p.texts.items) ≤ max_children)
-      × All IsWell (drop f.base p.texts.items)) (sym over.1) few
+      rw over.1 (own_texts k accepted (ends k node over.0 occurs))
 
   -- the node is closed
   pub ended : (out : List ℕ) (own texts : List Value) → own ≡ drop new.base p.texts.items → texts ≡ take new.base p.texts.items
       → WhenHonest k.honest (out ≡ bytes ++ node_frame new.production own)
       → Between k (reverse p.waiting.items) p.tokens.taken p.count (record { bytes = out; texts = texts })
   ended out own texts following cut put =
-      let with_own = subst (λ (z : List Value). WhenHonest k.honest (out ≡ bytes ++ node_frame new.production z)) following put in
-      let frame =
-      subst (λ (f : OpenProduction). WhenHonest k.honest (out ≡ bytes ++ node_frame f.production (drop f.base p.texts.items)))
-      over.1 with_own in
-      let rest = subst (λ (f : OpenProduction). texts ≡ take f.base p.texts.items) over.1 cut in
-      closed k node.production node.base (reverse p.waiting.items) _ _ (output_of p bytes) _ frame rest
-      (ends k node (reverse p.waiting.items) _ _ _ over.0 occurs)
+      closed k (reverse p.waiting.items) _ (rw (following, over.1) at put) (rw over.1 at cut) (ends k node over.0 occurs)
 
 -- the end of a parse
 module _ (g : Grammar) (tokens : List Token) (honest : Bool) (prefix : List ℕ) (p : Parser) (bytes : List ℕ) (texts : List Value)
@@ -115,8 +105,7 @@ module _ (g : Grammar) (tokens : List Token) (honest : Bool) (prefix : List ℕ)
 
   done : Finished (task_of g tokens honest prefix) p.tokens.taken p.count bytes
   done =
-      subst (λ fs. Between (task_of g tokens honest prefix) fs p.tokens.taken p.count (record { bytes = bytes; texts = texts }))
-      (nothing p.waiting.items none_waits) occurs
+      rw (nothing p.waiting.items none_waits) at occurs
 
   pub all_taken : length tokens ≤ p.tokens.taken → IsParsed (task_of g tokens honest prefix) p.count bytes
   all_taken le =

@@ -1,6 +1,5 @@
-use Rattle.std.proofs.Common.{◌≡◌, Err, ap, subst, sym}
+use Rattle.std.proofs.Common.{◌≡◌, Err, ap}
 use Rattle.std.proofs.lemmas.Result.{err_from_is_err_and}
-use Rattle.ag_grammar.specs.grammars.Tree.{IsTokenText}
 use Rattle.treefile.specs.records.Records.{token_body}
 use Rattle.treefile.proofs.framing.Beginning.{none_added, one_added, one_refused}
 use Rattle.llparse.specs.declared.sentence.parse_fault.ParseFault.{ParseFault}
@@ -19,7 +18,7 @@ returns-in_err-put-clause-adds g c h =
     rw p.1
     (one_refused ParseFault (g.D.Device.content c.args.device.now) (g.D.Device.content c.put.new.device)
     (token_body c.args.leaf.now.class x) c.in_err-put.field-0.0 p.0
-    (of_leaf c.args.leaf.now.class x (text_well x (subst IsTokenText (sym same) c.requires.text)))
+    (of_leaf c.args.leaf.now.class x (text_well x (rw same c.requires.text)))
     (λ failed. c.in_err-put.ensures.device (ap Err failed) h)
     (λ resource. c.in_err-put.ensures.memory (ap Err resource) h))
 
@@ -31,7 +30,7 @@ returns-in_err-map_err-clause-adds g c h =
     rw p.1 (stopped (g.D.Device.content c.args.device.now) (g.D.Device.content c.put.new.device) p.0
     (one_added ParseFault (g.D.Device.content c.args.device.now) (g.D.Device.content c.put.new.device)
     (token_body c.args.leaf.now.class x)
-    (of_leaf c.args.leaf.now.class x (text_well x (subst IsTokenText (sym same) c.requires.text))) (c.in_ok-put.ensures.frame h)))
+    (of_leaf c.args.leaf.now.class x (text_well x (rw same c.requires.text))) (c.in_ok-put.ensures.frame h)))
 
 pub returns-clause-adds : goal.returns-clause-adds
 returns-clause-adds g c h =
@@ -39,4 +38,4 @@ returns-clause-adds g c h =
     let same : x ≡ c.args.leaf.now.lex.now = cc c.in_ok-from_str.ensures in
     one_added ParseFault (g.D.Device.content c.args.device.now) (g.D.Device.content c.put.new.device)
     (token_body c.args.leaf.now.class x)
-    (of_leaf c.args.leaf.now.class x (text_well x (subst IsTokenText (sym same) c.requires.text))) (c.in_ok-put.ensures.frame h)
+    (of_leaf c.args.leaf.now.class x (text_well x (rw same c.requires.text))) (c.in_ok-put.ensures.frame h)

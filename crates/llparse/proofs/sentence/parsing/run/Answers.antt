@@ -1,28 +1,24 @@
-use Rattle.std.proofs.Common.{◌≡◌, ◌<◌, ◌≤◌, Bool, true, List, drop, length, All, Some, None, Ok, Err, ap, sym, ◌∙◌, subst}
-use Rattle.std.proofs.Common.{arith}
-use Rattle.std.proofs.lemmas.Result.{err_from_is_err_and}
-use Rattle.ag_value.specs.Well.{IsWell}
-use Rattle.ag_value.specs.declared.value.Value.{Value}
-use Rattle.ag_grammar.specs.declared.grammar.Item.TheVariants as item
-use Rattle.ag_grammar.specs.grammars.Tree.{max_nodes}
-use Rattle.ag_scan.specs.TokenReader.{TokenReader, offset_at}
+use Rattle.std.proofs.Common.{◌<◌, List, drop, None, subst}
+use Rattle.ag_scan.specs.TokenReader.{offset_at}
 use Rattle.ag_scan.specs.Tokens.{Token}
-use Rattle.treefile.specs.records.TreeFile.{version_two}
-use Rattle.treefile.specs.framing.Writing.{Progress}
-use Rattle.treefile.proofs.framing.Beginning.{added, none_added}
-use Rattle.llparse.specs.sentence.Parsing.{task_of, Between}
 use Rattle.llparse.specs.Ahead.{ahead_of}
 use Rattle.llparse.specs.sentence.Sentences.{words_of}
 use Rattle.llparse.specs.table.Tables.{choice_of}
-use Rattle.llparse.specs.sentence.Turns.{IsAtSymbol, IsAtItem, FitsTables, FitsTokens, IsBetween, Leads, Refuses, Writes}
-use Rattle.llparse.specs.declared.sentence.parse_fault.ParseFault.{ParseFault}
 use Rattle.llparse.specs.declared.sentence.parse_fault.ParseFault.TheVariants.{Unexpected}
-use Rattle.llparse.specs.declared.sentence.parser.OpenProduction.{OpenProduction}
+use Rattle.std.proofs.Common.{sym, ◌∙◌, ◌≡◌, ◌≤◌, length, Ok, Err, refl, ap}
+use Rattle.std.proofs.Common.{arith}
+use Rattle.std.proofs.lemmas.Result.{err_from_is_err_and}
+use Rattle.ag_grammar.specs.grammars.Tree.{max_nodes}
+use Rattle.ag_scan.specs.TokenReader.{TokenReader}
+use Rattle.treefile.specs.framing.Writing.{Progress}
+use Rattle.treefile.proofs.framing.Beginning.{added, none_added}
+use Rattle.llparse.specs.sentence.Parsing.{task_of}
+use Rattle.llparse.specs.declared.sentence.parse_fault.ParseFault.{ParseFault}
 use Rattle.llparse.proofs.steps.Prefixes.{on_top}
 use Rattle.llparse.proofs.answers.Nexts.{some_left, all_taken}
 use Rattle.llparse.proofs.answers.Putting.{stopped}
 use Rattle.llparse.proofs.answers.Refused.{stuck}
-use Rattle.llparse.proofs.steps.Stacks.{at_symbol}
+use Rattle.llparse.proofs.steps.Starts.{on_symbol}
 use Rattle.llparse.proofs.steps.Turning as turn
 use Rattle.llparse.proofs.sentence.parsing.run.Goals as goal
 
@@ -59,10 +55,7 @@ loop-terminal-init g c =
           (omega arith) (omega arith) made.waiting made.texts
           (ap (λ (h : TokenReader). h.taken) made.tokens) made.count c.in_ok-node.ensures.begins
           c.in_ok-node.ensures.base
-          (subst
-          (λ (h : TokenReader). choice_of c.args.language.now.tables.now c.start-start.result
-          (ahead_of (drop h.taken (words_of h.list)))
-          ≡ Some c.in_ok-node.node.production) made.tokens c.in_ok-node.ensures.chosen);
+          (rw made.tokens at c.in_ok-node.ensures.chosen);
       written = omega arith;
       list = ap (λ (h : TokenReader). h.list) made.tokens;
       fine = ap (λ (w : Progress). w.is_broken) c.requires.begun;
@@ -80,23 +73,19 @@ pub loop-terminal-smaller-in-Continue-branch-2 : goal.loop-terminal-smaller-in-C
 loop-terminal-smaller-in-Continue-branch-2 g c =
     turn.smaller
     (task_of c.args.language.now.grammar.now c.args.sentence.now (g.D.Device.is_honest c.args.device.now)
-    (g.D.Device.content c.args.device.now)) c.loop-terminal.node c.next_item.new.node c.in-Some-Terminal.field-0
-    c.in-Some-Terminal.ensures c.loop-terminal.parser c.take.new.self c.in_ok-take-in-Some-Terminal.ensures.waiting
+    (g.D.Device.content c.args.device.now)) _ _ _ c.in-Some-Terminal.ensures c.loop-terminal.parser c.take.new.self
+    c.in_ok-take-in-Some-Terminal.ensures.waiting
     c.in_ok-take-in-Some-Terminal.ensures.count
 
 pub loop-terminal-preserved-in-Continue-branch-2 : goal.loop-terminal-preserved-in-Continue-branch-2
 loop-terminal-preserved-in-Continue-branch-2 g c =
     let inv = c.loop-terminal.invariant in
     let done = c.in_ok-take-in-Some-Terminal.ensures in
-    let takes =
-    subst (λ ts. (node : OpenProduction) (honest : Bool) → (honest ≡ true → g.D.Device.is_honest c.take.new.device ≡ true)
-    → Writes (FitsTokens ts) ts honest (g.D.Device.content c.loop-terminal.device) (g.D.Device.content c.take.new.device)
-    (λ k. IsAtItem k (item.Terminal c.in-Some-Terminal.terminal) node c.loop-terminal.parser)
-    (λ k. IsBetween k node c.take.new.self)) inv.list done.takes in
+    let takes = rw inv.list at done.takes in
     record {
       occurs =
           λ honest below. takes c.next_item.new.node honest below _ _ (c.start-start.ensures.accepted, c.requires.tokens)
-          (turn.faced _ c.loop-terminal.node c.next_item.new.node c.in-Some-Terminal.field-0 c.in-Some-Terminal.ensures _
+          (turn.faced _ _ _ _ c.in-Some-Terminal.ensures _
           c.in-Some-Terminal.field-0-is c.loop-terminal.parser _
           (inv.occurs honest (λ h. done.device.persists.honest (below h))));
       written = done.written;
@@ -114,13 +103,9 @@ returns-in_err-take-in-Some-Terminal-clause-refused g c =
     c.from_residual-in_err-take-in-Some-Terminal.ensures.1 in
     let inv = c.loop-terminal.invariant in
     rw (p.1, p.2)
-    ((subst
-    (λ ts. Refuses (FitsTokens ts) ts
-    (λ k. IsAtItem k (item.Terminal c.in-Some-Terminal.terminal) c.next_item.new.node c.loop-terminal.parser)
-    c.in_err-take-in-Some-Terminal.field-0.0) inv.list
-    (c.in_err-take-in-Some-Terminal.ensures.refuses c.next_item.new.node)) _ _ _ _
+    ((rw inv.list at (c.in_err-take-in-Some-Terminal.ensures.refuses c.next_item.new.node)) _ _ _ _
     (c.start-start.ensures.accepted, c.requires.tokens)
-    (turn.faced _ c.loop-terminal.node c.next_item.new.node c.in-Some-Terminal.field-0 c.in-Some-Terminal.ensures _
+    (turn.faced _ _ _ _ c.in-Some-Terminal.ensures _
     c.in-Some-Terminal.field-0-is c.loop-terminal.parser _
     (inv.occurs (g.D.Device.is_honest c.take.new.device)
     (λ h. c.in_err-take-in-Some-Terminal.ensures.device.persists.honest h))))
@@ -133,12 +118,9 @@ returns-in_err-node-in-Some-Symbol-clause-refused g c =
     c.from_residual-in_err-node-in-Some-Symbol.ensures.1 in
     let inv = c.loop-terminal.invariant in
     rw (p.1, p.2)
-    ((subst
-    (λ ts. Refuses (FitsTables c.args.language.now.tables.now) ts
-    (λ k. IsAtSymbol k c.in-Some-Symbol.symbol c.next_item.new.node c.loop-terminal.parser)
-    c.in_err-node-in-Some-Symbol.field-0.0) inv.list c.in_err-node-in-Some-Symbol.ensures.refuses) _ _ _ _
-    (c.start-start.ensures.accepted, c.requires.tables) (at_symbol _ c.in-Some-Symbol.symbol _ _ _ _
-    (turn.faced _ c.loop-terminal.node c.next_item.new.node c.in-Some-Symbol.field-0 c.in-Some-Symbol.ensures _
+    ((rw inv.list at c.in_err-node-in-Some-Symbol.ensures.refuses) _ _ _ _
+    (c.start-start.ensures.accepted, c.requires.tables) (on_symbol _ c.next_item.new.node refl
+    (turn.faced _ _ _ _ c.in-Some-Symbol.ensures _
     c.in-Some-Symbol.field-0-is c.loop-terminal.parser _
     (inv.occurs (g.D.Device.is_honest c.loop-terminal.device) (λ h. h)))))
 
@@ -149,14 +131,11 @@ loop-terminal-preserved-in-Some-Symbol g c =
     let counted = c.in_ok-node-in-Some-Symbol.ensures.counted in
     record {
       occurs =
-          λ honest below. (subst
-          (λ ts. Leads (FitsTables c.args.language.now.tables.now) ts
-          (λ k. IsAtSymbol k c.in-Some-Symbol.symbol c.next_item.new.node c.loop-terminal.parser)
-          (λ k. IsBetween k c.in_ok-node-in-Some-Symbol.node c.open.new.self)) inv.list
-          c.in_ok-node-in-Some-Symbol.ensures.opens) _ _ _ _ (c.start-start.ensures.accepted, c.requires.tables)
-          (at_symbol _ c.in-Some-Symbol.symbol _ _ _ _
-          (turn.faced _ c.loop-terminal.node c.next_item.new.node c.in-Some-Symbol.field-0
-          c.in-Some-Symbol.ensures _ c.in-Some-Symbol.field-0-is c.loop-terminal.parser _ (inv.occurs honest below)));
+          λ honest below. (rw inv.list at c.in_ok-node-in-Some-Symbol.ensures.opens) _ _ _ _
+          (c.start-start.ensures.accepted, c.requires.tables)
+          (on_symbol _ c.next_item.new.node refl
+          (turn.faced _ _ _ _ c.in-Some-Symbol.ensures _ c.in-Some-Symbol.field-0-is c.loop-terminal.parser _
+          (inv.occurs honest below)));
       written = omega arith;
       list = ap (λ (h : TokenReader). h.list) c.in_ok-node-in-Some-Symbol.ensures.tokens ∙ inv.list;
       fine = inv.fine;
@@ -167,15 +146,15 @@ loop-terminal-preserved-in-Some-Symbol g c =
 -- at a node's end
 pub texts_from-texts-requires : goal.texts_from-texts-requires
 texts_from-texts-requires g c =
-    (turn.own_few _ c.loop-terminal.node c.next_item.new.node c.loop-terminal.parser _ c.in-None.ensures
+    (turn.own_few _ _ _ c.loop-terminal.parser _ c.in-None.ensures
     (c.loop-terminal.invariant.occurs (g.D.Device.is_honest c.loop-terminal.device) (λ h. h)) c.start-start.ensures.accepted).0
 
 pub put_node-requires-clause-few : goal.put_node-requires-clause-few
 put_node-requires-clause-few g c =
     let few =
-    (turn.own_few _ c.loop-terminal.node c.next_item.new.node c.loop-terminal.parser _ c.in-None.ensures
+    (turn.own_few _ _ _ c.loop-terminal.parser _ c.in-None.ensures
     (c.loop-terminal.invariant.occurs (g.D.Device.is_honest c.loop-terminal.device) (λ h. h)) c.start-start.ensures.accepted).1 in
-    subst (λ (texts : List Value). length texts ≤ version_two.max_values) (sym c.texts_from-texts.ensures) (omega (arith, few))
+    rw c.texts_from-texts.ensures (omega (arith, few))
 
 pub put_node-requires-clause-room : goal.put_node-requires-clause-room
 put_node-requires-clause-room g c =
@@ -186,8 +165,8 @@ put_node-requires-clause-room g c =
 
 pub put_node-requires-clause-well : goal.put_node-requires-clause-well
 put_node-requires-clause-well g c =
-    subst (λ (texts : List Value). All IsWell texts) (sym c.texts_from-texts.ensures)
-    (turn.own_few _ c.loop-terminal.node c.next_item.new.node c.loop-terminal.parser _ c.in-None.ensures
+    rw c.texts_from-texts.ensures
+    (turn.own_few _ _ _ c.loop-terminal.parser _ c.in-None.ensures
     (c.loop-terminal.invariant.occurs (g.D.Device.is_honest c.loop-terminal.device) (λ h. h)) c.start-start.ensures.accepted).2
 
 pub loop-terminal-preserved : goal.loop-terminal-preserved
@@ -199,14 +178,9 @@ loop-terminal-preserved g c =
     let sizes = c.in-Some.ensures.len in
     record {
       occurs =
-          λ honest below. subst
-          (λ fs. Between
-          (task_of c.args.language.now.grammar.now c.args.sentence.now honest (g.D.Device.content c.args.device.now))
-          fs c.loop-terminal.parser.tokens.taken c.loop-terminal.parser.count
-          (record { bytes = g.D.Device.content c.put_node.new.device; texts = c.truncate.new.self.items }))
-          (on_top c.pop.new.self.items c.loop-terminal.parser.waiting.items c.in-Some.outer
-          c.in-Some.ensures.items)
-          (turn.ended _ c.loop-terminal.node c.next_item.new.node c.loop-terminal.parser _ c.in-None.ensures
+          λ honest below.
+          rw (on_top c.pop.new.self.items c.loop-terminal.parser.waiting.items c.in-Some.outer c.in-Some.ensures.items) at
+          (turn.ended _ _ _ c.loop-terminal.parser _ c.in-None.ensures
           (inv.occurs honest (λ h. put.device.persists.honest (below h))) _ _ _ c.texts_from-texts.ensures
           c.truncate.ensures.items (λ h. put.frame (below h)));
       written = omega arith;
@@ -241,11 +215,11 @@ returns-clause-parsed g c =
     let inv = c.loop-terminal.invariant in
     let none_waits : length c.loop-terminal.parser.waiting.items ≡ 0 = omega (arith, c.in_default.ensures.cases) in
     let tokens = c.loop-terminal.parser.tokens in
-    let all : length c.args.sentence.now ≤ tokens.taken =
-    subst (λ (ts : List Token). length ts ≤ tokens.taken) inv.list
+    let all =
+    rw inv.list at
     (all_taken tokens.list tokens.taken c.ahead.result c.ahead.ensures (sym c.is_some.ensures ∙ c.if-is_some.false)) in
     turn.all_taken _ c.args.sentence.now _ _ c.loop-terminal.parser _ _ none_waits
-    (turn.ended _ c.loop-terminal.node c.next_item.new.node c.loop-terminal.parser _ c.in-None.ensures
+    (turn.ended _ _ _ c.loop-terminal.parser _ c.in-None.ensures
     (inv.occurs (g.D.Device.is_honest c.put_node.new.device)
     (λ h. c.in_ok-put_node-in-None.ensures.device.persists.honest h)) _ _ _
     c.texts_from-texts.ensures c.truncate.ensures.items (λ h. c.in_ok-put_node-in-None.ensures.frame h)) all

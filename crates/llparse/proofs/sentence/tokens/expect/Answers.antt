@@ -1,8 +1,7 @@
-use Rattle.std.proofs.Common.{◌+◌, ◌∷◌, drop, sym, ap, subst, ◌∙◌}
+use Rattle.std.proofs.Common.{◌+◌, ◌∷◌, drop, sym, ap, ◌∙◌}
 use Rattle.std.proofs.lemmas.Bool.{false≢true}
 use Rattle.std.proofs.lemmas.Option.{slice_get_within}
 use Rattle.ag_scan.specs.TokenReader.{token_of}
-use Rattle.ag_scan.specs.Tokens.{IsTokenOf}
 use Rattle.llparse.specs.sentence.Sentences.{words_of}
 use Rattle.llparse.proofs.answers.Nexts.{next_is, none_is, other_next}
 use Rattle.llparse.proofs.sentence.tokens.expect.Goals as goal
@@ -27,5 +26,5 @@ returns-clause-within c =
 
 pub returns-clause-fits : goal.returns-clause-fits
 returns-clause-fits c =
-    λ v all. subst (λ x. IsTokenOf v x c.in-Some.token.lex.now) (c.same.ensures.0 c.if-not-same.false)
+    λ v all. rw (c.same.ensures.0 c.if-not-same.false) at
     (all c.args.tokens.now.taken (token_of c.in-Some.token) (sym c.in-Some.ensures))

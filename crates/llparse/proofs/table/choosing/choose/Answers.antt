@@ -1,6 +1,5 @@
-use Rattle.std.proofs.Common.{◌≡◌, ◌<◌, ◌+◌, ◌-◌, arith, length, get_or, slice_get, Some, subst, refl, ◌∙◌}
+use Rattle.std.proofs.Common.{◌∙◌, ◌≡◌, ◌<◌, ◌+◌, ◌-◌, arith, length, get_or, slice_get, Some, refl}
 use Rattle.std.proofs.lemmas.Option.{slice_get-get_or}
-use Rattle.llparse.specs.table.Predicted.{AreEarliestFrom, IsLeastFrom}
 use Rattle.llparse.proofs.table.choosing.choose.Goals as goal
 
 pub loop-at-preserved : goal.loop-at-preserved
@@ -11,12 +10,8 @@ loop-at-preserved c =
     let q = get_or c.args.productions.now (c.loop-at.at - 1) r in
     let is : slice_get c.args.productions.now (c.loop-at.at - 1) ≡ Some q =
     slice_get-get_or c.args.productions.now (c.loop-at.at - 1) r inside in
-    let old =
-    subst (λ z. AreEarliestFrom c.args.productions.now c.args.marks.now z c.loop-at.column.choices.items) step
-    c.loop-at.invariant.earliest in
-    let least =
-    subst (λ z. IsLeastFrom c.args.productions.now c.args.marks.now z c.loop-at.column.conflict) step
-    c.loop-at.invariant.least in
+    let old = rw step at c.loop-at.invariant.earliest in
+    let least = rw step at c.loop-at.invariant.least in
     record {
       len = c.choose_if.ensures.len ∙ c.loop-at.invariant.len;
       earliest = c.choose_if.ensures.earliest c.args.productions.now c.args.marks.now q is refl refl old;
@@ -26,10 +21,9 @@ loop-at-preserved c =
 pub returns-clause-earliest : goal.returns-clause-earliest
 returns-clause-earliest c =
     let none : c.loop-at.at ≡ 0 = omega (arith, c.loop-at-test.false) in
-    subst (λ z. AreEarliestFrom c.args.productions.now c.args.marks.now z c.loop-at.column.choices.items) none
-    c.loop-at.invariant.earliest
+    rw none at c.loop-at.invariant.earliest
 
 pub returns-clause-least : goal.returns-clause-least
 returns-clause-least c =
     let none : c.loop-at.at ≡ 0 = omega (arith, c.loop-at-test.false) in
-    subst (λ z. IsLeastFrom c.args.productions.now c.args.marks.now z c.loop-at.column.conflict) none c.loop-at.invariant.least
+    rw none at c.loop-at.invariant.least

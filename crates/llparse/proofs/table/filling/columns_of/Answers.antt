@@ -1,5 +1,4 @@
-use Rattle.std.proofs.Common.{◌≡◌, ◌+◌, arith, subst, length}
-use Rattle.llparse.specs.table.Columns.{IsLeastBelow}
+use Rattle.std.proofs.Common.{◌≡◌, ◌+◌, arith, length}
 use Rattle.llparse.specs.table.Nodes.{index_of}
 use Rattle.llparse.proofs.look_ahead.Columns.{columns_more, known_of, least_more}
 use Rattle.llparse.proofs.table.filling.columns_of.Goals as goal
@@ -28,4 +27,4 @@ pub returns-clause-least : goal.returns-clause-least
 returns-clause-least c =
     let all : c.loop-index.index ≡ length c.args.grammar.now.literals + 4 =
     omega (arith, c.loop-index-test.false, c.loop-index.auto.index-end, c.of-sizes.ensures.literals) in
-    subst (λ z. IsLeastBelow c.args.grammar.now z c.loop-index.conflict) all c.loop-index.invariant.least
+    rw all at c.loop-index.invariant.least

@@ -1,7 +1,7 @@
 -- The remaining goals of `add_first_edges`.
-use Rattle.std.proofs.Common.{subst, take_all, Contains}
+use Rattle.std.proofs.Common.{take_all}
 use Rattle.ag_grammar.specs.declared.grammar.Item.{Item}
-use Rattle.llparse.specs.table.Edges.{Adds, IsEdge, OfSome}
+use Rattle.llparse.specs.table.Edges.{IsEdge}
 use Rattle.llparse.specs.table.Nodes.{node_of}
 use Rattle.llparse.proofs.look_ahead.Edges.{adds_more}
 use Rattle.llparse.proofs.table.first.add_first_edges.Goals as goal
@@ -13,7 +13,4 @@ loop-item-preserved c =
 
 pub returns : goal.returns
 returns c =
-    subst
-    (λ xs. Adds (OfSome (λ (x : Item) e. IsEdge (node_of c.args.sizes.symbols c.args.sizes.literals x) c.args.left e) xs)
-    (Contains c.args.edges.now.items) (Contains c.loop-item.edges.items))
-    (take_all c.loop-item.item-index c.args.items.now c.loop-item-test.false) c.loop-item.invariant
+    rw (take_all c.loop-item.item-index c.args.items.now c.loop-item-test.false) at c.loop-item.invariant

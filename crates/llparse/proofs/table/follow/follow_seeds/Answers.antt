@@ -1,9 +1,7 @@
-use Rattle.std.proofs.Common.{◌≡◌, ◌<◌, ◌≤◌, length, arith, ap, ◌∙◌, get_or, List, Contains}
-use Rattle.ag_grammar.specs.declared.grammar.Production.{Production}
+use Rattle.std.proofs.Common.{◌≡◌, ◌<◌, ◌≤◌, length, arith, ap, get_or, Contains}
 use Rattle.llparse.specs.table.CanStart.{IsFollowSeed}
 use Rattle.closure.specs.Following.{is_marked}
-use Rattle.llparse.proofs.look_ahead.Edges.{contains_none, noted_iff}
-use Rattle.llparse.proofs.look_ahead.Follows.{next_noted}
+use Rattle.llparse.proofs.look_ahead.Edges.{adds_more, contains_none, noted_iff}
 use Rattle.llparse.proofs.table.follow.follow_seeds.Goals as goal
 
 pub loop-at-preserved : goal.loop-at-preserved
@@ -12,12 +10,10 @@ loop-at-preserved c =
     let inside : c.loop-at.at < length c.args.grammar.now.productions =
     omega (arith, ap length c.productions-productions.ensures.lent, c.loop-at-test.true) in
     let is : r ≡ get_or c.args.grammar.now.productions c.loop-at.at r =
-    c.index-productions-at.is ∙ ap
-    (λ (qs : List Production). get_or qs c.loop-at.at r) c.productions-productions.ensures.lent in
-    next_noted c.args.grammar.now c.productions-productions.ensures.accepted (is_marked c.args.nullable.now)
-    (is_marked c.args.in_first.now) c.loop-at.at r _ _ c.as_slice.result.now _ _ _ inside c.of-sizes.ensures.symbols
-    c.of-sizes.ensures.literals (c.as_slice.ensures ∙ ap (λ (q : Production). q.items) is) c.loop-at.invariant
-    c.in_ok-add_seeds.ensures
+    cc (c.index-productions-at.is, c.productions-productions.ensures.lent) in
+    adds_more (IsFollowSeed c.args.grammar.now (is_marked c.args.nullable.now) (is_marked c.args.in_first.now))
+    c.args.grammar.now.productions c.loop-at.at r _ _ _ inside c.loop-at.invariant
+    (rw (c.of-sizes.ensures.symbols, c.of-sizes.ensures.literals, c.as_slice.ensures, is) at c.in_ok-add_seeds.ensures)
 
 pub returns : goal.returns
 returns c =

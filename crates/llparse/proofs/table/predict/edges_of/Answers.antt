@@ -1,12 +1,9 @@
 -- The remaining goals of `edges_of`.
-use Rattle.std.proofs.Common.{◌≡◌, ◌<◌, ◌≤◌, length, arith, ap, ◌∙◌, get_or, List, Contains}
-use Rattle.ag_grammar.specs.declared.grammar.Production.{Production}
+use Rattle.std.proofs.Common.{◌≡◌, ◌<◌, ◌≤◌, length, arith, ap, get_or, Contains}
 use Rattle.closure.specs.Following.{is_marked}
 use Rattle.llparse.specs.table.CanStart.{IsFollowEdge}
 use Rattle.llparse.specs.table.Edges.{IsFirstEdge}
-use Rattle.llparse.proofs.look_ahead.Edges.{contains_none, noted_iff}
-use Rattle.llparse.proofs.look_ahead.Firsts.{edges_more}
-use Rattle.llparse.proofs.look_ahead.Follows.{last_more}
+use Rattle.llparse.proofs.look_ahead.Edges.{adds_more, contains_none, noted_iff}
 use Rattle.llparse.proofs.table.predict.edges_of.Goals as goal
 
 pub loop-at-preserved : goal.loop-at-preserved
@@ -14,22 +11,18 @@ loop-at-preserved c =
     let g = c.args.grammar.now in
     let n = is_marked c.args.nullable.now in
     let r = c.index-productions-at.result in
-    let accepted = c.productions-productions.ensures.accepted in
     let inside : c.loop-at.at < length g.productions =
     omega (arith, ap length c.productions-productions.ensures.lent, c.loop-at-test.true) in
-    let is : r ≡ get_or g.productions c.loop-at.at r =
-    c.index-productions-at.is ∙ ap
-    (λ (qs : List Production). get_or qs c.loop-at.at r) c.productions-productions.ensures.lent in
-    let left = ap (λ (q : Production). q.left) is in
-    let items = c.as_slice-items.ensures ∙ ap (λ (q : Production). q.items) is in
+    let is : r ≡ get_or g.productions c.loop-at.at r = cc (c.index-productions-at.is, c.productions-productions.ensures.lent) in
+    let sizes = c.of-sizes.ensures in
     record {
       first =
-          edges_more g accepted n c.loop-at.at r _ _ _ c.as_slice-items.result.now c.starting_items_len-count.result _ _ _ inside
-          c.of-sizes.ensures.symbols c.of-sizes.ensures.literals left items c.starting_items_len-count.ensures.items
-          c.loop-at.invariant.first c.in_ok-add_first_edges.ensures;
+          adds_more (IsFirstEdge g n) g.productions c.loop-at.at r _ _ _ inside c.loop-at.invariant.first
+          (rw (sizes.symbols, sizes.literals, c.starting_items_len-count.ensures.items, c.as_slice-items.ensures, is) at
+          c.in_ok-add_first_edges.ensures);
       follow =
-          last_more g accepted n c.loop-at.at r _ _ _ c.as_slice-items.result.now _ _ _ inside c.of-sizes.ensures.symbols
-          c.of-sizes.ensures.literals left items c.loop-at.invariant.follow c.in_ok-add_follow_edges.ensures;
+          adds_more (IsFollowEdge g n) g.productions c.loop-at.at r _ _ _ inside c.loop-at.invariant.follow
+          (rw (sizes.symbols, sizes.literals, c.as_slice-items.ensures, is) at c.in_ok-add_follow_edges.ensures);
     }
 
 pub returns-clause-first : goal.returns-clause-first

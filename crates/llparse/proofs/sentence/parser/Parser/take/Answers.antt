@@ -1,21 +1,16 @@
-use Rattle.std.proofs.Common.{◌≡◌, ◌+◌, ◌<◌, ◌∷◌, ap, length, drop, reverse, subst, sym, arith, ◌∙◌}
+use Rattle.std.proofs.Common.{◌+◌, ◌<◌, ◌∷◌, ap, length, reverse, arith, ◌∙◌}
 use Rattle.std.proofs.lemmas.List.{length-reverse}
 use Rattle.std.proofs.lemmas.Result.{err_from_is_err_and}
-use Rattle.ag_grammar.specs.declared.grammar.Item.TheVariants as item
-use Rattle.ag_grammar.specs.declared.grammar.Terminal.{Terminal}
-use Rattle.ag_grammar.specs.declared.grammar.Terminal.TheVariants.{Literal}
 use Rattle.ag_grammar.specs.grammars.Tree.{max_depth}
 use Rattle.ag_scan.specs.Words.{vocabulary_of}
-use Rattle.ag_scan.specs.TokenReader.{TokenReader, reader_at}
-use Rattle.ag_scan.specs.Tokens.{IsTokenOf}
-use Rattle.llparse.specs.sentence.Parsing.{task_of, AtItem, Between, Output}
-use Rattle.llparse.specs.sentence.Turns.{output_of}
-use Rattle.llparse.specs.sentence.Sentences.{words_of}
+use Rattle.ag_scan.specs.TokenReader.{reader_at}
+use Rattle.llparse.specs.sentence.Parsing.{task_of}
 use Rattle.treefile.proofs.framing.Beginning.{none_added}
 use Rattle.llparse.specs.declared.sentence.parse_fault.ParseFault.{ParseFault}
 use Rattle.llparse.specs.declared.sentence.parser.Parser.{Parser}
 use Rattle.llparse.proofs.answers.Refused.{full_leaf, stuck, text_is}
-use Rattle.llparse.proofs.steps.Stacks.{class, literal, no_terminal}
+use Rattle.llparse.proofs.steps.Leaves.{on_class}
+use Rattle.llparse.proofs.steps.Literals.{no_terminal, on_literal}
 use Rattle.llparse.proofs.sentence.parser.Parser.take.Goals as goal
 use Rattle.llparse.proofs.sentence.parser.Parser.take.Goals.{in-Class+in_ok-has_room+in_ok-put_leaf, in_default}
 
@@ -25,8 +20,7 @@ returns-in_err-lex-clause-refuses g c = λ node.
     rw (p.1, p.2) (λ gr honest prefix bytes has b.
     stuck gr c.args.self.now.tokens.list honest prefix c.args.self.now.tokens.taken c.in_err-lex.field-0.0
     c.in_err-lex.ensures.offset
-    (no_terminal (task_of gr c.args.self.now.tokens.list honest prefix) has.0 c.args.terminal
-    (node ∷ reverse c.args.self.now.waiting.items) _ _ _ c.in_err-lex.ensures.other b))
+    (no_terminal (task_of gr c.args.self.now.tokens.list honest prefix) has.0 c.in_err-lex.ensures.other b))
 
 pub returns-in_err-lex-clause-adds : goal.returns-in_err-lex-clause-adds
 returns-in_err-lex-clause-adds g c h = none_added ParseFault (g.D.Device.content c.args.device.now) c.from_residual.result
@@ -45,44 +39,28 @@ returns-in_err-has_room-clause-adds g c h =
 pub put_leaf-requires-clause-text : goal.put_leaf-requires-clause-text
 put_leaf-requires-clause-text g c =
     let fits = c.in_ok-lex.ensures.fits (vocabulary_of c.requires.fits.0) c.requires.fits.1.1 in
-    (subst (λ (t : Terminal). IsTokenOf (vocabulary_of c.requires.fits.0) t c.in_ok-lex.lex.now) c.in-Class.is fits).1
+    (rw c.in-Class.is at fits).1
 
 pub returns-clause-takes : goal.returns-clause-takes
 returns-clause-takes g c = λ node honest below gr prefix has b.
     let task = task_of gr c.args.self.now.tokens.list honest prefix in
     let fs = node ∷ reverse c.args.self.now.waiting.items in
-    let taken = c.args.self.now.tokens.taken in
-    let count = c.args.self.now.count in
-    let now = output_of c.args.self.now (g.D.Device.content c.args.device.now) in
     let lex = c.in_ok-lex.lex.now in
-    let rest = drop (taken + 1) (words_of c.args.self.now.tokens.list) in
     let fits = c.in_ok-lex.ensures.fits (vocabulary_of gr) has.1 in
     elim c.match-terminal.branch [
       | in-Class+in_ok-has_room+in_ok-put_leaf w ↦
           let is = w.in-Class.is in
           let room = w.in_ok-has_room.ensures.room in
           let levels : length fs < max_depth = omega (arith, length-reverse c.args.self.now.waiting.items, room.0) in
-          let made : Output = record { bytes = g.D.Device.content w.put_leaf.new.device; texts = w.put_leaf.new.texts.items } in
           let passed = c.advance.ensures ∙ ap (λ (p : Parser). reader_at p.tokens.list (p.tokens.taken + 1)) w.self-is in
-          let word =
-          subst (λ (t : Terminal). drop taken (words_of c.args.self.now.tokens.list) ≡ (t, lex) ∷ rest) is
-          c.in_ok-lex.ensures.taken in
-          rw (w.self-is, w.device-is)
-          (subst (λ (h : TokenReader). Between task fs h.taken (count + 1) made) (sym passed)
-          (class task w.in-Class.class lex fs taken count now made rest word
-          (subst (λ (t : Terminal). IsTokenOf (vocabulary_of gr) t lex) is fits).1
+          rw (w.self-is, w.device-is, passed)
+          (on_class task (rw is at c.in_ok-lex.ensures.taken) (rw is at fits).1
           (λ h. w.in_ok-put_leaf.ensures.frame ((rw w.device-is at below) h)) w.in_ok-put_leaf.ensures.kept room.1 levels
-          (subst (λ (t : Terminal). AtItem task (item.Terminal t) fs taken count now) is b)))
+          (rw is at b))
       | in_default w ↦
           let is = w.in_default.is in
           let passed = c.advance.ensures ∙ ap (λ (p : Parser). reader_at p.tokens.list (p.tokens.taken + 1)) w.self-is in
-          let text = text_is gr w.in_default.field-0 lex (subst (λ (t : Terminal). IsTokenOf (vocabulary_of gr) t lex) is fits) in
-          let word =
-          subst (λ (t : Terminal). drop taken (words_of c.args.self.now.tokens.list) ≡ (t, lex) ∷ rest) is
-          c.in_ok-lex.ensures.taken in
-          rw (w.self-is, w.device-is)
-          (subst (λ (h : TokenReader). Between task fs h.taken count now) (sym passed)
-          (literal task w.in_default.field-0 fs taken count now rest
-          (word ∙ ap (λ x. (Literal w.in_default.field-0, x) ∷ rest) text)
-          (subst (λ (t : Terminal). AtItem task (item.Terminal t) fs taken count now) is b)))
+          let text = text_is gr w.in_default.field-0 lex (rw is at fits) in
+          let word = rw is at c.in_ok-lex.ensures.taken in
+          rw (w.self-is, w.device-is, passed) (on_literal task (rw text at word) (rw is at b))
     ]

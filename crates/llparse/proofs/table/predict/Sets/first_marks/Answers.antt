@@ -13,4 +13,4 @@ returns c = λ y named.
     (rw (ap (λ (k : Clauses). k.clauses) w.1, c.of-sizes.ensures.symbols, c.index.ensures, c.of-sizes.ensures.literals) at
     c.in_ok-marks.ensures.marks _)
     (first_iff c.args.grammar.now c.of-sizes.ensures.accepted
-    (is_marked c.args.self.now.nullable.items) w.0 c.requires.sets.nullable_exact w.2 c.args.ahead c.requires.known y named)
+    (is_marked c.args.self.now.nullable.items) c.requires.sets.nullable_exact w.0 w.2 c.args.ahead c.requires.known y named)

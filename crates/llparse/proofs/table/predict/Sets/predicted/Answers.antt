@@ -1,25 +1,38 @@
-use Rattle.std.proofs.Common.{◌≡◌, ◌<◌, length, arith, ap, ◌∙◌, get_or, List}
-use Rattle.std.proofs.lemmas.Option.{slice_get_within}
+use Rattle.std.proofs.Common.{◌↔◌, true, ◌≡◌, ◌<◌, length, arith, ap}
+use Rattle.std.proofs.lemmas.Option.{get_or_from_slice_get, slice_get_within}
 use Rattle.ag_grammar.specs.declared.grammar.Production.{Production}
+use Rattle.ag_grammar.specs.grammars.AttributeGrammar.{IsProduction}
+use Rattle.llparse.specs.Ahead.{Predicts}
 use Rattle.closure.specs.Following.{is_marked}
-use Rattle.llparse.proofs.look_ahead.Predictions.{predicted_more, predicts_at}
+use Rattle.llparse.proofs.look_ahead.Predictions.{predicted_more, predicts_iff}
 use Rattle.llparse.proofs.table.predict.Sets.predicted.Goals as goal
 
 pub loop-at-preserved : goal.loop-at-preserved
 loop-at-preserved c =
     let g = c.args.grammar.now in
     let r = c.index-productions-at.result in
-    let is : r ≡ get_or g.productions c.loop-at.at r =
-    c.index-productions-at.is ∙ ap
-    (λ (qs : List Production). get_or qs c.loop-at.at r) c.productions-productions.ensures.lent in
-    let this =
-    predicts_at g c.of-sizes.ensures.accepted
-    (is_marked c.args.self.now.nullable.items) c.requires.sets.nullable_exact c.args.ahead c.in_ok-in_first.in_first.items
-    c.in_ok-in_follow.in_follow.items c.in_ok-in_first.ensures c.in_ok-in_follow.ensures
-    c.loop-at.at r _ _ c.as_slice-items.result.now c.is_marked-following.result c.items_can_start.result is
-    c.of-sizes.ensures.symbols c.of-sizes.ensures.literals c.as_slice-items.ensures
-    (rw c.as_slice-in_follow.ensures.value at c.is_marked-following.ensures)
-    (rw (c.as_slice-in_first.ensures.value, c.as_slice-nullable.ensures.value) at c.items_can_start.ensures) in
+    let this : (q : Production) → IsProduction g c.loop-at.at q → c.items_can_start.result ≡ true ↔ Predicts g q c.args.ahead =
+    λ q at.
+    let one : r ≡ q =
+    cc (
+      c.index-productions-at.is,
+      c.productions-productions.ensures.lent,
+      get_or_from_slice_get g.productions c.loop-at.at q r at,
+    ) in
+    rw (
+      c.items_can_start.ensures,
+      c.as_slice-in_first.ensures.value,
+      c.as_slice-nullable.ensures.value,
+      c.of-sizes.ensures.symbols,
+      c.of-sizes.ensures.literals,
+      c.as_slice-items.ensures,
+      c.is_marked-following.ensures,
+      c.as_slice-in_follow.ensures.value,
+      one,
+    )
+    (predicts_iff g c.of-sizes.ensures.accepted (is_marked c.args.self.now.nullable.items) c.requires.sets.nullable_exact
+    c.args.ahead c.in_ok-in_first.in_first.items c.in_ok-in_follow.in_follow.items c.in_ok-in_first.ensures
+    c.in_ok-in_follow.ensures c.loop-at.at q at) in
     record {
       count = omega (arith, c.in_ok-push.ensures.len, c.loop-at.invariant.count);
       exact =
