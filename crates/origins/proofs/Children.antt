@@ -1,6 +1,6 @@
 -- The children of a node in the order of a walk.
 use Rattle.std.proofs.Common.{◌≡◌, ℕ, zero, suc, ◌+◌, ◌-◌, ◌<◌, ◌≤◌, inl, inr, List, [], ◌∷◌, ◌++◌, length, drop, map, reverse}
-use Rattle.std.proofs.Common.{get_or, Some, None, slice_get, refl, ap, sym, subst, ◌∙◌, arith}
+use Rattle.std.proofs.Common.{Some, None, slice_get, refl, ap, ◌∙◌, add-zero, zero-add, arith}
 use Rattle.std.specs.List.{flat_map}
 use Rattle.std.proofs.lemmas.Grind.{flat_map-append}
 use Rattle.std.proofs.lemmas.List.{append-nil, get_or-reverse, length-reverse, map-append, reverse-append, reverse-reverse}
@@ -16,7 +16,7 @@ use Rattle.treefile.specs.records.OneTree.{IsRecorded}
 use Rattle.treefile.specs.records.Orders.{prefix, prefix_all}
 use Rattle.treefile.specs.records.Records.{bodies_of, bodies_of_all}
 use Rattle.treefile.specs.records.TreeFile.{version_two}
-use Rattle.origins.specs.Origins.{HasOrigin, child, origin_count, origin_counts}
+use Rattle.origins.specs.Origins.{HasOrigin, child, origin_counts}
 use Rattle.origins.specs.Walking.{Kid, OccursIn, bodies_of_kid, count_in, in_order, kids, last_of, way}
 use Rattle.origins.specs.declared.walk.Open.{Open}
 
@@ -26,12 +26,10 @@ reverse_more x xs = reverse-append (x ∷ []) xs
 -- the path below open nodes, from the numbers of the children in the order from the root down
 way_turned : (d : Direction) (os : List Open) → way d os ≡ map (last_of d) (reverse os)
 way_turned d [] = refl
-way_turned d (o ∷ os) =
-    ap (λ (z : List ℕ). z ++ last_of d o ∷ []) (way_turned d os) ∙ sym (map-append (last_of d) (reverse os) (o ∷ []))
-    ∙ ap (map (last_of d)) (sym (reverse_more o os))
+way_turned d (o ∷ os) = cc (way_turned d os, map-append (last_of d) (reverse os) (o ∷ []), reverse_more o os)
 
 pub way_of : (d : Direction) (nodes : List Open) → way d (reverse nodes) ≡ map (last_of d) nodes
-way_of d nodes = way_turned d (reverse nodes) ∙ ap (map (last_of d)) (reverse-reverse nodes)
+way_of d nodes = cc (way_turned d (reverse nodes), reverse-reverse nodes)
 
 -- a child, with its number and its values
 abbrev kid_of : ℕ → Tree → Valuation → Kid
@@ -43,49 +41,45 @@ module _ (g : Grammar) (m : Passes) (k : ℕ) where
       → flat_map (bodies_of_kid g m k d) (in_order d (kids n ts vs)) ≡ prefix_all d (bodies_of_all version_two g m k ts vs)
   kids_bodies LeftToRight n none vs = refl
   kids_bodies RightToLeft n none vs = refl
-  kids_bodies LeftToRight n (more t ts) vs =
-      ap (λ (bodies : List (List ℕ)). prefix LeftToRight (bodies_of version_two g m k t (vs 0)) ++ bodies)
-      (kids_bodies LeftToRight (suc n) ts (rest vs))
+  kids_bodies LeftToRight n (more t ts) vs = cc (kids_bodies LeftToRight (suc n) ts (rest vs))
   kids_bodies RightToLeft n (more t ts) vs =
       let kid : Kid = kid_of n t (vs 0) in
       let others : List Kid = kids (suc n) ts (rest vs) in
-      ap (flat_map (bodies_of_kid g m k RightToLeft)) (reverse_more kid others)
-      ∙ flat_map-append (bodies_of_kid g m k RightToLeft) (reverse others) (kid ∷ [])
-      ∙ ap (λ (bodies : List (List ℕ)). bodies ++ (prefix RightToLeft (bodies_of version_two g m k t (vs 0)) ++ []))
-      (kids_bodies RightToLeft (suc n) ts (rest vs))
-      ∙ ap (λ (bodies : List (List ℕ)). prefix_all RightToLeft (bodies_of_all version_two g m k ts (rest vs)) ++ bodies)
-      (append-nil (prefix RightToLeft (bodies_of version_two g m k t (vs 0))))
+      cc (
+        reverse_more kid others,
+        flat_map-append (bodies_of_kid g m k RightToLeft) (reverse others) (kid ∷ []),
+        kids_bodies RightToLeft (suc n) ts (rest vs),
+        append-nil (prefix RightToLeft (bodies_of version_two g m k t (vs 0))),
+      )
 
   -- the tree of child i, with its values, is one of item i
   pub kid_recorded : (xs : List Item) (n : ℕ) (ts : Forest) (vs : ℕ → Valuation) (i : ℕ) (kid : Kid) (x : Item) → FitsAll g xs ts
       → SolvesAll NoRule g ts vs → AtEachNodeOf (WellAt (λ p. p ≤ k)) g m ts vs vs → slice_get (kids n ts vs) i ≡ Some kid
       → slice_get xs i ≡ Some x → IsRecorded g m k x kid.tree kid.values
-  kid_recorded xs n none vs i kid x f s w at is = absurd (let bad : ⊥ = cc in bad)
-  kid_recorded [] n (more t ts) vs i kid x f s w at is = elim f [ ]
+  kid_recorded xs n none vs i kid x f s w at is = cc
+  kid_recorded [] n (more t ts) vs i kid x f s w at is = absurd f
   kid_recorded (y ∷ xs) n (more t ts) vs zero kid x f s w at is =
-      let same : kid_of n t (vs 0) ≡ kid = cc in
-      let item : y ≡ x = cc in
-      let one : IsRecorded g m k y t (vs 0) = record { fits = f.0; texts = s.0; well = w.0 } in
-      subst (λ (z : Kid). IsRecorded g m k x z.tree z.values) same (subst (λ z. IsRecorded g m k z t (vs 0)) item one)
+      let same : kid ≡ kid_of n t (vs 0) = cc in
+      let item : x ≡ y = cc in
+      rw (same, item) (record { fits = f.0; texts = s.0; well = w.0 })
   kid_recorded (y ∷ xs) n (more t ts) vs (suc i) kid x f s w at is =
       kid_recorded xs (suc n) ts (rest vs) i kid x f.1 s.1 w.1 at is
 
 -- child i of a list that is numbered from n on has the number n + i
 pub kid_number : (n : ℕ) (ts : Forest) (vs : ℕ → Valuation) (i : ℕ) (kid : Kid) → slice_get (kids n ts vs) i ≡ Some kid
     → kid.number ≡ n + i
-kid_number n none vs i kid e = absurd (let bad : ⊥ = cc in bad)
+kid_number n none vs i kid e = cc
 kid_number n (more t ts) vs zero kid e =
-    let same : kid_of n t (vs 0) ≡ kid = cc in
-    let number : n ≡ kid.number = ap (λ (z : Kid). z.number) same in
-    omega arith
+    let same : kid ≡ kid_of n t (vs 0) = cc in
+    rw same (omega arith)
 kid_number n (more t ts) vs (suc i) kid e = let later = kid_number (suc n) ts (rest vs) i kid e in omega arith
 
 -- there are as many children as items
 pub kids_length : (g : Grammar) (xs : List Item) (n : ℕ) (ts : Forest) (vs : ℕ → Valuation) → FitsAll g xs ts
     → length (kids n ts vs) ≡ length xs
 kids_length g [] n none vs f = refl
-kids_length g [] n (more t ts) vs f = elim f [ ]
-kids_length g (x ∷ xs) n none vs f = elim f [ ]
+kids_length g [] n (more t ts) vs f = absurd f
+kids_length g (x ∷ xs) n none vs f = absurd f
 kids_length g (x ∷ xs) n (more t ts) vs f = ap suc (kids_length g xs (suc n) ts (rest vs) f.1)
 
 pub order_length : {X : Type 0} (d : Direction) (xs : List X) → length (in_order d xs) ≡ length xs
@@ -101,9 +95,11 @@ ordered_at RightToLeft xs i x e =
     let long = length-reverse xs in
     let less : i < length xs = omega arith in
     let place : length xs - suc i ≡ length xs - 1 - i = omega arith in
-    let value : get_or xs (length xs - 1 - i) x ≡ x =
-    sym (get_or-reverse xs i x less) ∙ get_or_from_slice_get (reverse xs) i x x e in
-    ap (slice_get xs) place ∙ slice_get-get_or xs (length xs - 1 - i) x (omega arith) ∙ ap Some value
+    cc (
+      get_or-reverse xs i x less,
+      get_or_from_slice_get (reverse xs) i x x e,
+      slice_get-get_or xs (length xs - 1 - i) x (omega arith),
+    )
 
 pub is_there : {X : Type 0} (xs : List X) (i : ℕ) → i < length xs → (x : X) × (slice_get xs i ≡ Some x)
 is_there [] i less = absurd (omega arith)
@@ -111,8 +107,8 @@ is_there (x ∷ xs) zero less = (x, refl)
 is_there (x ∷ xs) (suc i) less = is_there xs i (omega arith)
 
 pub drop_there : {X : Type 0} (xs : List X) (i : ℕ) (x : X) → slice_get xs i ≡ Some x → drop i xs ≡ x ∷ drop (suc i) xs
-drop_there [] i x e = absurd (let bad : ⊥ = cc in bad)
-drop_there (y ∷ xs) zero x e = let same : y ≡ x = cc in ap (λ z. z ∷ xs) same
+drop_there [] i x e = cc
+drop_there (y ∷ xs) zero x e = cc
 drop_there (y ∷ xs) (suc i) x e = drop_there xs i x e
 
 module _ (g : Grammar) where
@@ -127,7 +123,7 @@ module _ (g : Grammar) where
 
   count_kids : (n : ℕ) (ts : Forest) (vs : ℕ → Valuation) → count_in g (kids n ts vs) ≡ origin_counts g ts vs
   count_kids n none vs = refl
-  count_kids n (more t ts) vs = ap (λ z. origin_count g t (vs 0) + z) (count_kids (suc n) ts (rest vs))
+  count_kids n (more t ts) vs = cc (count_kids (suc n) ts (rest vs))
 
   pub count_ordered : (d : Direction) (n : ℕ) (ts : Forest) (vs : ℕ → Valuation)
       → count_in g (in_order d (kids n ts vs)) ≡ origin_counts g ts vs
@@ -150,11 +146,10 @@ module _ (g : Grammar) where
   occurs_reversed : (xs : List Kid) (path : List ℕ) → OccursIn g xs path → OccursIn g (reverse xs) path
   occurs_reversed [] path h = absurd h
   occurs_reversed (x ∷ xs) path h =
-      subst (λ (zs : List Kid). OccursIn g zs path) (sym (reverse_more x xs))
+      rw (reverse_more x xs)
       (elim h [
         | inl a ↦ occurs_right (reverse xs) (x ∷ []) path (inl a)
-        | inr b ↦ occurs_left (reverse xs) (x ∷ []) path
-            (occurs_reversed xs path b)
+        | inr b ↦ occurs_left (reverse xs) (x ∷ []) path (occurs_reversed xs path b)
       ])
 
   occurs_ordered : (d : Direction) (xs : List Kid) (path : List ℕ) → OccursIn g xs path → OccursIn g (in_order d xs) path
@@ -163,16 +158,15 @@ module _ (g : Grammar) where
 
   occurs_unordered : (d : Direction) (xs : List Kid) (path : List ℕ) → OccursIn g (in_order d xs) path → OccursIn g xs path
   occurs_unordered LeftToRight xs path h = h
-  occurs_unordered RightToLeft xs path h =
-      subst (λ (zs : List Kid). OccursIn g zs path) (reverse-reverse xs) (occurs_reversed (reverse xs) path h)
+  occurs_unordered RightToLeft xs path h = rw reverse-reverse at (occurs_reversed (reverse xs) path h)
 
   occurs_at : (n : ℕ) (ts : Forest) (vs : ℕ → Valuation) (i : ℕ) (path : List ℕ) → HasOrigin g path (child ts i) (vs i)
       → OccursIn g (kids n ts vs) ((n + i) ∷ path)
   occurs_at n none vs i path h = absurd (none_below path (vs i) h)
-  occurs_at n (more t ts) vs zero path h = let number : n + 0 ≡ n = omega arith in inl (path, ap (λ z. z ∷ path) number, h)
+  occurs_at n (more t ts) vs zero path h = inl (path, rw add-zero, h)
   occurs_at n (more t ts) vs (suc i) path h =
-      let number : suc n + i ≡ n + suc i = omega arith in
-      inr (subst (λ z. OccursIn g (kids (suc n) ts (rest vs)) (z ∷ path)) number (occurs_at (suc n) ts (rest vs) i path h))
+      let number : n + suc i ≡ suc n + i = omega arith in
+      inr (rw number (occurs_at (suc n) ts (rest vs) i path h))
 
   -- the path leads to an origin in the subtree of one of the children, which are numbered from n on
   pub record IsBelow (n : ℕ) (ts : Forest) (vs : ℕ → Valuation) (path : List ℕ) : Type 0 where
@@ -184,25 +178,17 @@ module _ (g : Grammar) where
   is_below : (n : ℕ) (ts : Forest) (vs : ℕ → Valuation) (path : List ℕ) → OccursIn g (kids n ts vs) path → IsBelow n ts vs path
   is_below n none vs path h = absurd h
   is_below n (more t ts) vs path h = elim h [
-    | inl a ↦ (let number : n ≡ n + 0 = omega arith in
-        record { number = 0; deeper = a.0; path_is = a.1 ∙ ap (λ z. z ∷ a.0) number; has = a.2 })
+    | inl a ↦ record { number = 0; deeper = a.0; path_is = rw add-zero a.1; has = a.2 }
     | inr b ↦ (let later = is_below (suc n) ts (rest vs) path b in
         let number : suc n + later.number ≡ n + suc later.number = omega arith in
-        record {
-          number = suc later.number;
-          deeper = later.deeper;
-          path_is = later.path_is ∙ ap (λ z. z ∷ later.deeper) number;
-          has = later.has;
-        })
+        record { number = suc later.number; deeper = later.deeper; path_is = cc; has = later.has })
   ]
 
   -- an origin in the subtree of child i occurs in the list of the children, in the order of any direction
   pub occurs_below : (d : Direction) (ts : Forest) (vs : ℕ → Valuation) (i : ℕ) (path : List ℕ)
       → HasOrigin g path (child ts i) (vs i) → OccursIn g (in_order d (kids 0 ts vs)) (i ∷ path)
   occurs_below d ts vs i path h =
-      let number : 0 + i ≡ i = omega arith in
-      occurs_ordered d (kids 0 ts vs) (i ∷ path)
-      (subst (λ z. OccursIn g (kids 0 ts vs) (z ∷ path)) number (occurs_at 0 ts vs i path h))
+      occurs_ordered d (kids 0 ts vs) (i ∷ path) (rw zero-add at (occurs_at 0 ts vs i path h))
 
   -- an origin that occurs in the list of the children, in any such order, is in the subtree of one of them
   pub below_occurs : (d : Direction) (ts : Forest) (vs : ℕ → Valuation) (path : List ℕ)

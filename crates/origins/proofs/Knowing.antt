@@ -1,6 +1,7 @@
 -- What is known of the value of an expression without an evaluation.
 use Rattle.std.proofs.Common.{◌≡◌, ℕ, ℤ, zero, suc, pos, negsuc, true, List, [], ◌∷◌, Option, Some, None, refl, ap}
-use Rattle.std.proofs.Common.{◌+◌, ◌<◌, ◌≤◌, arith, drop, get_or, length, sym, subst, ◌∙◌, ◌+ℤ◌, ◌-ℤ◌, ◌*ℤ◌}
+use Rattle.std.proofs.Common.{◌+◌, ◌<◌, ◌≤◌, add-one, drop, drop-cons, get_or, length, ◌∙◌, ◌+ℤ◌, ◌-ℤ◌, ◌*ℤ◌}
+use Rattle.std.proofs.lemmas.List.{drop_all}
 use Rattle.ag_value.specs.declared.value.ErrorCode.{ErrorCode}
 use Rattle.ag_value.specs.declared.value.ErrorCode.TheVariants as error
 use Rattle.ag_value.specs.declared.value.Value.{Value, out-Value}
@@ -11,73 +12,62 @@ use Rattle.ag_grammar.specs.declared.syntax.node.BinaryCall.{BinaryCall}
 use Rattle.ag_grammar.specs.declared.syntax.node.BinaryCall.TheVariants as binary
 use Rattle.ag_grammar.specs.declared.syntax.node.Node.{Node}
 use Rattle.ag_grammar.specs.declared.syntax.node.Node.TheFolds.{fold-roll-Node}
-use Rattle.ag_grammar.specs.declared.syntax.node.Node.TheOpen.{Node-F}
 use Rattle.ag_grammar.specs.declared.syntax.node.Node.TheVariants as node_of
 use Rattle.ag_grammar.specs.declared.syntax.node.Operator.{Operator}
 use Rattle.ag_grammar.specs.declared.syntax.node.Operator.TheVariants as operator
 use Rattle.ag_grammar.specs.declared.syntax.node.UnaryCall.{UnaryCall}
 use Rattle.ag_grammar.specs.declared.syntax.node.UnaryCall.TheVariants as unary
-use Rattle.ag_grammar.specs.expressions.Evaluation.{Meaning, value_in, value_step}
+use Rattle.ag_grammar.specs.expressions.Evaluation.{value_in}
 use Rattle.std.specs.Fmt.{signed_decimal}
-use Rattle.ag_value.specs.operations.Arguments.{either, truth}
-use Rattle.ag_value.specs.operations.Arguments.{fault_at, fault_of, fault_or, first_fault, has_fault, leftmost, strict}
+use Rattle.ag_value.specs.operations.Arguments.{truth}
+use Rattle.ag_value.specs.operations.Arguments.{fault_of, has_fault, leftmost, strict}
 use Rattle.ag_grammar.specs.values.Calls.{binary_call_result, choice_of, chosen_at, put, unary_call_result}
 use Rattle.ag_value.specs.operations.Fitting.{fit}
-use Rattle.ag_value.specs.operations.Numbers.{decimal_at, decimal_of, from_numbers, number_at, number_or_fault, number_value}
+use Rattle.ag_value.specs.operations.Numbers.{decimal_of, number_at, number_value}
 use Rattle.ag_value.specs.operations.Tables.{put_result}
 use Rattle.ag_grammar.specs.values.Operators.{operation_result, operator_result}
 use Rattle.ag_grammar.proofs.expressions.Trees.{value-Chain, value-If, value-Let, value-Literal, value-Unary}
 use Rattle.origins.specs.Forms.{AreAlike, CallsBoth, CallsTo, ChoosesTo, Continues, Describes, Holds, IsKnown, IsLike, IsStated}
-use Rattle.origins.specs.Forms.{PutsTo}
-use Rattle.origins.specs.Forms.{Reaches, Spells, States, StepsTo}
+use Rattle.origins.specs.Forms.{PutsTo, Reaches, Spells, States, StepsTo}
 use Rattle.origins.specs.declared.forms.Known.{Known}
 use Rattle.origins.specs.declared.forms.Known.TheVariants as known
 
 number_clean : (n : ℤ) → fault_of (value.Num n) ≡ None
-number_clean n = ap fault_at (outs-Num n)
+number_clean n = cc (outs-Num n)
 
 -- a value that is like an error is an error
 like_error : (o : Option ErrorCode) (v w : Value) → has_fault o ≡ true → IsLike o v w → has_fault (fault_of w) ≡ true
-like_error None v w e like = absurd (let bad : ⊥ = cc in bad)
+like_error None v w e like = cc
 like_error (Some c) v w e like = like
 
 like_clean : (o : Option ErrorCode) (v w : Value) → o ≡ None → IsLike o v w → w ≡ v
 like_clean None v w e like = like
-like_clean (Some c) v w e like = absurd (let bad : ⊥ = cc in bad)
+like_clean (Some c) v w e like = cc
 
-value-Occurrence : (k : ℕ) (env : ℕ → Value) (bound : List Value) → value_in (node_of.Occurrence k) env bound ≡ env k
-value-Occurrence k env bound =
-    ap (λ (e : Node). value_in e env bound) (sym (node_of.rolls-Occurrence k))
-    ∙ ap (λ (f : Meaning). f env bound) (fold-roll-Node Meaning value_step (Node-F.Occurrence k))
+pub value-Occurrence : (k : ℕ) (env : ℕ → Value) (bound : List Value) → value_in (node_of.Occurrence k) env bound ≡ env k
+value-Occurrence k env bound = rw (← node_of.rolls-Occurrence k, fold-roll-Node)
 
 value-Binary : (call : BinaryCall) (a b : Node) (env : ℕ → Value) (bound : List Value)
     → value_in (node_of.Binary call a b) env bound ≡ binary_call_result call (value_in a env bound) (value_in b env bound)
-value-Binary call a b env bound =
-    ap (λ (e : Node). value_in e env bound) (sym (node_of.rolls-Binary call a b))
-    ∙ ap (λ (f : Meaning). f env bound) (fold-roll-Node Meaning value_step (Node-F.Binary call a b))
+value-Binary call a b env bound = rw (← node_of.rolls-Binary call a b, fold-roll-Node)
 
 value-Put : (t k a : Node) (env : ℕ → Value) (bound : List Value)
     → value_in (node_of.Put t k a) env bound ≡ put (value_in t env bound) (value_in k env bound) (value_in a env bound)
-value-Put t k a env bound =
-    ap (λ (e : Node). value_in e env bound) (sym (node_of.rolls-Put t k a))
-    ∙ ap (λ (f : Meaning). f env bound) (fold-roll-Node Meaning value_step (Node-F.Put t k a))
+value-Put t k a env bound = rw (← node_of.rolls-Put t k a, fold-roll-Node)
 
 value-EmptyTable : (env : ℕ → Value) (bound : List Value) → value_in node_of.EmptyTable env bound ≡ value.Table []
-value-EmptyTable env bound =
-    ap (λ (e : Node). value_in e env bound) (sym node_of.rolls-EmptyTable)
-    ∙ ap (λ (f : Meaning). f env bound) (fold-roll-Node Meaning value_step Node-F.EmptyTable)
+value-EmptyTable env bound = rw (← node_of.rolls-EmptyTable, fold-roll-Node)
 
 -- if the first argument is an error, the result is this error
 strict_first : (v : Value) (vs : List Value) (w : Value) (o : Option ErrorCode) → fault_of v ≡ o → has_fault o ≡ true
     → fault_of (strict (v ∷ vs) w) ≡ o
 unfolding leftmost
-strict_first v vs w None e error = absurd (let bad : ⊥ = cc in bad)
-strict_first v vs w (Some c) e error =
-    ap (λ (z : Option ErrorCode). fault_of (fault_or (first_fault z (leftmost vs)) w)) e ∙ ap fault_at (outs-Fault c)
+strict_first v vs w None e error = cc
+strict_first v vs w (Some c) e error = cc (outs-Fault c)
 
 strict_next : (v : Value) (vs : List Value) (w : Value) → fault_of v ≡ None → strict (v ∷ vs) w ≡ strict vs w
 unfolding leftmost
-strict_next v vs w e = ap (λ (z : Option ErrorCode). fault_or (first_fault z (leftmost vs)) w) e
+strict_next v vs w e = cc
 
 strict_none : (w : Value) → strict [] w ≡ w
 unfolding leftmost
@@ -93,14 +83,14 @@ strict_clean v w u e h = strict_next v (w ∷ []) u e ∙ strict_one w u h
 second_error : (env : ℕ → Value) (k : ℕ) (v w u : Value) → fault_of v ≡ None → Holds env (known.ErrorOf k) w
     → Holds env (known.ErrorOf k) (strict (v ∷ w ∷ []) u)
 second_error env k v w u clean h =
-    (ap fault_of (strict_next v (w ∷ []) u clean) ∙ strict_first w [] u (fault_of (env k)) h.0 h.1, h.1)
+    (cc (strict_next v (w ∷ []) u clean, strict_first w [] u (fault_of (env k)) h.0 h.1), h.1)
 
 first_error : (env : ℕ → Value) (k : ℕ) (v : Value) (vs : List Value) (u : Value) → Holds env (known.ErrorOf k) v
     → Holds env (known.ErrorOf k) (strict (v ∷ vs) u)
 first_error env k v vs u h = (strict_first v vs u (fault_of (env k)) h.0 h.1, h.1)
 
 of_number : (v : Value) (n : ℤ) → v ≡ value.Num n → fault_of v ≡ None
-of_number v n e = ap fault_of e ∙ number_clean n
+of_number v n e = cc (number_clean n)
 
 stated : (env : ℕ → Value) (v : Value) (r : Known) → States v r → Holds env r v
 stated env v (known.Number n) s = s
@@ -114,15 +104,15 @@ module _ (base : ℕ → Value) where
   described : (k : ℕ) (r : Known) → Describes (base k) k r → (env : ℕ → Value) → AreAlike base env → Holds env r (env k)
   described k (known.Number n) d env alike =
       like_clean (fault_of (base k)) (base k) (env k) (ap fault_of d ∙ number_clean n) (alike.each k) ∙ d
-  described k known.Clean d env alike = ap fault_of (like_clean (fault_of (base k)) (base k) (env k) d (alike.each k)) ∙ d
+  described k known.Clean d env alike = cc (like_clean (fault_of (base k)) (base k) (env k) d (alike.each k))
   described k (known.ErrorOf j) d env alike =
       let error = like_error (fault_of (base k)) (base k) (env k) d.1 (alike.each k) in
-      (ap (λ (z : ℕ). fault_of (env z)) (sym d.0), ap (λ (z : ℕ). has_fault (fault_of (env z))) d.0 ∙ error)
+      (cc, cc error)
   described k known.Nothing d env alike = tt
 
   pub known_argument : (k : ℕ) (r : Known) → Describes (base k) k r → IsKnown base (node_of.Occurrence k) r
   known_argument k r d = record {
-    holds = λ env bound alike. subst (Holds env r) (sym (value-Occurrence k env bound)) (described k r d env alike);
+    holds = λ env bound alike. rw value-Occurrence (described k r d env alike);
   }
 
   pub known_nothing : (e : Node) → IsKnown base e known.Nothing
@@ -130,124 +120,101 @@ module _ (base : ℕ → Value) where
 
   pub known_literal : (v : Value) (r : Known) → States (fit v) r → IsKnown base (node_of.Literal v) r
   known_literal v r s = record {
-    holds = λ env bound alike. subst (Holds env r) (sym (value-Literal v env bound)) (stated env (fit v) r s);
+    holds = λ env bound alike. rw value-Literal (stated env (fit v) r s);
   }
 
   -- `number(t)` for an argument t
   pub known_parsed : (k : ℕ) (r : Known) → Spells (base k) r → IsKnown base (node_of.Unary unary.Number (node_of.Occurrence k)) r
   known_parsed k (known.Number n) s =
       let text = s.0 in
-      let is : base k ≡ value.Text text = s.1 in
-      let clean : fault_of (base k) ≡ None = ap fault_of is ∙ ap fault_at (outs-Text text) in
+      let clean : fault_of (base k) ≡ None = cc (outs-Text text) in
       let result : unary_call_result unary.Number (value.Text text) ≡ value.Num n =
-      strict_one (value.Text text) (number_at (out-Value (value.Text text))) (ap fault_at (outs-Text text))
-      ∙ ap number_at (outs-Text text) ∙ ap number_or_fault s.2 in
+      cc (strict_one (value.Text text) (number_at (out-Value (value.Text text))) (cc (outs-Text text)), outs-Text text) in
       record {
         holds = λ env bound alike.
-            value-Unary unary.Number (node_of.Occurrence k) env bound
-            ∙ ap (unary_call_result unary.Number)
-            (value-Occurrence k env bound ∙ like_clean (fault_of (base k)) (base k) (env k) clean (alike.each k) ∙ is)
-            ∙ result;
+            cc (
+              value-Unary unary.Number (node_of.Occurrence k) env bound,
+              value-Occurrence k env bound,
+              like_clean (fault_of (base k)) (base k) (env k) clean (alike.each k),
+            );
       }
   known_parsed k known.Clean s = absurd s
   known_parsed k (known.ErrorOf j) s = absurd s
-  known_parsed k known.Nothing s = known_nothing (node_of.Unary unary.Number (node_of.Occurrence k))
+  known_parsed k known.Nothing s = known_nothing _
 
   pub known_unary : (call : UnaryCall) (a : Node) (r s : Known) → IsKnown base a r → CallsTo call r s
       → IsKnown base (node_of.Unary call a) s
   known_unary call a r s k c = record {
-    holds = λ env bound alike. subst (Holds env s) (sym (value-Unary call a env bound))
-        (c.holds env (value_in a env bound) (k.holds env bound alike));
+    holds = λ env bound alike. rw value-Unary (c.holds env _ (k.holds env bound alike));
   }
 
   pub known_binary : (call : BinaryCall) (a b : Node) (r s z : Known) → IsKnown base a r → IsKnown base b s
       → CallsBoth call r s z → IsKnown base (node_of.Binary call a b) z
   known_binary call a b r s z k j c = record {
-    holds = λ env bound alike. subst (Holds env z) (sym (value-Binary call a b env bound))
-        (c.holds env (value_in a env bound) (value_in b env bound) (k.holds env bound alike) (j.holds env bound alike));
+    holds = λ env bound alike. rw value-Binary
+        (c.holds env _ _ (k.holds env bound alike) (j.holds env bound alike));
   }
 
   pub known_choice : (c e f : Node) (q r s z : Known) → IsKnown base c q → IsKnown base e r → IsKnown base f s
       → ChoosesTo q r s z → IsKnown base (node_of.If c e f) z
   known_choice c e f q r s z i j k h = record {
-    holds = λ env bound alike. subst (Holds env z) (sym (value-If c e f env bound))
-        (h.holds env (value_in c env bound) (value_in e env bound) (value_in f env bound) (i.holds env bound alike)
-        (j.holds env bound alike) (k.holds env bound alike));
+    holds = λ env bound alike. rw value-If
+        (h.holds env _ _ _ (i.holds env bound alike) (j.holds env bound alike) (k.holds env bound alike));
   }
 
   pub known_put : (t k a : Node) (q r s z : Known) → IsKnown base t q → IsKnown base k r → IsKnown base a s
       → PutsTo q r s z → IsKnown base (node_of.Put t k a) z
   known_put t k a q r s z i j l h = record {
-    holds = λ env bound alike. subst (Holds env z) (sym (value-Put t k a env bound))
-        (h.holds env (value_in t env bound) (value_in k env bound) (value_in a env bound) (i.holds env bound alike)
-        (j.holds env bound alike) (l.holds env bound alike));
+    holds = λ env bound alike. rw value-Put
+        (h.holds env _ _ _ (i.holds env bound alike) (j.holds env bound alike) (l.holds env bound alike));
   }
 
   pub known_body : (e f : Node) (r : Known) → IsKnown base f r → IsKnown base (node_of.Let e f) r
   known_body e f r k = record {
-    holds = λ env bound alike. subst (Holds env r) (sym (value-Let e f env bound)) (k.holds env _ alike);
+    holds = λ env bound alike. rw value-Let (k.holds env _ alike);
   }
 
   pub known_empty : IsKnown base node_of.EmptyTable known.Clean
-  known_empty = record { holds = λ env bound alike. ap fault_of (value-EmptyTable env bound) ∙ ap fault_at (outs-Table []) }
+  known_empty = record { holds = λ env bound alike. cc (value-EmptyTable env bound, outs-Table []) }
 
   -- a chain
   pub known_chain : (first : Node) (others : List (Operator × Node)) (r s : Known) → IsKnown base first r
       → Continues base r others s → IsKnown base (node_of.Chain first others) s
   known_chain first others r s k c = record {
-    holds = λ env bound alike. subst (Holds env s) (sym (value-Chain first others env bound))
-        (c.holds env bound (value_in first env bound) alike (k.holds env bound alike));
+    holds = λ env bound alike. rw value-Chain (c.holds env bound (value_in first env bound) alike (k.holds env bound alike));
   }
 
   pub reaches_first : (r : Known) (others : List (Operator × Node)) → Reaches base r others r others
   reaches_first r others = record { onward = λ z c. c }
 
-  next_operand : (q : Known) (others : List (Operator × Node)) (r s z : Known) (x : Operator × Node)
-      (rest : List (Operator × Node)) → Reaches base q others r (x ∷ rest) → IsKnown base x.1 s → StepsTo x.0 r s z
-      → Reaches base q others z rest
-  next_operand q others r s z x rest reaches k step = record {
-    onward = λ u c. reaches.onward u (record {
-      holds = λ env bound v alike h. c.holds env bound (operation_result x.0 v (value_in x.1 env bound)) alike
-          (step.holds env v (value_in x.1 env bound) h (k.holds env bound alike));
-    });
-  }
-
   pub reaches_next : (q : Known) (others : List (Operator × Node)) (r s z : Known) (i : ℕ) (x : Operator × Node)
       → i < length others → x ≡ get_or others i x → Reaches base q others r (drop i others) → IsKnown base x.1 s
       → StepsTo x.0 r s z → Reaches base q others z (drop (i + 1) others)
   reaches_next q others r s z i x less is reaches k step =
-      let next : suc i ≡ i + 1 = omega arith in
-      subst (λ (j : ℕ). Reaches base q others z (drop j others)) next
-      (next_operand q others r s z x (drop (suc i) others) (subst (Reaches base q others r) (split others i x less is) reaches) k
-      step)
-    where
-      split : (xs : List (Operator × Node)) (i : ℕ) (x : Operator × Node) → i < length xs → x ≡ get_or xs i x
-          → drop i xs ≡ x ∷ drop (suc i) xs
-      split [] i x less is = absurd (omega arith)
-      split (y ∷ xs) zero x less is = ap (λ z. z ∷ xs) (sym is)
-      split (y ∷ xs) (suc i) x less is = split xs i x (omega arith) is
+      let next : drop i others ≡ x ∷ drop (i + 1) others = rw add-one (cc (drop-cons others i x less)) in
+      let later = rw next at reaches in
+      record {
+        onward = λ u c. later.onward u (record {
+          holds = λ env bound v alike h. c.holds env bound (operation_result x.0 v (value_in x.1 env bound)) alike
+              (step.holds env v (value_in x.1 env bound) h (k.holds env bound alike));
+        });
+      }
 
   pub reaches_end : (q : Known) (others : List (Operator × Node)) (r : Known) (i : ℕ) → length others ≤ i
       → Reaches base q others r (drop i others) → Continues base q others r
   reaches_end q others r i past reaches =
-      (subst (Reaches base q others r) (drop_all others i past) reaches).onward r
-      (record { holds = λ env bound v alike h. h })
-    where
-      drop_all : (xs : List (Operator × Node)) (i : ℕ) → length xs ≤ i → drop i xs ≡ []
-      drop_all [] zero past = refl
-      drop_all [] (suc i) past = refl
-      drop_all (y ∷ xs) zero past = absurd (omega arith)
-      drop_all (y ∷ xs) (suc i) past = drop_all xs i (omega arith)
+      let later = rw (drop_all i others past) at reaches in
+      later.onward r (record { holds = λ env bound v alike h. h })
 
 -- Operators.
 pub steps_first : (o : Operator) (k : ℕ) (r : Known) → StepsTo o (known.ErrorOf k) r (known.ErrorOf k)
-steps_first o k r = record { holds = λ env v w h i. first_error env k v (w ∷ []) (operator_result o v w) h }
+steps_first o k r = record { holds = λ env v w h i. first_error env k v (w ∷ []) _ h }
 
 pub steps_number : (o : Operator) (n : ℤ) (k : ℕ) → StepsTo o (known.Number n) (known.ErrorOf k) (known.ErrorOf k)
-steps_number o n k = record { holds = λ env v w h i. second_error env k v w (operator_result o v w) (of_number v n h) i }
+steps_number o n k = record { holds = λ env v w h i. second_error env k v w _ (of_number v n h) i }
 
 pub steps_clean : (o : Operator) (k : ℕ) → StepsTo o known.Clean (known.ErrorOf k) (known.ErrorOf k)
-steps_clean o k = record { holds = λ env v w h i. second_error env k v w (operator_result o v w) h i }
+steps_clean o k = record { holds = λ env v w h i. second_error env k v w _ h i }
 
 pub steps_nothing : (o : Operator) (r s : Known) → StepsTo o r s known.Nothing
 steps_nothing o r s = record { holds = λ env v w h i. tt }
@@ -255,39 +222,26 @@ steps_nothing o r s = record { holds = λ env v w h i. tt }
 steps_numbers : (o : Operator) (m n : ℤ) (r : Known) (u : Value) → operator_result o (value.Num m) (value.Num n) ≡ u
     → States u r → StepsTo o (known.Number m) (known.Number n) r
 steps_numbers o m n r u is s = record {
-  holds = λ env v w h i. subst (Holds env r)
-      (sym
-      (ap (operation_result o v) i ∙ ap (λ (z : Value). operation_result o z (value.Num n)) h
-      ∙ strict_clean (value.Num m) (value.Num n) (operator_result o (value.Num m) (value.Num n)) (number_clean m) (number_clean n)
-      ∙ is))
-      (stated env u r s);
+  holds = λ env v w h i.
+      let clean = strict_clean _ _ (operator_result o (value.Num m) (value.Num n)) (number_clean m) (number_clean n) in
+      let result : operation_result o v w ≡ u = cc in
+      rw result (stated env u r s);
 }
-
-from_both : (f : ℤ → ℤ → Value) (m n : ℤ) → from_numbers f (out-Value (value.Num m)) (out-Value (value.Num n)) ≡ f m n
-from_both f m n =
-    ap (λ (z : Value-F Value). from_numbers f z (out-Value (value.Num n))) (outs-Num m)
-    ∙ ap (λ (z : Value-F Value). from_numbers f (Value-F.Num m) z) (outs-Num n)
 
 pub steps_add : (i j m n : ℤ) (r : Known) → i ≡ m → j ≡ n → IsStated (number_value (i +ℤ j)) r
     → StepsTo operator.Add (known.Number m) (known.Number n) r
 steps_add i j m n r e h s =
-    steps_numbers operator.Add m n r (number_value (i +ℤ j))
-    (from_both (λ m n. number_value (m +ℤ n)) m n ∙ sym (ap (λ z. number_value (z +ℤ j)) e ∙ ap (λ z. number_value (m +ℤ z)) h))
-    s.states
+    steps_numbers operator.Add m n r (number_value (i +ℤ j)) (cc (outs-Num m, outs-Num n)) s.states
 
 pub steps_subtract : (i j m n : ℤ) (r : Known) → i ≡ m → j ≡ n → IsStated (number_value (i -ℤ j)) r
     → StepsTo operator.Subtract (known.Number m) (known.Number n) r
 steps_subtract i j m n r e h s =
-    steps_numbers operator.Subtract m n r (number_value (i -ℤ j))
-    (from_both (λ m n. number_value (m -ℤ n)) m n ∙ sym (ap (λ z. number_value (z -ℤ j)) e ∙ ap (λ z. number_value (m -ℤ z)) h))
-    s.states
+    steps_numbers operator.Subtract m n r (number_value (i -ℤ j)) (cc (outs-Num m, outs-Num n)) s.states
 
 pub steps_multiply : (i j m n : ℤ) (r : Known) → i ≡ m → j ≡ n → IsStated (number_value (i *ℤ j)) r
     → StepsTo operator.Multiply (known.Number m) (known.Number n) r
 steps_multiply i j m n r e h s =
-    steps_numbers operator.Multiply m n r (number_value (i *ℤ j))
-    (from_both (λ m n. number_value (m *ℤ n)) m n ∙ sym (ap (λ z. number_value (z *ℤ j)) e ∙ ap (λ z. number_value (m *ℤ z)) h))
-    s.states
+    steps_numbers operator.Multiply m n r (number_value (i *ℤ j)) (cc (outs-Num m, outs-Num n)) s.states
 
 -- Calls with one argument.
 pub calls_nothing : (call : UnaryCall) (r : Known) → CallsTo call r known.Nothing
@@ -315,21 +269,13 @@ calls_keys k = record { holds = λ env v h. first_error env k v [] _ h }
 -- Calls with two arguments.
 pub calls_first : (call : BinaryCall) (k : ℕ) (r : Known) → (call ≡ binary.OrElse → ⊥)
     → CallsBoth call (known.ErrorOf k) r (known.ErrorOf k)
-calls_first binary.Nth k r differs = record { holds = λ env v w h i. first_error env k v (w ∷ []) _ h }
-calls_first binary.Append k r differs = record { holds = λ env v w h i. first_error env k v (w ∷ []) _ h }
-calls_first binary.Join k r differs = record { holds = λ env v w h i. first_error env k v (w ∷ []) _ h }
-calls_first binary.Get k r differs = record { holds = λ env v w h i. first_error env k v (w ∷ []) _ h }
-calls_first binary.Has k r differs = record { holds = λ env v w h i. first_error env k v (w ∷ []) _ h }
 calls_first binary.OrElse k r differs = absurd (differs refl)
+calls_first call k r differs = record { holds = λ env v w h i. first_error env k v (w ∷ []) _ h }
 
 next_call : (call : BinaryCall) (env : ℕ → Value) (k : ℕ) (v w : Value) → (call ≡ binary.OrElse → ⊥) → fault_of v ≡ None
     → Holds env (known.ErrorOf k) w → Holds env (known.ErrorOf k) (binary_call_result call v w)
-next_call binary.Nth env k v w differs clean h = second_error env k v w _ clean h
-next_call binary.Append env k v w differs clean h = second_error env k v w _ clean h
-next_call binary.Join env k v w differs clean h = second_error env k v w _ clean h
-next_call binary.Get env k v w differs clean h = second_error env k v w _ clean h
-next_call binary.Has env k v w differs clean h = second_error env k v w _ clean h
 next_call binary.OrElse env k v w differs clean h = absurd (differs refl)
+next_call call env k v w differs clean h = second_error env k v w _ clean h
 
 pub calls_number_next : (call : BinaryCall) (n : ℤ) (k : ℕ) → (call ≡ binary.OrElse → ⊥)
     → CallsBoth call (known.Number n) (known.ErrorOf k) (known.ErrorOf k)
@@ -344,45 +290,41 @@ calls_unknown call r s = record { holds = λ env v w h i. tt }
 
 -- `orelse`
 either_clean : (v w : Value) → fault_of v ≡ None → binary_call_result binary.OrElse v w ≡ v
-either_clean v w e = ap (λ (z : Option ErrorCode). either z v w) e
+either_clean v w e = cc
 
 either_error : (v w : Value) (o : Option ErrorCode) → fault_of v ≡ o → has_fault o ≡ true
     → binary_call_result binary.OrElse v w ≡ w
-either_error v w None e h = absurd (let bad : ⊥ = cc in bad)
-either_error v w (Some c) e h = ap (λ (z : Option ErrorCode). either z v w) e
+either_error v w None e h = cc
+either_error v w (Some c) e h = cc
 
 pub other_after_error : (k : ℕ) (r : Known) → CallsBoth binary.OrElse (known.ErrorOf k) r r
 other_after_error k r = record {
-  holds = λ env v w h i. subst (Holds env r) (sym (either_error v w (fault_of (env k)) h.0 h.1)) i;
+  holds = λ env v w h i. rw (either_error v w (fault_of (env k)) h.0 h.1) i;
 }
 
 pub other_number : (n : ℤ) (r : Known) → CallsBoth binary.OrElse (known.Number n) r (known.Number n)
 other_number n r = record { holds = λ env v w h i. either_clean v w (of_number v n h) ∙ h }
 
 pub other_clean : (r : Known) → CallsBoth binary.OrElse known.Clean r known.Clean
-other_clean r = record { holds = λ env v w h i. ap fault_of (either_clean v w h) ∙ h }
+other_clean r = record { holds = λ env v w h i. cc (either_clean v w h) }
 
 -- `if`
 chosen_error : (o : Option ErrorCode) (u v w : Value) → fault_of u ≡ o → has_fault o ≡ true → fault_of (choice_of u v w) ≡ o
 chosen_error o u v w e h = by_view (out-Value u) refl
   where
     by_view : (x : Value-F Value) → out-Value u ≡ x → fault_of (chosen_at x v w) ≡ o
-    by_view (Value-F.Num n) is = absurd (let bad : ⊥ = cc in bad)
-    by_view (Value-F.Text t) is = absurd (let bad : ⊥ = cc in bad)
-    by_view (Value-F.List xs) is = absurd (let bad : ⊥ = cc in bad)
-    by_view (Value-F.Table xs) is = absurd (let bad : ⊥ = cc in bad)
-    by_view (Value-F.Fault c) is = ap fault_at (outs-Fault c) ∙ sym (ap fault_at is) ∙ e
+    by_view (Value-F.Fault c) is = cc (outs-Fault c)
+    by_view x is = cc
 
 pub chooses_error : (k : ℕ) (r s : Known) → ChoosesTo (known.ErrorOf k) r s (known.ErrorOf k)
 chooses_error k r s = record { holds = λ env u v w h i j. (chosen_error (fault_of (env k)) u v w h.0 h.1, h.1) }
 
 chosen_by : (n : ℤ) (u v w : Value) → u ≡ value.Num n → choice_of u v w ≡ chosen_at (Value-F.Num n) v w
-chosen_by n u v w e = ap (λ (z : Value). choice_of z v w) e ∙ ap (λ (z : Value-F Value). chosen_at z v w) (outs-Num n)
+chosen_by n u v w e = cc (outs-Num n)
 
 pub chooses_other : (n : ℤ) (r s : Known) → n ≡ pos 0 → ChoosesTo (known.Number n) r s s
 chooses_other n r s zero_is = record {
-  holds = λ env u v w h i j. subst (Holds env s)
-      (sym (chosen_by n u v w h ∙ ap (λ (z : ℤ). chosen_at (Value-F.Num z) v w) zero_is)) j;
+  holds = λ env u v w h i j. rw (chosen_by n u v w h, zero_is) j;
 }
 
 chosen_first : (n : ℤ) (v w : Value) → (n ≡ pos 0 → ⊥) → chosen_at (Value-F.Num n) v w ≡ v
@@ -392,7 +334,7 @@ chosen_first (negsuc n) v w differs = refl
 
 pub chooses_one : (n : ℤ) (r s : Known) → (n ≡ pos 0 → ⊥) → ChoosesTo (known.Number n) r s r
 chooses_one n r s differs = record {
-  holds = λ env u v w h i j. subst (Holds env r) (sym (chosen_by n u v w h ∙ chosen_first n v w differs)) i;
+  holds = λ env u v w h i j. rw (chosen_by n u v w h, chosen_first n v w differs) i;
 }
 
 pub chooses_nothing : (q r s : Known) → ChoosesTo q r s known.Nothing
@@ -408,28 +350,24 @@ puts_nothing q r s = record { holds = λ env u v w h i j. tt }
 third_error : (env : ℕ → Value) (k : ℕ) (u v w x : Value) → fault_of u ≡ None → fault_of v ≡ None
     → Holds env (known.ErrorOf k) w → Holds env (known.ErrorOf k) (strict (u ∷ v ∷ w ∷ []) x)
 third_error env k u v w x first second h =
-    subst (Holds env (known.ErrorOf k)) (sym (strict_next u (v ∷ w ∷ []) x first)) (second_error env k v w x second h)
+    rw (strict_next u (v ∷ w ∷ []) x first) (second_error env k v w x second h)
 
 pub puts_key : (k : ℕ) (r : Known) → PutsTo known.Clean (known.ErrorOf k) r (known.ErrorOf k)
 puts_key k r = record {
-  holds = λ env u v w h i j. subst (Holds env (known.ErrorOf k)) (sym (strict_next u (v ∷ w ∷ []) (put_result u v w) h))
-      (first_error env k v (w ∷ []) (put_result u v w) i);
+  holds = λ env u v w h i j. rw (strict_next u (v ∷ w ∷ []) (put_result u v w) h) (first_error env k v (w ∷ []) _ i);
 }
 
 pub puts_item : (k : ℕ) → PutsTo known.Clean known.Clean (known.ErrorOf k) (known.ErrorOf k)
-puts_item k = record { holds = λ env u v w h i j. third_error env k u v w (put_result u v w) h i j }
+puts_item k = record { holds = λ env u v w h i j. third_error env k u v w _ h i j }
 
 pub puts_numbered : (n : ℤ) (k : ℕ) → PutsTo known.Clean (known.Number n) (known.ErrorOf k) (known.ErrorOf k)
 puts_numbered n k = record {
-  holds = λ env u v w h i j. third_error env k u v w (put_result u v w) h (of_number v n i) j;
+  holds = λ env u v w h i j. third_error env k u v w _ h (of_number v n i) j;
 }
 
 text_of_number : (n : ℤ) (v : Value) → v ≡ value.Num n → fault_of (unary_call_result unary.Text v) ≡ None
 text_of_number n v e =
-    ap (λ (z : Value). fault_of (unary_call_result unary.Text z)) e
-    ∙ ap fault_of (strict_one (value.Num n) (decimal_of (value.Num n)) (number_clean n))
-    ∙ ap (λ (z : Value-F Value). fault_of (decimal_at z)) (outs-Num n)
-    ∙ ap fault_at (outs-Text (signed_decimal n))
+    cc (strict_one (value.Num n) (decimal_of (value.Num n)) (number_clean n), outs-Num n, outs-Text (signed_decimal n))
 
 pub calls_decimal : (n : ℤ) → CallsTo unary.Text (known.Number n) known.Clean
 calls_decimal n = record { holds = λ env v h. text_of_number n v h }

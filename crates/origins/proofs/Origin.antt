@@ -1,20 +1,20 @@
 -- An error that has a cause comes from an origin. So if a tree has no origin, no value of its solution is an error.
-use Rattle.std.proofs.Common.{ℕ, zero, suc, ◌≡◌, ◌<◌, ◌⊎◌, inl, inr, Bool, true, cond, List, [], ◌∷◌, ◌++◌, Option, Some, None}
-use Rattle.std.proofs.Common.{slice_get, refl, ap, ◌∙◌, sym, subst, arith}
+use Rattle.std.proofs.Common.{ℕ, zero, suc, ◌≡◌, ◌<◌, inl, inr, Bool, true, cond, List, [], ◌∷◌, Option, Some, None}
+use Rattle.std.proofs.Common.{slice_get, refl, arith}
 use Rattle.std.specs.List.{count_by}
 use Rattle.std.proofs.lemmas.List.Sums.{sum_by-cons}
 use Rattle.ag_grammar.specs.declared.grammar.Rule.{Rule}
 use Rattle.ag_grammar.specs.grammars.AttributeGrammar.{Grammar}
-use Rattle.ag_grammar.specs.grammars.Solution.{Valuation, at, below, children, left_passes, rest}
+use Rattle.ag_grammar.specs.grammars.Solution.{Valuation, at, below, children, rest}
 use Rattle.ag_grammar.specs.grammars.Tree.{Forest, Tree, leaf, node, none, more}
 use Rattle.origins.specs.Arising.{Table, arising_count, is_arising}
-use Rattle.ag_grammar.specs.grammars.Passes.{Passes}
 use Rattle.ag_value.specs.operations.Arguments.{fault_of}
-use Rattle.origins.specs.Causes.{HasCause, HoldsAt, HoldsIn, IsRuleAt, here, passed, place_path, tree_at, values_at}
+use Rattle.origins.specs.Causes.{IsRuleAt, here, passed, place_path, tree_at, values_at}
 use Rattle.origins.specs.Laws.{CausesHaveOrigins, NoneIsClean, NoneIsCounted}
 use Rattle.origins.specs.Origins.{HasOrigin, arising_at, child, child_of, origin_count, origin_counts}
-use Rattle.origins.proofs.Caused.{errors_have_causes}
+use Rattle.origins.proofs.Caused.{Explained, errors_have_causes}
 use Rattle.origins.proofs.Children.{none_below}
+use Rattle.origins.proofs.Induction.{holds_by}
 
 -- if the tree at the end of a path has at its root a rule in which an error arises, the path leads to an origin
 origin_at : (g : Grammar) (path : List ℕ) (o : Option Tree) (v : Valuation) → 0 < arising_at g (tree_at o path) (values_at v path)
@@ -24,10 +24,10 @@ origin_at g (i ∷ path) o v h = origin_at g path (child_of o i) (below i v) h
 
 -- a rule that passes a test is counted
 count_some : (f : Rule → Bool) (rs : List Rule) (i : ℕ) (r : Rule) → slice_get rs i ≡ Some r → f r ≡ true → 0 < count_by f rs
-count_some f [] i r e on = absurd (let bad : ⊥ = cc in bad)
+count_some f [] i r e on = cc
 count_some f (s ∷ rs) zero r e on =
     let same : s ≡ r = cc in
-    let one : ◌≡◌ {A = ℕ} (cond (f s) 1 0) 1 = ap (λ b. cond b 1 0) (ap f same ∙ on) in
+    let one : ◌≡◌ {A = ℕ} (cond (f s) 1 0) 1 = cc in
     let sum = sum_by-cons (λ x. cond (f x) 1 0) s rs in omega arith
 count_some f (s ∷ rs) (suc i) r e on =
     let later = count_some f rs i r e on in
@@ -37,11 +37,9 @@ rule_counted : (g : Grammar) (t : Tree) (v : Valuation) (path : List ℕ) (r : R
     → is_arising e r ≡ true → HasOrigin g path (Some t) v
 rule_counted g t v path r e is on =
     let values = at (values_at v path) in
-    let here_on : is_arising values r ≡ true = ap (λ z. is_arising z r) (sym is.values) ∙ on in
-    let some : 0 < arising_count (slice_get g.productions is.production) values =
-    subst (λ o. 0 < arising_count o values) (sym is.is)
-    (count_some (is_arising values) is.of.rules is.rule.0 r is.rule.1 here_on) in
-    origin_at g path (Some t) v (subst (λ o. 0 < arising_at g o (values_at v path)) (sym is.there) some)
+    let here_on : is_arising values r ≡ true = cc in
+    origin_at g path (Some t) v
+    (rw (is.there, is.is) (count_some (is_arising values) is.of.rules is.rule.0 r is.rule.1 here_on))
 
 -- at the end of a cause there is an origin
 pub causes_have_origins : CausesHaveOrigins
@@ -49,65 +47,52 @@ causes_have_origins g t v path a (here at_path r e is on) = (at_path, rule_count
 causes_have_origins g t v path a (passed at_path r e k o is source occurs cause) =
     causes_have_origins g t v (place_path at_path o.place) o.attr cause
 
--- S holds at each node where R does, if R implies S
-module _ (R S : List ℕ → List ℕ → Type 0) (g : Grammar) (m : Passes) (h : (path ps : List ℕ) → R path ps → S path ps) where
-  mutual
-    holds_map : (t : Tree) (path : List ℕ) → HoldsAt R g m t path → HoldsAt S g m t path
-    holds_map (leaf c x) path r = h path (0 ∷ []) r
-    holds_map (node p ts) path r = (h path (left_passes m (slice_get g.productions p)) r.0, holds_map_in ts path 0 r.1)
-
-    holds_map_in : (ts : Forest) (path : List ℕ) (n : ℕ) → HoldsIn R g m ts path n → HoldsIn S g m ts path n
-    holds_map_in none path n r = tt
-    holds_map_in (more t ts) path n r = (holds_map t (path ++ n ∷ []) r.0, holds_map_in ts path (suc n) r.1)
-
 pub none_is_clean : NoneIsClean
 none_is_clean g m t v accepted legal fits solves first =
-    holds_map (λ path ps. (a p : ℕ) → slice_get ps a ≡ Some p → (fault_of (values_at v path [] a) ≡ None) ⊎ HasCause g t v path a)
+    holds_by {K = Unit {0}} (λ _ path ps. (a p : ℕ) → slice_get ps a ≡ Some p → Explained g t v path a)
     (λ path ps. (a p : ℕ) → slice_get ps a ≡ Some p → fault_of (values_at v path [] a) ≡ None) g m
-    (λ path ps r a p e. elim (r a p e) [
+    (λ path ps h a p e. elim (h tt a p e) [
       | inl clean ↦ clean
       | inr cause ↦ absurd
           (let origin = causes_have_origins g t v path a cause in first origin.0 origin.1)
     ]) t []
-    (errors_have_causes g m t v accepted legal fits solves)
+    (λ _. errors_have_causes g m t v accepted legal fits solves)
 
 zero_from : (n : ℕ) → (0 < n → ⊥) → n ≡ 0
 zero_from zero h = refl
 zero_from (suc n) h = absurd (h (omega arith))
 
--- if no path leads to an origin, the number of rules in which an error arises is 0
-mutual
-  no_path : (g : Grammar) (t : Tree) (v : Valuation) → ((path : List ℕ) → HasOrigin g path (Some t) v → ⊥)
-      → origin_count g t v ≡ 0
-  no_path g (leaf c x) v h = refl
-  no_path g (node p ts) v h =
-      let none_here : 0 < arising_count (slice_get g.productions p) (at v) → ⊥ = λ some. h [] some in
-      let first : arising_count (slice_get g.productions p) (at v) ≡ 0 =
-      zero_from (arising_count (slice_get g.productions p) (at v)) none_here in
-      let others = no_paths g ts (children v) (λ i path some. h (i ∷ path) some) in
-      omega arith
+module _ (g : Grammar) where
+  -- if no path leads to an origin, the number of rules in which an error arises is 0
+  mutual
+    no_path : (t : Tree) (v : Valuation) → ((path : List ℕ) → HasOrigin g path (Some t) v → ⊥) → origin_count g t v ≡ 0
+    no_path (leaf c x) v h = refl
+    no_path (node p ts) v h =
+        let first = zero_from (arising_count (slice_get g.productions p) (at v)) (h []) in
+        let others = no_paths ts (children v) (λ i path. h (i ∷ path)) in
+        omega arith
 
-  no_paths : (g : Grammar) (ts : Forest) (vs : ℕ → Valuation)
-      → ((i : ℕ) (path : List ℕ) → HasOrigin g path (child ts i) (vs i) → ⊥) → origin_counts g ts vs ≡ 0
-  no_paths g none vs h = refl
-  no_paths g (more t ts) vs h =
-      let first = no_path g t (vs 0) (λ path some. h 0 path some) in
-      let others = no_paths g ts (rest vs) (λ i path some. h (suc i) path some) in
-      omega arith
+    no_paths : (ts : Forest) (vs : ℕ → Valuation) → ((i : ℕ) (path : List ℕ) → HasOrigin g path (child ts i) (vs i) → ⊥)
+        → origin_counts g ts vs ≡ 0
+    no_paths none vs h = refl
+    no_paths (more t ts) vs h =
+        let first = no_path t (vs 0) (h 0) in
+        let others = no_paths ts (rest vs) (λ i. h (suc i)) in
+        omega arith
 
--- if this number is 0, no path leads to an origin
-mutual
-  no_origin : (g : Grammar) (t : Tree) (v : Valuation) (path : List ℕ) → origin_count g t v ≡ 0 → HasOrigin g path (Some t) v → ⊥
-  no_origin g (leaf c x) v [] n h = omega arith
-  no_origin g (leaf c x) v (i ∷ path) n h = none_below g path (λ p. v (i ∷ p)) h
-  no_origin g (node p ts) v [] n h = omega arith
-  no_origin g (node p ts) v (i ∷ path) n h = no_origin_in g ts (children v) i path (omega arith) h
+  -- if this number is 0, no path leads to an origin
+  mutual
+    pub no_origin : (t : Tree) (v : Valuation) (path : List ℕ) → origin_count g t v ≡ 0 → HasOrigin g path (Some t) v → ⊥
+    no_origin (leaf c x) v [] n h = omega arith
+    no_origin (leaf c x) v (i ∷ path) n h = none_below g path (λ p. v (i ∷ p)) h
+    no_origin (node p ts) v [] n h = omega arith
+    no_origin (node p ts) v (i ∷ path) n h = no_origin_in ts (children v) i path (omega arith) h
 
-  no_origin_in : (g : Grammar) (ts : Forest) (vs : ℕ → Valuation) (i : ℕ) (path : List ℕ) → origin_counts g ts vs ≡ 0
-      → HasOrigin g path (child ts i) (vs i) → ⊥
-  no_origin_in g none vs i path n h = none_below g path (vs i) h
-  no_origin_in g (more t ts) vs zero path n h = no_origin g t (vs 0) path (omega arith) h
-  no_origin_in g (more t ts) vs (suc i) path n h = no_origin_in g ts (rest vs) i path (omega arith) h
+    no_origin_in : (ts : Forest) (vs : ℕ → Valuation) (i : ℕ) (path : List ℕ) → origin_counts g ts vs ≡ 0
+        → HasOrigin g path (child ts i) (vs i) → ⊥
+    no_origin_in none vs i path n h = none_below g path (vs i) h
+    no_origin_in (more t ts) vs zero path n h = no_origin t (vs 0) path (omega arith) h
+    no_origin_in (more t ts) vs (suc i) path n h = no_origin_in ts (rest vs) i path (omega arith) h
 
 pub none_is_counted : NoneIsCounted
 none_is_counted g t v = (no_path g t v, λ n path h. no_origin g t v path n h)

@@ -1,7 +1,7 @@
 -- What the record of a node in the file of the last pass says of its rules.
-use Rattle.std.proofs.Common.{◌≡◌, ℕ, suc, ◌^◌, ◌<◌, Bool, cond, List, [], ◌∷◌, ◌++◌, drop, take, All, Option, Some, None}
-use Rattle.std.proofs.Common.{slice_get, refl, ap, sym, ◌∙◌, arith}
-use Rattle.std.specs.Int.{w16, from_be_bytes, to_be_bytes}
+use Rattle.std.proofs.Common.{◌≡◌, ℕ, suc, ◌^◌, ◌<◌, Bool, cond, List, [], ◌∷◌, ◌++◌, All, Option, Some, None}
+use Rattle.std.proofs.Common.{slice_get, refl, ap, sym, ◌∙◌}
+use Rattle.std.specs.Int.{w16, to_be_bytes}
 use Rattle.std.specs.List.{count_by, flat_map}
 use Rattle.std.proofs.lemmas.List.{drop_at, take_at}
 use Rattle.std.proofs.lemmas.List.Elements.{All-head, All-tail}
@@ -25,7 +25,7 @@ use Rattle.ag_grammar.specs.grammars.Tree.{FitsAll, Forest}
 use Rattle.treefile.specs.declared.body.Kind.TheVariants.{Node, Token}
 use Rattle.treefile.specs.records.TreeFile.{body_from, body_of}
 use Rattle.treefile.proofs.records.Spelled.{spelled_apart}
-use Rattle.origins.specs.Arising.{Table, arises, arising_count, environment, is_arising, value_at}
+use Rattle.origins.specs.Arising.{Table, arising_count, environment, is_arising, value_at}
 use Rattle.origins.specs.Rows.{table_of}
 use Rattle.origins.proofs.Arguments.{argument_value, row}
 
@@ -34,23 +34,22 @@ count_same : (f h : Rule → Bool) (rs : List Rule) → ((i : ℕ) (r : Rule) �
     → count_by f rs ≡ count_by h rs
 count_same f h [] same = refl
 count_same f h (r ∷ rs) same =
-    let first : ◌≡◌ {A = ℕ} (cond (f r) 1 0) (cond (h r) 1 0) = ap (λ b. cond b 1 0) (same 0 r refl) in
-    let others = count_same f h rs (λ i x e. same (suc i) x e) in
-    sum_by-cons (λ x. cond (f x) 1 0) r rs ∙ omega (arith, first, others) ∙ sym (sum_by-cons (λ x. cond (h x) 1 0) r rs)
+    cc (
+      same 0 r refl,
+      count_same f h rs (λ i. same (suc i)),
+      sum_by-cons (λ x. cond (f x) 1 0) r rs,
+      sum_by-cons (λ x. cond (h x) 1 0) r rs,
+    )
 
 -- if the arguments of a rule have the same values in two tables, an error arises in the rule with both or with neither
 arises_same : (r : Rule) (e f : Table)
     → ((k : ℕ) (o : Target) → slice_get r.args k ≡ Some o → e o.place o.attr ≡ f o.place o.attr) → is_arising e r ≡ is_arising f r
 arises_same r e f same =
-    let lent : environment r e ≡ environment r f = λ i k. each k i in
-    ap (arises r.expr.0) lent
+    let lent : environment r e ≡ environment r f = λ i k. by_argument (slice_get r.args k) k refl i in cc
   where
     by_argument : (o : Option Target) (k : ℕ) → slice_get r.args k ≡ o → value_at e o ≡ value_at f o
     by_argument None k is = refl
     by_argument (Some o) k is = same k o is
-
-    each : (k : ℕ) → environment r e k ≡ environment r f k
-    each k = by_argument (slice_get r.args k) k refl
 
 pub row_count : (g : Grammar) (m : Passes) (k : ℕ) (q : Production) (ts : Forest) (v : Valuation) → IsLegal g m → IsLastPass k m
     → IsNormal g q → FitsAll g (stored_items q.items) ts → SolvesAll NoRule g ts (children v)
@@ -64,36 +63,33 @@ row_count g m k q ts v legal last normal fits solves =
 numbered_apart : (p r : ℕ) (xs ys : List ℕ) → p < 2 ^ 16 → r < 2 ^ 16 → to_be_bytes w16 p ++ xs ≡ to_be_bytes w16 r ++ ys
     → (p ≡ r) × (xs ≡ ys)
 numbered_apart p r xs ys a b e = (
-  sym (from_be_bytes-to_be_bytes_2 p a)
-      ∙ ap (from_be_bytes w16) (sym (take_at (to_be_bytes w16 p) xs 2 refl) ∙ ap (take 2) e
-      ∙ take_at (to_be_bytes w16 r) ys 2 refl) ∙ from_be_bytes-to_be_bytes_2 r b,
-  sym (drop_at (to_be_bytes w16 p) xs 2 refl) ∙ ap (drop 2) e ∙ drop_at (to_be_bytes w16 r) ys 2 refl,
+  cc (
+    from_be_bytes-to_be_bytes_2 p a,
+    take_at (to_be_bytes w16 p) xs 2 refl,
+    take_at (to_be_bytes w16 r) ys 2 refl,
+    from_be_bytes-to_be_bytes_2 r b,
+  ),
+  cc (drop_at (to_be_bytes w16 p) xs 2 refl, drop_at (to_be_bytes w16 r) ys 2 refl),
 )
 
 -- the spelling of a well value is not empty; after this lemma: lists of well values with the same spellings are equal
 not_empty : (v : Value) (bytes : List ℕ) → IsWell v → spelling_of v ++ bytes ≡ [] → ⊥
 unfolding read_at
-not_empty v bytes well e =
-    let read : None ≡ Some (v, bytes) = sym (ap (read_at 64) e) ∙ well_is_read v bytes well in
-    none-some (v, bytes) read
+not_empty v bytes well e = none-some (v, bytes) (sym (ap (read_at 64) e) ∙ well_is_read v bytes well)
 
 spelled_once : (vs ws : List Value) → All IsWell vs → All IsWell ws → flat_map spelling_of vs ≡ flat_map spelling_of ws → vs ≡ ws
 spelled_once [] [] a b e = refl
 spelled_once [] (w ∷ ws) a b e = absurd (not_empty w (flat_map spelling_of ws) (All-head IsWell w ws b) (sym e))
 spelled_once (v ∷ vs) [] a b e = absurd (not_empty v (flat_map spelling_of vs) (All-head IsWell v vs a) e)
 spelled_once (v ∷ vs) (w ∷ ws) a b e =
-    let apart =
-    spelled_apart v w (flat_map spelling_of vs) (flat_map spelling_of ws) (All-head IsWell v vs a)
-    (All-head IsWell w ws b) e in
-    ap (λ (z : Value). z ∷ vs) apart.0
-    ∙ ap (λ (zs : List Value). w ∷ zs) (spelled_once vs ws (All-tail IsWell v vs a) (All-tail IsWell w ws b) apart.1)
+    let apart = spelled_apart v w _ _ (All-head IsWell v vs a) (All-head IsWell w ws b) e in
+    cc (spelled_once vs ws (All-tail IsWell v vs a) (All-tail IsWell w ws b) apart.1)
 
 pub one_body : (p r : ℕ) (vs ws : List Value) → p < 2 ^ 16 → r < 2 ^ 16 → All IsWell vs → All IsWell ws
     → body_of Node p vs ≡ body_of Node r ws → (p ≡ r) × (vs ≡ ws)
 one_body p r vs ws a b well_v well_w e =
-    let tails : to_be_bytes w16 p ++ flat_map spelling_of vs ≡ to_be_bytes w16 r ++ flat_map spelling_of ws = ap (drop 1) e in
-    let apart = numbered_apart p r (flat_map spelling_of vs) (flat_map spelling_of ws) a b tails in
+    let apart = numbered_apart p r (flat_map spelling_of vs) (flat_map spelling_of ws) a b (cc) in
     (apart.0, spelled_once vs ws well_v well_w apart.1)
 
 pub node_is_no_token : (p c : ℕ) (xs ys : List ℕ) → body_from Node p xs ≡ body_from Token c ys → ⊥
-node_is_no_token p c xs ys e = let bad : ⊥ = cc in bad
+node_is_no_token p c xs ys e = cc

@@ -1,6 +1,6 @@
 -- Which argument passes an error on to a rule.
 use Rattle.std.proofs.Common.{ℕ, ℤ, suc, ◌≡◌, ◌+◌, inl, inr, Bool, true, false, cond, [], Option, Some, None, refl, ap}
-use Rattle.std.proofs.Common.{◌≤◌, length, arith, ◌∙◌, sym}
+use Rattle.std.proofs.Common.{◌≤◌, length, arith, ◌∙◌}
 use Rattle.std.specs.Prelude.{nat_eq, nat_lt}
 use Rattle.std.proofs.lemmas.Bool.{cases_Bool, le-ltb, lt-ltb}
 use Rattle.std.proofs.lemmas.Option.{slice_get_past}
@@ -12,8 +12,8 @@ use Rattle.ag_value.specs.declared.value.Value.TheVariants.{outs-Fault, outs-Num
 use Rattle.ag_value.specs.Spelling.{number_of}
 use Rattle.ag_grammar.specs.declared.grammar.Rule.{Rule}
 use Rattle.ag_grammar.specs.expressions.Evaluation.{value_of}
-use Rattle.ag_value.specs.operations.Arguments.{fault_at, fault_of, has_fault}
-use Rattle.origins.specs.Arising.{Table, environment, exchanged, exchanged_to, is_same_error, value_at}
+use Rattle.ag_value.specs.operations.Arguments.{fault_of, has_fault}
+use Rattle.origins.specs.Arising.{Table, environment, exchanged, value_at}
 use Rattle.origins.specs.Causes.{IsSource, exchanged_below, is_still}
 use Rattle.origins.specs.Forms.{AreAlike, Holds, IsKnown, IsLike}
 use Rattle.origins.specs.declared.forms.Known.TheVariants as known_as
@@ -26,57 +26,54 @@ alike_itself base = record { each = λ k. like (fault_of (base k)) (base k) refl
   where
     like : (o : Option ErrorCode) (v : Value) → fault_of v ≡ o → IsLike o v v
     like None v is = refl
-    like (Some c) v is = ap has_fault is
+    like (Some c) v is = cc
 
 alike_exchanged : (base : ℕ → Value) (n : ℕ) → AreAlike base (exchanged_below n base)
 alike_exchanged base n = record { each = λ k. like (nat_lt k n) (fault_of (base k)) (base k) refl }
   where
-    other : (c : ErrorCode) (b : Bool) → has_fault (fault_of (cond b (value.Fault Divide) (value.Fault Overflow))) ≡ true
-    other c true = ap (λ x. has_fault (fault_at x)) (outs-Fault Divide)
-    other c false = ap (λ x. has_fault (fault_at x)) (outs-Fault Overflow)
+    other : (b : Bool) → has_fault (fault_of (cond b (value.Fault Divide) (value.Fault Overflow))) ≡ true
+    other true = cc (outs-Fault Divide)
+    other false = cc (outs-Fault Overflow)
 
     like : (b : Bool) (o : Option ErrorCode) (v : Value) → fault_of v ≡ o → IsLike o v (cond b (exchanged v) v)
     like true None v is = stays_clean v is
-    like true (Some c) v is =
-        ap (λ z. has_fault (fault_of (exchanged_to (value.Fault Divide) (value.Fault Overflow) z v))) is
-        ∙ other c (nat_eq (number_of c) 1)
+    like true (Some c) v is = cc (other (nat_eq (number_of c) 1))
     like false None v is = refl
-    like false (Some c) v is = ap has_fault is
+    like false (Some c) v is = cc
 
 module _ (r : Rule) (e : Table) (k : ℕ) (known : IsKnown (environment r e) r.expr.0 (known_as.ErrorOf k)) where
-  own : Holds (environment r e) (known_as.ErrorOf k) (value_of r.expr.0 (environment r e))
-  own = known.holds (environment r e) [] (alike_itself (environment r e))
+  abbrev env : ℕ → Value
+  env = environment r e
 
-  passed : (n : ℕ) → fault_of (value_of r.expr.0 (exchanged_below n (environment r e)))
-      ≡ fault_of (exchanged_below n (environment r e) k)
-  passed n = (known.holds (exchanged_below n (environment r e)) [] (alike_exchanged (environment r e) n)).0
+  own : Holds env (known_as.ErrorOf k) (value_of r.expr.0 env)
+  own = known.holds env [] (alike_itself env)
+
+  passed : (n : ℕ) → fault_of (value_of r.expr.0 (exchanged_below n env))
+      ≡ fault_of (exchanged_below n env k)
+  passed n = (known.holds (exchanged_below n env) [] (alike_exchanged env n)).0
 
   -- with the errors before argument k exchanged the rule has the same error; with that of k exchanged too it doesn't
-  known_before : (o : Option ErrorCode) → fault_of (environment r e k) ≡ o → is_still r e k ≡ true
+  known_before : (o : Option ErrorCode) → fault_of (env k) ≡ o → is_still r e k ≡ true
   unfolding is_still
-  known_before None is = absurd (let off : true ≡ false = sym own.1 ∙ ap has_fault is in let bad : ⊥ = cc in bad)
+  known_before None is = cc own.1
   known_before (Some c) is =
-      let kept : exchanged_below k (environment r e) k ≡ environment r e k =
-      ap (λ b. cond b (exchanged (environment r e k)) (environment r e k)) (le-ltb k k (omega arith)) in
-      ap (λ o. is_same_error o (fault_of (value_of r.expr.0 (exchanged_below k (environment r e))))) (own.0 ∙ is)
-      ∙ ap (λ o. is_same_error (Some c) o) (passed k ∙ ap fault_of kept ∙ is) ∙ same_itself c
+      let kept : exchanged_below k env k ≡ env k = cc (le-ltb k k (omega arith)) in
+      cc (own.0, passed k, same_itself c)
 
   known_after : is_still r e (suc k) ≡ false
   unfolding is_still
   known_after =
-      let other : exchanged_below (suc k) (environment r e) k ≡ exchanged (environment r e k) =
-      ap (λ b. cond b (exchanged (environment r e k)) (environment r e k)) (lt-ltb k (suc k) (omega arith)) in
-      ap (λ o. is_same_error o (fault_of (value_of r.expr.0 (exchanged_below (suc k) (environment r e))))) own.0
-      ∙ ap (λ o. is_same_error (fault_of (environment r e k)) o) (passed (suc k) ∙ ap fault_of other)
-      ∙ exchanged_differs (environment r e k) (fault_of (environment r e k))
+      let other : exchanged_below (suc k) env k ≡ exchanged (env k) =
+      cc (lt-ltb k (suc k) (omega arith)) in
+      cc (own.0, passed (suc k), other, exchanged_differs (env k) (fault_of (env k)))
 
   -- argument k passes its error on
   pub known_source : IsSource r e k
-  known_source = record { before = known_before (fault_of (environment r e k)) refl; after = known_after }
+  known_source = record { before = known_before (fault_of (env k)) refl; after = known_after }
 
   -- if the rule has no argument k, its value is not an error
   pub known_nowhere : length r.args ≤ k → fault_of (value_of r.expr.0 (environment r e)) ≡ None
-  known_nowhere past = own.0 ∙ ap fault_of (ap (value_at e) (slice_get_past r.args k past)) ∙ number_clean
+  known_nowhere past = own.0 ∙ ap (λ o. fault_of (value_at e o)) (slice_get_past r.args k past) ∙ number_clean
 
 -- if the value of a rule is known not to be an error, it is not an error
 pub known_clean : (r : Rule) (e : Table) → IsKnown (environment r e) r.expr.0 known_as.Clean
@@ -85,8 +82,7 @@ known_clean r e known = known.holds (environment r e) [] (alike_itself (environm
 
 pub known_number : (r : Rule) (e : Table) (n : ℤ) → IsKnown (environment r e) r.expr.0 (known_as.Number n)
     → fault_of (value_of r.expr.0 (environment r e)) ≡ None
-known_number r e n known =
-    ap fault_of (known.holds (environment r e) [] (alike_itself (environment r e))) ∙ ap fault_at (outs-Num n)
+known_number r e n known = cc (known.holds (environment r e) [] (alike_itself (environment r e)), outs-Num n)
 
 pub ruleset known_values = (known_clean, known_number)
 
@@ -101,5 +97,5 @@ still_clean r e k on clean = by_code (fault_of (environment r e k)) refl
     by_code : (c : Option ErrorCode) → fault_of (environment r e k) ≡ c → true ≡ is_still r e (k + 1)
     by_code None is =
         elim (cases_Bool (is_still r e (suc k)))
-        [ inl yet ↦ sym yet ∙ ap (is_still r e) next | inr no_more ↦ absurd (not_clean r e k on no_more is) ]
-    by_code (Some c) is = absurd (let off : true ≡ false = sym (ap has_fault is) ∙ clean in let bad : ⊥ = cc in bad)
+        [ inl yet ↦ cc next | inr no_more ↦ absurd (not_clean r e k on no_more is) ]
+    by_code (Some c) is = cc

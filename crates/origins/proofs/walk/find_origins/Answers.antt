@@ -1,12 +1,9 @@
-use Rattle.std.proofs.Common.{◌≡◌, ◌-◌, ℕ, List, [], ◌∷◌, None, ap, subst, sym, ◌∙◌, reverse, take}
+use Rattle.std.proofs.Common.{◌≡◌, ◌-◌, ℕ, [], ◌∷◌, ap, ◌∙◌, reverse, take}
 use Rattle.std.proofs.lemmas.List.{append-nil, reverse-append}
 use Rattle.std.proofs.lemmas.Result.{IfOk-weaker}
-use Rattle.ag_grammar.specs.declared.grammar.Item.TheVariants as item
 use Rattle.ag_grammar.specs.grammars.Passes.{direction_of, other}
 use Rattle.treefile.specs.devices.Device.{WhenHonest}
-use Rattle.origins.specs.Origins.{AreOrigins, AreOriginsIn}
-use Rattle.origins.specs.Walking.{IsNextRecord, HasComeTo, IsSoFar}
-use Rattle.origins.specs.declared.walk.Open.{Open}
+use Rattle.origins.specs.Origins.{AreOriginsIn}
 use Rattle.origins.specs.declared.walk.Origins.{Origins}
 use Rattle.origins.proofs.Step.{begin_next, end}
 use Rattle.origins.proofs.walk.find_origins.Goals as goal
@@ -16,9 +13,7 @@ read-requires-clause-next g c = λ honest.
     let content = g.D.Device.content c.args.device.now in
     let direction : c.turned.result ≡ other (direction_of c.in_ok-back.back.progress.pass) =
     c.turned.ensures ∙ ap other (c.of_pass.ensures ∙ ap direction_of c.pass.ensures) in
-    subst
-    (λ (bytes : List ℕ). IsNextRecord c.args.grammar.now c.turned.result bytes c.in_ok-back.back.progress.at
-    (item.Symbol c.start-2.result) (reverse c.new.result.items) None 0) (sym (c.in_ok-back.ensures.content honest))
+    rw (c.in_ok-back.ensures.content honest)
     (begin_next c.args.grammar.now c.turned.result content c.in_ok-back.back.progress.at c.in_ok-back.back.progress.pass
     c.start-2.result (reverse c.new.result.items) c.start-2.ensures.accepted
     (c.in_ok-back.ensures.started.end honest) direction (c.in_ok-back.ensures.exact honest) c.start-2.ensures.value
@@ -34,13 +29,10 @@ returns-in_default-clause-found g c =
     (λ (found : Origins). WhenHonest (g.D.Device.is_honest c.end.new.device)
     (AreOriginsIn c.args.grammar.now (g.D.Device.content c.args.device.now) found.first found.count))
     (λ found same honest m k t v small legal last tree file.
-    subst (λ (o : Origins). AreOrigins c.args.grammar.now t v o.first o.count) (sym same)
+    rw same
     (end c.args.grammar.now m k c.turned.result t v
     (g.D.Device.content c.args.device.now) walk.back.progress.at walk.found.first walk.found.count
-    (subst
-    (λ (os : List Open). IsSoFar c.args.grammar.now m k c.turned.result t v
-    (g.D.Device.content c.args.device.now) walk.back.progress.at os walk.found.first walk.found.count)
-    (ap reverse nothing)
+    (rw nothing at
     (c.loop-turn.invariant.come (c.end.ensures.persists.honest honest) m k t v small legal last tree file)))) c.end.ensures.found
 
 pub turn-requires-clause-come : goal.turn-requires-clause-come
@@ -49,10 +41,4 @@ turn-requires-clause-come g c = λ honest.
     let walk = c.loop-turn.walk in
     let turned : reverse walk.nodes.items ≡ c.in-Some.node ∷ reverse c.pop.new.self.items =
     ap reverse c.in-Some.ensures.items ∙ reverse-append c.pop.new.self.items (c.in-Some.node ∷ []) in
-    subst
-    (λ (bytes : List ℕ). HasComeTo c.args.grammar.now c.turned.result bytes walk.back.progress.at
-    (c.in-Some.node ∷ reverse c.pop.new.self.items) walk.found.first walk.found.count) (sym (so_far.content honest))
-    (subst
-    (λ (os : List Open). HasComeTo c.args.grammar.now c.turned.result
-    (g.D.Device.content c.args.device.now) walk.back.progress.at os walk.found.first walk.found.count) turned
-    (so_far.come honest))
+    rw (so_far.content honest) (rw turned at (so_far.come honest))

@@ -1,4 +1,4 @@
-use Rattle.std.proofs.Common.{◌≡◌, ℕ, suc, ◌<◌, ◌≤◌, ◌⊎◌, false, inl, inr, List, [], ◌∷◌, length, length-drop, drop, refl, ap}
+use Rattle.std.proofs.Common.{◌≡◌, ℕ, suc, ◌<◌, ◌≤◌, ◌⊎◌, false, inl, inr, List, [], ◌∷◌, length, length-drop, drop, refl}
 use Rattle.std.proofs.Common.{sym, ◌∙◌, arith}
 use Rattle.std.specs.Prelude.{nat_lt}
 use Rattle.std.proofs.lemmas.Bool.{cases_lt, le-ltb, lt-ltb}
@@ -17,15 +17,11 @@ none_before (i ∷ p) = refl
 -- where one of two paths has ended, the shorter one comes first
 ended : (p q : List ℕ) (i : ℕ) → i ≤ length p → i ≤ length q → is_before (drop i p) (drop i q) ≡ is_before p q
     → (length p ≤ i → ⊥) → length q ≤ i → nat_lt (length p) (length q) ≡ is_before p q
-ended p q i a b e apart done =
-    le-ltb (length p) (length q) (omega arith) ∙ sym (none_before (drop i p))
-    ∙ ap (is_before (drop i p)) (sym (drop_all i q done)) ∙ e
+ended p q i a b e apart done = cc (le-ltb (length p) (length q) (omega arith), none_before (drop i p), drop_all i q done)
 
 ended_first : (p q : List ℕ) (i : ℕ) → i ≤ length p → i ≤ length q → is_before (drop i p) (drop i q) ≡ is_before p q
     → length p ≤ i → nat_lt (length p) (length q) ≡ is_before p q
-ended_first p q i a b e done =
-    by_length (cases_lt (length p) (length q)) ∙ sym (before_all (drop i q))
-    ∙ ap (λ (z : List ℕ). is_before z (drop i q)) (sym (drop_all i p done)) ∙ e
+ended_first p q i a b e done = cc (by_length (cases_lt (length p) (length q)), before_all (drop i q), drop_all i p done)
   where
     by_length : (length p < length q) ⊎ (length q ≤ length p) → nat_lt (length p) (length q) ≡ nat_lt 0 (length (drop i q))
     by_length (inl less) = lt-ltb (length p) (length q) less ∙ sym (lt-ltb 0 (length (drop i q)) (omega (arith, length-drop i q)))

@@ -1,8 +1,6 @@
-use Rattle.std.proofs.Common.{◌≡◌, List, [], ◌∷◌, slice_get, ap, subst, sym, ◌∙◌, reverse}
+use Rattle.std.proofs.Common.{◌≡◌, [], ◌∷◌, slice_get, ap, sym, ◌∙◌, reverse}
 use Rattle.ag_grammar.specs.grammars.AttributeGrammar.{stored_items}
 use Rattle.std.proofs.lemmas.List.{reverse-append}
-use Rattle.origins.specs.declared.walk.Open.{Open}
-use Rattle.origins.specs.Walking.{IsPending}
 use Rattle.origins.proofs.Step.{leave, moved, visit}
 use Rattle.origins.proofs.walk.Walk.turn.Goals as goal
 
@@ -21,9 +19,7 @@ read-requires-clause-next g c = λ honest m k t v small legal last tree file.
     let content = g.D.Device.content c.args.device.now in
     let turned : reverse c.push.new.self.items ≡ moved node ∷ reverse old.nodes.items =
     ap reverse c.in-Ok.ensures.items ∙ reverse-append old.nodes.items (moved node ∷ []) in
-    subst
-    (λ (os : List Open). IsPending c.args.context.now.grammar.now m k c.args.context.now.direction t v content
-    old.back.progress.at c.in-Some.item os old.found.first old.found.count) (sym turned)
+    rw turned
     (visit c.args.context.now.grammar.now m k c.args.context.now.direction t v content old.back.progress.at node
     (reverse old.nodes.items) c.in-Some.item old.found.first old.found.count c.if-node.false
     (λ q is. ap (slice_get (stored_items q.items)) (sym c.nth-index.ensures.nth) ∙ c.in-Some.ensures q is)
