@@ -1,5 +1,5 @@
 -- The plain functions return the words and the tokens of the definitions.
-use Rattle.std.proofs.Common.{◌==◌, IsUtf8, ◌≡◌, ℕ, zero, suc, ◌+◌, ◌-◌, ◌≤◌, Bool, true, false, cond, nat_eq, List, [], ◌∷◌}
+use Rattle.std.proofs.Common.{◌==◌, ◌≡◌, ℕ, zero, suc, ◌+◌, ◌-◌, ◌≤◌, Bool, true, false, cond, nat_eq, List, [], ◌∷◌}
 use Rattle.std.proofs.Common.{◌++◌, length, take, drop, Option, Some, None, MatchOption, slice_get, chars, encode_utf8_all, refl}
 use Rattle.std.proofs.Common.{ap, sym, ◌∙◌, subst, arith}
 use Rattle.std.proofs.lemmas.Bool.Decides.{nat_tests}
@@ -16,29 +16,31 @@ use Rattle.ag_tokens.proofs.Lexed.{width-append, width-chars, separator_width}
 use Rattle.ag_scan.specs.Cutting.{LeadingWord, IsLeadingLiteral, IsLeadingToken, number_from, literal_or, literal_within}
 use Rattle.ag_scan.specs.Cutting.{word_from, tokens_from, tokens_in}
 use Rattle.ag_scan.specs.TokenReader.{IsScannable}
-use Rattle.ag_scan.specs.Tokens.{max_sentence_bytes, Token, AreTokens, ended, separator, word, AreTokensOf, FitAll}
-use Rattle.ag_scan.specs.Words.{Vocabulary, HasNoEmpty, IsClean, IsLiteral, IsLongest}
+use Rattle.ag_scan.specs.Tokens.{Token, AreTokens, ended, separator, word, IsReadable, AreTokensOf, FitAll}
+use Rattle.ag_scan.specs.Words.{Vocabulary, HasNoEmpty, IsClean, IsLiteral}
 use Rattle.ag_scan.proofs.words.Choosing.{IsLiteralIn, chosen}
-use Rattle.ag_scan.proofs.Listing.{word_some, length_width, Scanned, ends}
+use Rattle.ag_scan.proofs.Listing.{word_some, fewer_left, length_width, Scanned, ends}
 use Rattle.ag_scan.proofs.OneToken.{IsWordIn, one_word, token_plain, no_spaces}
 use Rattle.ag_scan.proofs.words.Tables.{split}
 
 -- ---- the word at the beginning
 
+-- the number of a text in a list whose texts are numbered from n on; `None` if the list does not have the text
+abbrev IsNumberIn : ℕ → List (List ℕ) → List ℕ → Option ℕ → Type 0
+IsNumberIn n xs x o = MatchOption o (Has xs x → ⊥) (λ l. (i : ℕ) × (l ≡ n + i) × (slice_get xs i ≡ Some x))
+
 -- the number of a literal is found if there is one
-numbered : (n : ℕ) (xs : List (List ℕ)) (x : List ℕ)
-    → MatchOption (number_from n xs x) (Has xs x → ⊥) (λ l. (i : ℕ) × (l ≡ n + i) × (slice_get xs i ≡ Some x))
-numbered n [] x = λ h. (let e = h.1 in cc)
+numbered : (n : ℕ) (xs : List (List ℕ)) (x : List ℕ) → IsNumberIn n xs x (number_from n xs x)
+numbered n [] x = λ h. cc h.1
 numbered n (y ∷ ys) x =
     go (pointwise nat_eq y x) (told_text y x (pointwise nat_eq y x) refl) (number_from (n + 1) ys x) (numbered (n + 1) ys x)
   where
     other : (y ≡ x → ⊥) → (Has ys x → ⊥) → (i : ℕ) → slice_get (y ∷ ys) i ≡ Some x → ⊥
-    other apart none zero e = let same : y ≡ x = cc in apart same
+    other apart none zero e = apart (cc)
     other apart none (suc i) e = none (i, e)
 
-    go : (b : Bool) → MatchBool b (y ≡ x) (y ≡ x → ⊥) → (o : Option ℕ)
-        → MatchOption o (Has ys x → ⊥) (λ l. (i : ℕ) × (l ≡ (n + 1) + i) × (slice_get ys i ≡ Some x))
-        → MatchOption (cond b (Some n) o) (Has (y ∷ ys) x → ⊥) (λ l. (i : ℕ) × (l ≡ n + i) × (slice_get (y ∷ ys) i ≡ Some x))
+    go : (b : Bool) → MatchBool b (y ≡ x) (y ≡ x → ⊥) → (o : Option ℕ) → IsNumberIn (n + 1) ys x o
+        → IsNumberIn n (y ∷ ys) x (cond b (Some n) o)
     go true same o more = (0, omega arith, ap Some same)
     go false apart None none = λ h. other apart none h.0 h.1
     go false apart (Some l) (i, e, at) = (suc i, omega arith, at)
@@ -48,7 +50,7 @@ abbrev NoneFrom : List (List ℕ) → List ℕ → ℕ → Type 0
 NoneFrom literals cs n = (w more : List ℕ) → cs ≡ w ++ more → n ≤ length w → IsLiteral literals w → ⊥
 
 prefix_of_length : (cs w more : List ℕ) → cs ≡ w ++ more → take (length w) cs ≡ w
-prefix_of_length cs w more split = ap (take (length w)) split ∙ take-append_seam w more
+prefix_of_length cs w more split = cc (take-append_seam w more)
 
 module _ (literals : List (List ℕ)) (cs : List ℕ) where
   found : (n l : ℕ) → n ≤ length cs → NoneFrom literals cs (n + 1) → slice_get literals l ≡ Some (encode_utf8_all (take n cs))
@@ -61,14 +63,11 @@ module _ (literals : List (List ℕ)) (cs : List ℕ) where
         split = sym (take-append-drop n cs);
         there = there;
         text = refl;
-        longest = longest;
+        longest = λ longer more same is.
+            let len = length-take-le n cs within in
+            split (length longer) (n + 1) (λ less. omega arith)
+            (λ far. absurd (none longer more (cc (take-append-drop n cs)) far is));
       }
-    where
-      longest : IsLongest (IsLiteral literals) (take n cs) (drop n cs)
-      longest longer more same is =
-          let len = length-take-le n cs within in
-          split (length longer) (n + 1) (λ less. omega arith)
-          (λ far. absurd (none longer more (sym (take-append-drop n cs) ∙ same) far is))
 
   -- if the first n characters are not a literal, and no longer prefix is one, then no prefix of n or more
   -- characters is
@@ -81,18 +80,13 @@ module _ (literals : List (List ℕ)) (cs : List ℕ) where
       → ((Has literals (encode_utf8_all (take n cs)) → ⊥) → IsLiteralIn literals cs other)
       → IsLiteralIn literals cs (literal_or literals cs n other)
   or_else n within none other more =
-      go (number_from 0 literals (encode_utf8_all (take n cs))) (numbered 0 literals (encode_utf8_all (take n cs)))
+      go (number_from 0 literals (encode_utf8_all (take n cs))) refl (numbered 0 literals (encode_utf8_all (take n cs)))
     where
-      go : (o : Option ℕ) → MatchOption o (Has literals (encode_utf8_all (take n cs)) → ⊥)
-          (λ l. (i : ℕ) × (l ≡ 0 + i) × (slice_get literals i ≡ Some (encode_utf8_all (take n cs))))
-          → IsLiteralIn literals cs
-          (elim o [
-            | Some l ↦ Some (record { kind = Literal l; lex = encode_utf8_all (take n cs); rest = drop n cs })
-            | None ↦
-                other
-          ])
-      go None not = more not
-      go (Some l) (i, e, at) = let same : i ≡ l = omega (arith, e) in found n l within none (rw same at at)
+      go : (o : Option ℕ) → number_from 0 literals (encode_utf8_all (take n cs)) ≡ o
+          → IsNumberIn 0 literals (encode_utf8_all (take n cs)) o → IsLiteralIn literals cs (literal_or literals cs n other)
+      go None none_there not = rw (literal_or, none_there) (more not)
+      go (Some l) there (i, e, at) = let same : i ≡ l = omega (arith, e) in
+          rw (literal_or, there) (found n l within none (rw same at at))
 
   literal_is : (n : ℕ) → n ≤ length cs → NoneFrom literals cs (n + 1) → IsLiteralIn literals cs (literal_within literals cs n)
   literal_is zero within none =
@@ -105,25 +99,25 @@ pub word_is : (v : Vocabulary) (cs : List ℕ) → IsWordIn v cs (word_from v cs
 word_is v cs =
     chosen v cs _ _
     (literal_is v.literals cs (length cs) (omega arith)
-    (λ w more split far is. (let bad : ⊥ = omega (arith, ap length split, length-append w more) in bad))) refl
+    (λ w more split far is. absurd (omega (arith, ap length split, length-append w more)))) refl
 
 -- ---- the tokens of a text
 
 -- the token read at the beginning, and the tokens after it
-pub one_more : (v : Vocabulary) (at : ℕ) (cs : List ℕ) (f : LeadingWord) (ts : List Token) (end : ℕ) (rest : List ℕ)
+pub one_more : {v : Vocabulary} {at : ℕ} {cs : List ℕ} {f : LeadingWord} {ts : List Token} {end : ℕ} {rest : List ℕ}
     → word_from v cs ≡ Some f → AreTokens v (at + (width cs - width f.rest)) f.rest ts end rest
     → AreTokens v at cs (record { kind = f.kind; lex = f.lex; at = at } ∷ ts) end rest
-one_more v at cs f ts end rest e are =
-    let cut : IsLeadingToken v cs f = subst (IsWordIn v cs) e (word_is v cs) in
+one_more {v} {at} {cs} {f} e are =
+    let cut : IsLeadingToken v cs f = rw e at (word_is v cs) in
     let there : at + (width cs - width f.rest) ≡ at + width cut.word =
     omega (arith, ap width cut.split, width-append cut.word f.rest) in
-    word at cs cut.word f.rest f.lex f.kind ts end rest cut.split cut.token (rw there at are)
+    word _ _ _ _ _ _ _ _ _ cut.split cut.token (rw there at are)
 
 -- each token has at least one character
 pub fewer : {v : Vocabulary} {at : ℕ} {cs : List ℕ} {ts : List Token} {end : ℕ} {rest : List ℕ} → HasNoEmpty v.literals
     → AreTokens v at cs ts end rest → length ts ≤ length cs
 fewer some (ended at cs) = omega arith
-fewer some (separator at c cs ts end rest h are) = let n = fewer some are in omega arith
+fewer some (separator at c cs ts end rest h are) = omega (arith, fewer some are)
 fewer some (word at whole w cs lex t ts end rest split is are) =
     omega (arith, fewer some are, word_some _ t w lex some is.is, ap length split, length-append w cs)
 
@@ -131,9 +125,8 @@ fewer some (word at whole w cs lex t ts end rest split is are) =
 pub as_wide : {v : Vocabulary} {at : ℕ} {cs : List ℕ} {ts : List Token} {end : ℕ} {rest : List ℕ} → AreTokens v at cs ts end rest
     → at + width cs ≡ end + width rest
 as_wide (ended at cs) = refl
-as_wide (separator at c cs ts end rest h are) = let one = separator_width c h in let more = as_wide are in omega arith
-as_wide (word at whole w cs lex t ts end rest split is are) = let more = as_wide are in
-    omega (arith, ap width split, width-append w cs)
+as_wide (separator at c cs ts end rest h are) = omega (arith, separator_width c h, as_wide are)
+as_wide (word at whole w cs lex t ts end rest split is are) = omega (arith, as_wide are, ap width split, width-append w cs)
 
 -- The tokens up to the end of a text begin with the word at its beginning, after the leading separators.
 abbrev pub BeginWith : Vocabulary → ℕ → List ℕ → List Token → ℕ → Option LeadingWord → Type 0
@@ -142,7 +135,7 @@ BeginWith v at cs ts end (Some f) =
     (more : List Token) × (ts ≡ record { kind = f.kind; lex = f.lex; at = at + prefix_len is_separator cs } ∷ more)
     × (width f.rest ≤ width cs) × AreTokens v (at + (width cs - width f.rest)) f.rest more end []
 
-module _ (v : Vocabulary) (clean : IsClean v) where
+module _ {v : Vocabulary} (clean : IsClean v) where
   separators : (c : ℕ) (cs : List ℕ) → is_separator c ≡ true → prefix_len is_separator (c ∷ cs) ≡ suc (prefix_len is_separator cs)
   separators c cs h = rw h (omega arith)
 
@@ -150,9 +143,7 @@ module _ (v : Vocabulary) (clean : IsClean v) where
       → (o : Option LeadingWord) → IsWordIn v (after_separators cs) o → BeginWith v at cs ts end o
   begin_with (ended at cs) e None is = refl
   begin_with (ended at cs) e (Some f) is =
-      let some = word_some v f.kind is.word f.lex clean.some is.token.is in
-      let none : after_separators cs ≡ [] = ap after_separators e in
-      absurd (omega (arith, ap length (sym none ∙ is.split), length-append is.word f.rest))
+      absurd (omega (arith, fewer_left clean is, ap (λ xs. length (after_separators xs)) e))
   begin_with (separator at c cs ts end rest h are) e o is = go o (begin_with are e o (subst (λ xs. IsWordIn v xs o) same is))
     where
       same : after_separators (c ∷ cs) ≡ after_separators cs
@@ -168,12 +159,12 @@ module _ (v : Vocabulary) (clean : IsClean v) where
             more,
             first ∙ ap (λ k. record { kind = f.kind; lex = f.lex; at = k } ∷ more) n,
             omega arith,
-            subst (λ k. AreTokens v k f.rest more end []) m following,
+            rw m at following,
           )
   begin_with (word at cs w following lex t ts end rest split token are) e o is =
-      let none = no_spaces cs (token_plain v clean cs t lex w following split token) in
+      let none = no_spaces cs (token_plain clean cs w split token) in
       let first : o ≡ Some (record { kind = t; lex = lex; rest = following }) =
-      one_word v clean cs _ _ (rw none at is) (record { word = w; split = split; token = token }) in
+      one_word clean cs _ _ (rw none at is) (record { word = w; split = split; token = token }) in
       let wide : width cs ≡ width w + width following = ap width split ∙ width-append w following in
       let there : at + (width cs - width following) ≡ at + width w = omega arith in
       rw (first, none, there, ← e) (ts, ap (λ n. record { kind = t; lex = lex; at = n } ∷ ts) (omega arith), omega arith, are)
@@ -183,38 +174,33 @@ module _ (v : Vocabulary) (clean : IsClean v) where
   agrees zero at cs [] end are few = refl
   agrees zero at cs (t ∷ ts) end are few = absurd (omega arith)
   agrees (suc n) at cs ts end are few =
-      go (word_from v (after_separators cs))
+      go (word_from v (after_separators cs)) refl
       (begin_with are refl (word_from v (after_separators cs)) (word_is v (after_separators cs))) (agrees n)
     where
-      go : (o : Option LeadingWord) → BeginWith v at cs ts end o
+      go : (o : Option LeadingWord) → word_from v (after_separators cs) ≡ o → BeginWith v at cs ts end o
           → ((at : ℕ) (cs : List ℕ) (ts : List Token) (end : ℕ) → AreTokens v at cs ts end [] → length ts ≤ n
-          → tokens_from v n at cs ≡ ts)
-          → elim o [
-            | Some f ↦ record { kind = f.kind; lex = f.lex; at = at + prefix_len is_separator cs } ∷ tokens_from v n
-                (at + (width cs - width f.rest)) f.rest
-            | None ↦ []
-          ] ≡ ts
-      go None none recur = sym none
-      go (Some f) (more, first, narrow, following) recur =
-          ap (λ us. record { kind = f.kind; lex = f.lex; at = at + prefix_len is_separator cs } ∷ us)
-          (recur (at + (width cs - width f.rest)) f.rest more end following (omega (arith, ap length first))) ∙ sym first
+          → tokens_from v n at cs ≡ ts) → tokens_from v (suc n) at cs ≡ ts
+      go None e none recur = rw (tokens_from, e) (sym none)
+      go (Some f) e (more, first, narrow, following) recur =
+          rw (tokens_from, e)
+          (cc (recur (at + (width cs - width f.rest)) f.rest more end following (omega (arith, ap length first))))
 
   -- a text has at most as many tokens as bytes
   few : (text : List ℕ) (ts : List Token) → AreTokensOf v text ts → length ts ≤ length text
   few text ts is = omega (arith, fewer clean.some is.tokens.are, length_width (chars text), width-chars text is.readable.utf8)
 
   -- the tokens of a text are those that the function returns
-  pub are_cut : (text : List ℕ) (ts : List Token) → AreTokensOf v text ts → tokens_in v text ≡ ts
+  are_cut : (text : List ℕ) (ts : List Token) → AreTokensOf v text ts → tokens_in v text ≡ ts
   are_cut text ts is = agrees (length text) 0 (chars text) ts (length text) is.tokens.are (few text ts is)
 
 -- if a text has been scanned to its end, its tokens are those that the function returns
-pub all_cut : (v : Vocabulary) → IsClean v → (text rest : List ℕ) → IsUtf8 text → length text ≤ max_sentence_bytes
-    → Scanned v text rest → true ≡ (length rest == 0) → AreTokensOf v text (tokens_in v text) × FitAll v (tokens_in v text)
-all_cut v clean text rest utf8 short scanned test =
+pub all_cut : {v : Vocabulary} → IsClean v → {text rest : List ℕ} → IsReadable text → Scanned v text rest
+    → true ≡ (length rest == 0) → AreTokensOf v text (tokens_in v text) × FitAll v (tokens_in v text)
+all_cut {v} clean {text} {rest} readable scanned test =
     let none : length rest ≡ 0 = grind (arith, nat_tests) in
-    let (ts, are, fit) = ends v text rest utf8 short scanned none in
-    let same = are_cut v clean text ts are in
+    let (ts, are, fit) = ends readable scanned none in
+    let same = are_cut clean text ts are in
     (subst (AreTokensOf v text) (sym same) are, subst (FitAll v) (sym same) fit)
 
 pub few_tokens : (v : Vocabulary) (text : List ℕ) → IsScannable v text → length (tokens_in v text) ≤ length text
-few_tokens v text has = few v has.clean text (tokens_in v text) has.tokens
+few_tokens v text has = few has.clean text (tokens_in v text) has.tokens

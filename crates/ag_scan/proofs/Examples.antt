@@ -40,8 +40,7 @@ second = rw (is_xid_start-ascii 105 (lit< tt), is_xid_continue-ascii 105 (lit< t
 
 are_iffy : AreTokens iffy 0 (codes "iffy if") (name ∷ literal ∷ []) 7 []
 are_iffy =
-    one_more iffy 0 (codes "iffy if") _ _ 7 [] first
-    (separator 4 32 (codes "if") (literal ∷ []) 7 [] refl (one_more iffy 5 (codes "if") _ [] 7 [] second (ended 7 [])))
+    one_more first (separator 4 32 (codes "if") (literal ∷ []) 7 [] refl (one_more second (ended 7 [])))
 
 iffy_characters : chars (codes "iffy if") ≡ codes "iffy if"
 unfolding chars
@@ -85,7 +84,7 @@ unused_is_none = record {
   first = 50;
   rest = [];
   reaches = record {
-    are = one_more ones 0 (codes "12") _ [] 1 (codes "2") one (ended 1 (codes "2"));
+    are = one_more one (ended 1 (codes "2"));
     short = only (λ t. length t.lex ≤ max_token_bytes) (record { kind = Literal 0; lex = codes "1"; at = 0 }) (omega arith);
   };
   no_separator = refl;

@@ -1,10 +1,10 @@
 -- The nodes of a tree, and the children of a node, in the order of a reading.
-use Rattle.std.proofs.Common.{◌≡◌, ℕ, zero, suc, ◌+◌, ◌-◌, ◌<◌, List, [], ◌∷◌, ◌++◌, length, drop, map, reverse, get_or, Some}
-use Rattle.std.proofs.Common.{slice_get, refl, ap, sym, subst, ◌∙◌, arith}
-use Rattle.std.specs.List.{flat_map}
+use Rattle.std.proofs.Common.{◌≡◌, ℕ, zero, suc, ◌+◌, ◌-◌, ◌<◌, List, [], ◌∷◌, length, drop, map, reverse, get_or, Some}
+use Rattle.std.proofs.Common.{slice_get, refl, ap, arith}
 use Rattle.std.proofs.lemmas.Grind.{flat_map-append}
-use Rattle.std.proofs.lemmas.List.{append-nil, get_or-reverse, length-append, length-reverse, map-append, reverse-append}
-use Rattle.std.proofs.lemmas.Option.{get_or_from_slice_get, slice_get-get_or, slice_get_within}
+use Rattle.std.proofs.lemmas.List.{append-nil, drop_more, get_or-reverse, length-append, length-reverse, map-append}
+use Rattle.std.proofs.lemmas.List.{reverse-append}
+use Rattle.std.proofs.lemmas.Option.{get_or_from_slice_get, slice_get-get_or, slice_get_read, slice_get_within}
 use Rattle.ag_grammar.specs.declared.grammar.Item.{Item}
 use Rattle.ag_grammar.specs.declared.direction.Direction.{Direction}
 use Rattle.ag_grammar.specs.declared.direction.Direction.TheVariants.{LeftToRight, RightToLeft}
@@ -16,10 +16,6 @@ use Rattle.treefile.specs.records.Orders.{joined, prefix, prefix_all}
 use Rattle.treefile.specs.records.Records.{bodies_of, bodies_of_all}
 use Rattle.treefile.specs.records.TreeFile.{version_two}
 use Rattle.tree_index.specs.Nodes.{Subtree, both, in_order, kids, nodes_below, nodes_in, nodes_of, nodes_of_all, record_at}
-use Rattle.tree_index.specs.Nodes.{record_of}
-
-reverse_more : {X : Type 0} (x : X) (xs : List X) → reverse (x ∷ xs) ≡ reverse xs ++ x ∷ []
-reverse_more x xs = reverse-append (x ∷ []) xs
 
 -- a child with its values, as `kids` lists it
 abbrev kid_of : Tree → Valuation → Subtree
@@ -29,22 +25,20 @@ kid_of t v = record { tree = t; values = v }
 pub kids_nodes : (d : Direction) (ts : Forest) (vs : ℕ → Valuation) → nodes_in d (in_order d (kids ts vs)) ≡ nodes_of_all d ts vs
 kids_nodes LeftToRight none vs = refl
 kids_nodes RightToLeft none vs = refl
-kids_nodes LeftToRight (more t ts) vs = ap (λ (ns : List Subtree). nodes_of LeftToRight t (vs 0) ++ ns)
-    (kids_nodes LeftToRight ts (rest vs))
+kids_nodes LeftToRight (more t ts) vs = cc (kids_nodes LeftToRight ts (rest vs))
 kids_nodes RightToLeft (more t ts) vs =
-    let kid : Subtree = kid_of t (vs 0) in
-    let others : List Subtree = kids ts (rest vs) in
-    ap (flat_map (nodes_below RightToLeft)) (reverse_more kid others)
-    ∙ flat_map-append (nodes_below RightToLeft) (reverse others) (kid ∷ [])
-    ∙ ap (λ (ns : List Subtree). ns ++ (nodes_of RightToLeft t (vs 0) ++ [])) (kids_nodes RightToLeft ts (rest vs))
-    ∙ ap (λ (ns : List Subtree). nodes_of_all RightToLeft ts (rest vs) ++ ns) (append-nil (nodes_of RightToLeft t (vs 0)))
+    let kid = kid_of t (vs 0) in
+    let others = kids ts (rest vs) in
+    cc (
+      reverse-append (kid ∷ []) others,
+      flat_map-append (nodes_below RightToLeft) (reverse others) (kid ∷ []),
+      kids_nodes RightToLeft ts (rest vs),
+      append-nil (nodes_of RightToLeft t (vs 0)),
+    )
 
 map_both : (f : Subtree → List ℕ) (d : Direction) (xs ys : List Subtree) → map f (both d xs ys) ≡ joined d (map f xs) (map f ys)
 map_both f LeftToRight xs ys = map-append f xs ys
 map_both f RightToLeft xs ys = map-append f ys xs
-
-ap_joined : (d : Direction) (xs ys zs ws : List (List ℕ)) → xs ≡ zs → ys ≡ ws → joined d xs ys ≡ joined d zs ws
-ap_joined d xs ys zs ws a b = ap (λ (l : List (List ℕ)). joined d l ys) a ∙ ap (joined d zs) b
 
 -- the records of the nodes are those of the file
 module _ (g : Grammar) (m : Passes) (k : ℕ) (d : Direction) where
@@ -52,14 +46,16 @@ module _ (g : Grammar) (m : Passes) (k : ℕ) (d : Direction) where
     pub records_of_nodes : (t : Tree) (v : Valuation) → map (record_at g m k) (nodes_of d t v) ≡ prefix d
         (bodies_of version_two g m k t v)
     records_of_nodes (leaf c x) v = refl
-    records_of_nodes (node p ts) v = ap (λ (bodies : List (List ℕ)). record_of g m k (node p ts) v ∷ bodies)
-        (records_of_all ts (children v))
+    records_of_nodes (node p ts) v = cc (records_of_all ts (children v))
 
     records_of_all : (ts : Forest) (vs : ℕ → Valuation) → map (record_at g m k) (nodes_of_all d ts vs) ≡ prefix_all d
         (bodies_of_all version_two g m k ts vs)
     records_of_all none vs = refl
-    records_of_all (more t ts) vs = map_both (record_at g m k) d (nodes_of d t (vs 0)) (nodes_of_all d ts (rest vs))
-        ∙ ap_joined d _ _ _ _ (records_of_nodes t (vs 0)) (records_of_all ts (rest vs))
+    records_of_all (more t ts) vs = cc (
+      map_both (record_at g m k) d (nodes_of d t (vs 0)) (nodes_of_all d ts (rest vs)),
+      records_of_nodes t (vs 0),
+      records_of_all ts (rest vs),
+    )
 
 length_both : {X : Type 0} (d : Direction) (xs ys : List X) → length (both d xs ys) ≡ length xs + length ys
 length_both LeftToRight xs ys = length-append xs ys
@@ -83,21 +79,20 @@ mutual
 -- a child fits the item of its number
 pub kid_fits : (g : Grammar) (xs : List Item) (ts : Forest) (vs : ℕ → Valuation) (i : ℕ) (kid : Subtree) (x : Item)
     → FitsAll g xs ts → slice_get (kids ts vs) i ≡ Some kid → slice_get xs i ≡ Some x → Fits g x kid.tree
-kid_fits g xs none vs i kid x f at is = absurd (let bad : ⊥ = cc in bad)
+kid_fits g xs none vs i kid x f at is = cc
 kid_fits g [] (more t ts) vs i kid x f at is = elim f [ ]
 kid_fits g (y ∷ xs) (more t ts) vs zero kid x f at is =
     let same : kid_of t (vs 0) ≡ kid = cc in
     let item : y ≡ x = cc in
-    subst (λ (z : Subtree). Fits g x z.tree) same (subst (λ z. Fits g z t) item f.0)
+    rw (← same, ← item) f.0
 kid_fits g (y ∷ xs) (more t ts) vs (suc i) kid x f at is = kid_fits g xs ts (rest vs) i kid x f.1 at is
 
 -- a node has as many children as its right side has stored items
 pub kids_length : (g : Grammar) (xs : List Item) (ts : Forest) (vs : ℕ → Valuation) → FitsAll g xs ts
     → length (kids ts vs) ≡ length xs
 kids_length g [] none vs f = refl
-kids_length g [] (more t ts) vs f = elim f [ ]
-kids_length g (x ∷ xs) none vs f = elim f [ ]
 kids_length g (x ∷ xs) (more t ts) vs f = ap suc (kids_length g xs ts (rest vs) f.1)
+kids_length g _ _ vs f = elim f [ ]
 
 pub order_length : {X : Type 0} (d : Direction) (xs : List X) → length (in_order d xs) ≡ length xs
 order_length LeftToRight xs = refl
@@ -108,20 +103,13 @@ pub ordered_at : {X : Type 0} (d : Direction) (xs : List X) (i : ℕ) (x : X) �
     → slice_get xs (nth d (length xs) i) ≡ Some x
 ordered_at LeftToRight xs i x e = e
 ordered_at RightToLeft xs i x e =
-    let within = slice_get_within (reverse xs) i x e in
-    let long = length-reverse xs in
-    let less : i < length xs = omega arith in
+    let less : i < length xs = omega (arith, slice_get_within (reverse xs) i x e, length-reverse xs) in
     let place : length xs - suc i ≡ length xs - 1 - i = omega arith in
-    let value : get_or xs (length xs - 1 - i) x ≡ x = sym (get_or-reverse xs i x less)
-    ∙ get_or_from_slice_get (reverse xs) i x x e in
-    ap (slice_get xs) place ∙ slice_get-get_or xs (length xs - 1 - i) x (omega arith) ∙ ap Some value
+    slice_get_read xs (length xs) (length xs - suc i) x refl (omega arith)
+    (cc (get_or-reverse xs i x less, get_or_from_slice_get (reverse xs) i x x e))
 
-pub is_there : {X : Type 0} (xs : List X) (i : ℕ) → i < length xs → (x : X) × (slice_get xs i ≡ Some x)
+-- the element at an index of a list, and the list from there on
+pub is_there : {X : Type 0} (xs : List X) (i : ℕ) → i < length xs
+    → (x : X) × (slice_get xs i ≡ Some x) × (drop i xs ≡ x ∷ drop (i + 1) xs)
 is_there [] i less = absurd (omega arith)
-is_there (x ∷ xs) zero less = (x, refl)
-is_there (x ∷ xs) (suc i) less = is_there xs i (omega arith)
-
-pub drop_there : {X : Type 0} (xs : List X) (i : ℕ) (x : X) → slice_get xs i ≡ Some x → drop i xs ≡ x ∷ drop (suc i) xs
-drop_there [] i x e = absurd (let bad : ⊥ = cc in bad)
-drop_there (y ∷ xs) zero x e = let same : y ≡ x = cc in ap (λ z. z ∷ xs) same
-drop_there (y ∷ xs) (suc i) x e = drop_there xs i x e
+is_there (x ∷ xs) i less = (get_or (x ∷ xs) i x, slice_get-get_or (x ∷ xs) i x less, drop_more (x ∷ xs) i x less)

@@ -1,6 +1,6 @@
 -- The search for a literal by the first byte of a text.
-use Rattle.std.proofs.Common.{Bor, ◌≡◌, ℕ, ◌+◌, ◌<◌, List, ◌∷◌, ◌++◌, length, get_or, Option, Some, None, IfSome, IfNone}
-use Rattle.std.proofs.Common.{MatchOption, slice_get, refl, ap, sym, ◌∙◌, subst, arith}
+use Rattle.std.proofs.Common.{Bor, ◌≡◌, ℕ, ◌+◌, ◌<◌, List, ◌∷◌, length, get_or, Option, Some, None, IfSome, IfNone}
+use Rattle.std.proofs.Common.{MatchOption, slice_get, ap, sym, ◌∙◌, arith}
 use Rattle.std.proofs.Math.ListN.{set}
 use Rattle.std.proofs.lemmas.List.{length-set, get_or-set_other}
 use Rattle.std.proofs.lemmas.Grind.{get_or-set_at}
@@ -9,7 +9,7 @@ use Rattle.ag_scan.specs.declared.literals.LiteralEntry.{LiteralEntry}
 use Rattle.ag_scan.specs.declared.starts.StartingLiterals.{StartingLiterals}
 use Rattle.ag_scan.specs.declared.starts.StartingLiterals.TheVariants.{Sole}
 use Rattle.ag_scan.specs.Table.{IsPrefix, IsTable, IsLongestPrefix, HasNoPrefix, AreCovered, Covers, with_one}
-use Rattle.ag_scan.proofs.words.Tables.{compared, same_there}
+use Rattle.ag_scan.proofs.words.Tables.{compared}
 
 -- if what is stored for a byte covers an entry, it still covers that entry after another one was added
 still_covered : (k : ℕ) (s : StartingLiterals) (index : ℕ) → Covers k s → Covers k (with_one s index)
@@ -19,8 +19,8 @@ newly_covered : (s : StartingLiterals) (index : ℕ) → Covers index (with_one 
 newly_covered s index = grind arith
 
 -- after the entry with index `index`, whose first byte is b, was added, the first `index + 1` entries are covered
-module _ (entries : List LiteralEntry) (starts : List StartingLiterals) (index b : ℕ) (rest : List ℕ) (w : LiteralEntry)
-    (s : StartingLiterals) (exact : AreCovered entries starts index) (there : slice_get entries index ≡ Some w)
+module _ {entries : List LiteralEntry} {starts : List StartingLiterals} {index b : ℕ} {rest : List ℕ} {w : LiteralEntry}
+    {s : StartingLiterals} (exact : AreCovered entries starts index) (there : slice_get entries index ≡ Some w)
     (text : w.text.now ≡ b ∷ rest) (byte : b < 256) (is : get_or starts b s ≡ s) where
   within : b < length starts
   within = omega (arith, exact.whole)
@@ -35,33 +35,28 @@ module _ (entries : List LiteralEntry) (starts : List StartingLiterals) (index b
       × ((d : StartingLiterals) → Covers k (get_or (set starts b (with_one s index)) c d))
   by k u below at =
       compared k index
-      (λ less. let old = exact.each k u less at in (old.0, old.1, old.2, kept k old.0 old.3))
-      (λ same. (
-        b,
-        rest,
-        ap (λ (v : LiteralEntry). v.text.now) (same_there entries k index u w at there same) ∙ text,
-        λ d. (let new = newly_covered s index in grind (arith, get_or-set_at)),
-      ))
-      (λ more. let bad : ⊥ = omega arith in absurd bad)
+      (λ less. let (c, rest, begin, covered) = exact.each k u less at in (c, rest, begin, kept k c covered))
+      (λ same. (b, rest, cc, λ d. (let new = newly_covered s index in grind (arith, get_or-set_at))))
+      (λ more. absurd (omega arith))
 
   pub one_covered : AreCovered entries (set starts b (with_one s index)) (index + 1)
   one_covered = record { whole = length-set starts b (with_one s index) ∙ exact.whole; each = by }
 
 -- The result for a text with the first byte b, if only one entry is stored for b (`Sole`).
-module _ (literals : List (List ℕ)) (entries : List LiteralEntry) (shorter : List (Option ℕ))
-    (table : IsTable literals entries shorter) (starts : List StartingLiterals)
-    (exact : AreCovered entries starts (length entries)) (text : List ℕ) (b : ℕ) (rest : List ℕ) (e : text ≡ b ∷ rest)
-    (d : StartingLiterals) (i : ℕ) (sole : get_or starts b d ≡ Sole i) where
+module _ {literals : List (List ℕ)} {entries : List LiteralEntry} {shorter : List (Option ℕ)}
+    (table : IsTable literals entries shorter) {starts : List StartingLiterals}
+    (exact : AreCovered entries starts (length entries)) {text : List ℕ} {b : ℕ} {rest : List ℕ} (e : text ≡ b ∷ rest)
+    (d : StartingLiterals) {i : ℕ} (sole : get_or starts b d ≡ Sole i) where
   -- a literal that is a prefix of the text is this one
   sole_prefix : (n : ℕ) (x : List ℕ) → slice_get literals n ≡ Some x → IsPrefix x text
       → (w : LiteralEntry) × (slice_get entries i ≡ Some w) × (w.text.now ≡ x)
   sole_prefix n x at prefix =
-      let found = table.literals_all.whole n x at in
-      let of = exact.each found.0 found.1 (slice_get_within entries found.0 found.1 found.2) found.2 in
-      let both : of.0 ∷ (of.1 ++ prefix.0) ≡ b ∷ rest = ap (λ y. y ++ prefix.0) (sym of.2 ∙ found.3) ∙ sym prefix.1 ∙ e in
-      let first : of.0 ≡ b = cc in
-      let same : i ≡ found.0 = subst (Covers found.0) sole (rw first at (of.3 d)) in
-      (found.1, rw same found.2, found.3)
+      let (k, w, there, same) = table.literals_all.whole n x at in
+      let (c, more, begin, covered) = exact.each k w (slice_get_within entries k w there) there in
+      let both = rw (← same, begin) at (sym prefix.1 ∙ e) in
+      let first : c ≡ b = cc in
+      let here : i ≡ k = rw (first, sole) at (covered d) in
+      (w, rw here there, same)
 
   pub sole_exact : (r : Option (Bor LiteralEntry)) → IfSome r (λ w. slice_get entries i ≡ Some w.now)
       → IfSome r (λ w. IsPrefix w.now.text.now text)
@@ -74,6 +69,6 @@ module _ (literals : List (List ℕ)) (entries : List LiteralEntry) (shorter : L
     prefix = prefix;
     longest = λ n x at is.
         let (u, here, same) = sole_prefix n x at is in
-        let one = same_there entries i i w.now u there here refl in
-        omega (arith, ap (λ (v : LiteralEntry). length v.text.now) one, ap length same);
+        let whole : w.now.text.now ≡ x = cc in
+        omega (arith, ap length whole);
   }

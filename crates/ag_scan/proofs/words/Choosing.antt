@@ -1,6 +1,6 @@
 -- The word that is the token.
 use Rattle.std.proofs.Common.{◌≡◌, ℕ, ◌+◌, ◌<◌, ◌≤◌, Bool, true, false, cond, nat_lt, List, [], ◌∷◌, ◌++◌, length, Option, Some}
-use Rattle.std.proofs.Common.{None, refl, ap, sym, ◌∙◌, arith, option_map, MatchOption}
+use Rattle.std.proofs.Common.{None, refl, arith, option_map, MatchOption}
 use Rattle.std.proofs.lemmas.Str.{len_utf8_bounds}
 use Rattle.ag_grammar.specs.declared.grammar.Terminal.TheVariants.{Literal, Class}
 use Rattle.ag_tokens.specs.Tokens.{width}
@@ -13,7 +13,7 @@ use Rattle.ag_scan.proofs.OneToken.{IsWordIn}
 use Rattle.std.proofs.lemmas.Bool.Decides.{nat_tests}
 
 -- of two prefixes of a text, the shorter one is not wider
-pub no_wider : (xs ys us vs : List ℕ) → xs ++ us ≡ ys ++ vs → length xs ≤ length ys → width xs ≤ width ys
+no_wider : (xs ys us vs : List ℕ) → xs ++ us ≡ ys ++ vs → length xs ≤ length ys → width xs ≤ width ys
 no_wider [] ys us vs e h = omega arith
 no_wider (x ∷ xs) [] us vs e h = absurd (omega arith)
 no_wider (x ∷ xs) (y ∷ ys) us vs e h = let more = no_wider xs ys us vs in grind arith
@@ -21,7 +21,7 @@ no_wider (x ∷ xs) (y ∷ ys) us vs e h = let more = no_wider xs ys us vs in gr
 -- of two prefixes of a text, the narrower one is not longer
 pub no_longer : (xs ys us vs : List ℕ) → xs ++ us ≡ ys ++ vs → width xs ≤ width ys → length xs ≤ length ys
 no_longer [] ys us vs e h = omega arith
-no_longer (x ∷ xs) [] us vs e h = let some = (len_utf8_bounds x).0 in absurd (omega arith)
+no_longer (x ∷ xs) [] us vs e h = absurd (omega (arith, (len_utf8_bounds x).0))
 no_longer (x ∷ xs) (y ∷ ys) us vs e h = let more = no_longer xs ys us vs in grind arith
 
 -- the result of the search: the longest literal at the beginning, or `None` if no literal begins there
@@ -34,10 +34,10 @@ module _ (v : Vocabulary) (cs : List ℕ) where
   no_word none no_class word more split (Class c, lex, is) = no_class word more split (c, lex, is.0, is.1)
 
   -- a word of a class is the token if each literal at the beginning is shorter
-  class_token : (f : LeadingWord) → (cut : IsLeadingClassWord v.classes cs f)
+  class_token : {f : LeadingWord} (cut : IsLeadingClassWord v.classes cs f)
       → ((word more : List ℕ) → cs ≡ word ++ more → IsLiteral v.literals word → length word < length cut.word)
       → IsLeadingToken v cs f
-  class_token f cut less =
+  class_token {f} cut less =
       record {
         word = cut.word;
         split = cut.split;
@@ -45,17 +45,17 @@ module _ (v : Vocabulary) (cs : List ℕ) where
       }
     where
       longest : IsLongest (IsAnyWord v) cut.word f.rest
-      longest longer more same (Literal l, lex, is) = let k = less longer more (cut.split ∙ same) (l, is.0) in omega arith
+      longest longer more same (Literal l, lex, is) = omega (arith, less longer more (cc) (l, is.0))
       longest longer more same (Class c, lex, is) = cut.longest longer more same (c, lex, is.0, is.1)
 
       tie : IsLiteral v.literals cut.word → ⊥
-      tie is = let k = less cut.word f.rest cut.split is in omega arith
+      tie is = omega (arith, less cut.word f.rest cut.split is)
 
   -- a literal is the token if no word of a class at the beginning is longer
-  literal_token : (f : LeadingWord) → (cut : IsLeadingLiteral v.literals cs f)
+  literal_token : {f : LeadingWord} (cut : IsLeadingLiteral v.literals cs f)
       → ((word more : List ℕ) → cs ≡ word ++ more → IsClassWord v.classes word → length word ≤ length cut.word)
       → IsLeadingToken v cs f
-  literal_token f cut fit =
+  literal_token {f} cut fit =
       record {
         word = cut.word;
         split = cut.split;
@@ -64,39 +64,37 @@ module _ (v : Vocabulary) (cs : List ℕ) where
     where
       longest : IsLongest (IsAnyWord v) cut.word f.rest
       longest longer more same (Literal l, lex, is) = cut.longest longer more same (l, is.0)
-      longest longer more same (Class c, lex, is) = fit longer more (cut.split ∙ same) (c, lex, is.0, is.1)
+      longest longer more same (Class c, lex, is) = fit longer more (cc) (c, lex, is.0, is.1)
 
-  longer : (f g : LeadingWord) → IsLeadingLiteral v.literals cs f → IsLeadingClassWord v.classes cs g → (b : Bool)
+  longer : {f g : LeadingWord} → IsLeadingLiteral v.literals cs f → IsLeadingClassWord v.classes cs g → (b : Bool)
       → nat_lt (width g.rest) (width f.rest) ≡ b → IsWordIn v cs (cond b (Some g) (Some f))
-  longer f g literal class b h = go b h
+  longer {f} {g} literal class b h = go b h
     where
-      both : literal.word ++ f.rest ≡ class.word ++ g.rest
-      both = sym literal.split ∙ class.split
+      both : class.word ++ g.rest ≡ literal.word ++ f.rest
+      both = cc
 
       wide : width literal.word + width f.rest ≡ width class.word + width g.rest
-      wide = sym (width-append literal.word f.rest) ∙ ap width both ∙ width-append class.word g.rest
+      wide = cc (width-append literal.word f.rest, width-append class.word g.rest)
 
       go : (b : Bool) → nat_lt (width g.rest) (width f.rest) ≡ b → IsWordIn v cs (cond b (Some g) (Some f))
-      go true h = class_token g class (λ word more split is.
-          (let fits = literal.longest word more (sym literal.split ∙ split) is in
-          let wider = no_wider class.word literal.word g.rest f.rest (sym both) in
-          let w = wide in
-          grind (arith, nat_tests)))
-      go false h = literal_token f literal (λ word more split is.
-          (let fits = class.longest word more (sym class.split ∙ split) is in
-          let k = no_longer class.word literal.word g.rest f.rest (sym both) in
-          let w = wide in
-          grind (arith, nat_tests)))
+      go true h = class_token class (λ word more split is.
+          (let fits = literal.longest word more (cc) is in
+          let wider = no_wider class.word literal.word g.rest f.rest both in
+          grind (arith, nat_tests, wide)))
+      go false h = literal_token literal (λ word more split is.
+          (let fits = class.longest word more (cc) is in
+          let k = no_longer class.word literal.word g.rest f.rest both in
+          grind (arith, nat_tests, wide)))
 
   -- the longer one of the literal and the word of a class is the token
   pub chosen : (a b : Option LeadingWord) → IsLiteralIn v.literals cs a → class_from v.classes cs ≡ b
       → IsWordIn v cs (longer_of a b)
   chosen None None none e = no_word none (class_none v.classes cs e)
   chosen None (Some g) none e =
-      class_token g (class_cut v.classes cs g e) (λ word more split is. absurd (none word more split is))
+      class_token (class_cut v.classes cs g e) (λ word more split is. absurd (none word more split is))
   chosen (Some f) None literal e =
-      literal_token f literal (λ word more split is. absurd (class_none v.classes cs e word more split is))
-  chosen (Some f) (Some g) literal e = longer f g literal (class_cut v.classes cs g e) (nat_lt (width g.rest) (width f.rest)) refl
+      literal_token literal (λ word more split is. absurd (class_none v.classes cs e word more split is))
+  chosen (Some f) (Some g) literal e = longer literal (class_cut v.classes cs g e) (nat_lt (width g.rest) (width f.rest)) refl
 
 -- the same for a word of the code
 pub lent_word : (v : Vocabulary) (cs : List ℕ) (o : Option code.LeadingWord)

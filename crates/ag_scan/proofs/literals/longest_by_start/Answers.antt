@@ -3,7 +3,5 @@ use Rattle.ag_scan.proofs.literals.longest_by_start.Goals as goal
 
 pub returns-in-Sole : goal.returns-in-Sole
 returns-in-Sole c =
-    sole_exact c.args.texts.now c.args.entries.now c.args.shorter.now c.requires.table c.args.starts.now c.requires.starts
-    c.args.text.now c.first_byte.result c.first_byte.ensures.0 c.first_byte.ensures.1 _ c.in-Sole.index c.in-Sole.is
-    c.prefix_at.result
+    sole_exact c.requires.table c.requires.starts c.first_byte.ensures.1 _ c.in-Sole.is c.prefix_at.result
     c.prefix_at.ensures.there c.prefix_at.ensures.prefix c.prefix_at.ensures.none

@@ -4,7 +4,7 @@ use Rattle.ag_scan.proofs.words.Tables.{moved, sorted_is_ordered}
 use Rattle.ag_scan.proofs.literals.ordered.Goals as goal
 
 pub returns-clause-literals : goal.returns-clause-literals
-returns-clause-literals c = moved c.args.literals.now _ _ c.sort_by_key.ensures.permutation c.in_ok-entries.ensures.literals
+returns-clause-literals c = moved _ _ c.sort_by_key.ensures.permutation c.in_ok-entries.ensures.literals
 
 pub returns-clause-ordered : goal.returns-clause-ordered
 returns-clause-ordered c =

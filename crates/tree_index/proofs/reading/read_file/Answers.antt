@@ -1,25 +1,20 @@
-use Rattle.std.proofs.Common.{◌≡◌, ◌-◌, ℕ, List, [], ◌∷◌, ap, subst, sym, ◌∙◌, reverse, take}
+use Rattle.std.proofs.Common.{◌≡◌, ◌-◌, ℕ, [], ap, subst, sym, ◌∙◌, reverse, take}
 use Rattle.std.proofs.lemmas.List.{append-nil, reverse-append}
 use Rattle.std.proofs.lemmas.Result.{IfOk-weaker}
-use Rattle.ag_grammar.specs.declared.grammar.Item.TheVariants as item
 use Rattle.treefile.specs.devices.Device.{WhenHonest}
 use Rattle.tree_index.specs.Nodes.{IsIndexIn}
-use Rattle.tree_index.specs.Reading.{IsNextRecord, HasComeTo}
 use Rattle.tree_index.specs.declared.index.TreeIndex.{TreeIndex}
-use Rattle.tree_index.specs.declared.reading.OpenRecord.{OpenRecord}
 use Rattle.tree_index.proofs.Steps.{begins_reading, ends_reading}
 use Rattle.tree_index.proofs.reading.read_file.Goals as goal
 
 pub read-requires-clause-next : goal.read-requires-clause-next
 read-requires-clause-next g c = λ honest.
-    let content = g.D.Device.content c.args.device.now in
-    let back = c.in_ok-back.back in
-    subst (λ (bytes : List ℕ). IsNextRecord c.args.grammar.now bytes back (item.Symbol c.start-2.result)
-    (reverse c.new-2.result.items) c.new.result) (sym (c.in_ok-back.ensures.content honest))
-    (begins_reading c.args.grammar.now content back c.start-2.result (reverse c.new-2.result.items) c.new.result
-    c.start-2.ensures.accepted (c.in_ok-back.ensures.started.end honest) c.in_ok-back.ensures.started.fresh
-    (c.in_ok-back.ensures.exact honest) c.start-2.ensures.value (ap reverse c.new-2.ensures.items)
-    (c.new.ensures.pass ∙ c.pass-pass.ensures) c.new.ensures.ends c.new.ensures.kinds c.new.ensures.sizes)
+    rw (c.in_ok-back.ensures.content honest)
+    (begins_reading c.args.grammar.now (g.D.Device.content c.args.device.now) c.in_ok-back.back c.start-2.result
+    (reverse c.new-2.result.items) c.new.result c.start-2.ensures.accepted (c.in_ok-back.ensures.started.end honest)
+    c.in_ok-back.ensures.started.fresh (c.in_ok-back.ensures.exact honest) c.start-2.ensures.value
+    (ap reverse c.new-2.ensures.items) (c.new.ensures.pass ∙ c.pass-pass.ensures) c.new.ensures.ends c.new.ensures.kinds
+    c.new.ensures.sizes)
 
 pub returns-in_default-clause-indexed : goal.returns-in_default-clause-indexed
 returns-in_default-clause-indexed g c =
@@ -39,9 +34,5 @@ pub turn-requires-clause-come : goal.turn-requires-clause-come
 turn-requires-clause-come g c = λ honest.
     let so_far = c.loop-turn.invariant in
     let reading = c.loop-turn.reading in
-    let turned : reverse reading.nodes.items ≡ c.in-Some.node ∷ reverse c.pop.new.self.items = ap reverse c.in-Some.ensures.items
-    ∙ reverse-append c.pop.new.self.items (c.in-Some.node ∷ []) in
-    subst (λ (bytes : List ℕ). HasComeTo c.args.grammar.now bytes reading.back (c.in-Some.node ∷ reverse c.pop.new.self.items)
-    reading.index) (sym (so_far.content honest))
-    (subst (λ (os : List OpenRecord). HasComeTo c.args.grammar.now (g.D.Device.content c.args.device.now) reading.back os
-    reading.index) turned (so_far.come honest))
+    let come = rw (c.in-Some.ensures.items, reverse-append) at (so_far.come honest) in
+    rw (so_far.content honest) come

@@ -1,6 +1,5 @@
-use Rattle.std.proofs.Common.{◌≤◌, length, option_map, IsUtf8, refl, subst, arith}
+use Rattle.std.proofs.Common.{◌≤◌, length, IsUtf8, refl, subst, arith}
 use Rattle.ag_tokens.proofs.Lexed.{width-chars}
-use Rattle.ag_scan.specs.Cutting.{leading_word_of}
 use Rattle.ag_scan.specs.TokenReader.{TokenReader}
 use Rattle.ag_scan.proofs.Supplying.{goes_on, none_next, none_there, counted}
 use Rattle.ag_scan.proofs.tokens.Tokens.advance.Goals as goal
@@ -13,7 +12,7 @@ next_word-at-requires-clause-within c =
 
 pub overflow_add-self : goal.overflow_add-self
 overflow_add-self c =
-    let few = counted _ _ _ _ _ c.self.invariant in
+    let few = counted c.self.invariant in
     omega (arith, few.0, few.1)
 
 pub invariant_of-self : goal.invariant_of-self
@@ -21,15 +20,12 @@ invariant_of-self c =
     let at = rw c.in-Some.is at c.self.invariant in
     let utf8 = subst IsUtf8 c.as_bytes-utf8.ensures.value c.as_bytes-utf8.ensures.utf8 in
     let seen = c.next_word-at in
-    goes_on c.self.inside.vocabulary.now c.self.inside.text.now c.self.invariant.has c.self.inside.taken
-    (leading_word_of c.in-Some.next) c.self.inside.at c.in-Some.next.rest.now at refl utf8
-    (option_map (λ f. leading_word_of f) seen.result.0) seen.result.1
-    seen.ensures.next (λ none. seen.ensures.end (none_there seen.result.0 none))
+    goes_on c.in-Some.next.rest.now at refl utf8 seen.ensures.next (λ none. seen.ensures.end (none_there seen.result.0 none))
 
 pub returns-in_default : goal.returns-in_default
 returns-in_default c =
     let at = rw c.in_default.is at c.self.invariant in
-    let past = (none_next _ _ _ _ at).1 in
+    let past = (none_next at).1 in
     let short : length c.args.self.now.list ≤ c.args.self.now.taken =
     subst (λ (h : TokenReader). length h.list ≤ h.taken) c.self.view_is past in
     absurd (omega (arith, c.requires))

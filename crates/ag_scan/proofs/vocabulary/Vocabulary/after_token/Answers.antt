@@ -1,4 +1,4 @@
-use Rattle.std.proofs.Common.{◌≤◌, length, IsUtf8, chars, subst, arith}
+use Rattle.std.proofs.Common.{◌≤◌, length, IsUtf8, subst, arith}
 use Rattle.ag_grammar.specs.grammars.Tree.{max_token_bytes}
 use Rattle.ag_scan.specs.Cutting.{leading_word_of}
 use Rattle.ag_scan.proofs.Listing.{taken}
@@ -10,5 +10,5 @@ returns-clause-took c =
     let utf8 = subst IsUtf8 c.as_bytes-utf8.ensures.value c.as_bytes-utf8.ensures.utf8 in
     let short : length word.lex ≤ max_token_bytes = omega arith in (
       record { kind = word.kind; lex = word.lex; at = c.args.at },
-      taken c.args.self.now (chars c.args.text.now) word c.args.at c.in-Some.ensures utf8 short,
+      taken c.args.at c.in-Some.ensures utf8 short,
     )

@@ -1,7 +1,7 @@
-use Rattle.std.proofs.Common.{◌≡◌, ◌-◌, ◌∙◌, ap, sym, arith}
+use Rattle.std.proofs.Common.{◌≡◌, ◌-◌, arith}
 use Rattle.std.proofs.lemmas.Option.{IfSome_then}
-use Rattle.ag_grammar.specs.grammars.Passes.{nth, other}
-use Rattle.tree_index.specs.Nodes.{HasNoChild, HasNoLater, back_from}
+use Rattle.ag_grammar.specs.grammars.Passes.{nth}
+use Rattle.tree_index.specs.Nodes.{back_from}
 use Rattle.tree_index.proofs.Kids.{child_is}
 use Rattle.tree_index.proofs.NoChild.{few_children, if_none_then, no_child, no_place}
 use Rattle.tree_index.proofs.index.TreeIndex.child.Goals.{then-place-eq0-via-then-place-eq0}
@@ -14,10 +14,11 @@ returns-clause-child c =
     let count = c.child_count-count.result in
     let before = c.others_before.result in
     let place = c.args.place in
-    let zero = c.if-place-eq0.false in
-    let direction : c.turned-direction.result ≡ back_from index.pass = c.turned-direction.ensures ∙ ap other c.of_pass.ensures in
-    let turn : nth (back_from index.pass) count before ≡ place - 1 = sym (ap (λ d. nth d count before) direction)
-    ∙ c.others_before.ensures.nth in
+    let turn : nth (back_from index.pass) count before ≡ place - 1 = cc (
+      c.turned-direction.ensures,
+      c.of_pass.ensures,
+      c.others_before.ensures.nth,
+    ) in
     IfSome_then c.child_after.result c.child_after.ensures.later (λ child later.
     child_is c.args.grammar.now index c.args.node count
     place before child c.child_count-count.ensures c.others_before.ensures.less turn (omega arith) later)
@@ -36,9 +37,6 @@ returns-then-place-eq0-clause-complete c =
 
 pub returns-clause-complete : goal.returns-clause-complete
 returns-clause-complete c =
-    let g = c.args.grammar.now in
-    let index = c.args.self.now in
-    let before = c.others_before.result in
-    if_none_then c.child_after.result (HasNoLater index c.args.node before) (HasNoChild g index c.args.node c.args.place)
-    c.child_after.ensures.complete (λ none. no_child g index c.args.node before c.child_count-count.result c.args.place
-    c.child_count-count.ensures c.others_before.ensures.less none)
+    if_none_then c.child_after.result c.child_after.ensures.complete
+    (no_child c.args.grammar.now c.args.self.now c.args.node c.others_before.result c.child_count-count.result c.args.place
+    c.child_count-count.ensures c.others_before.ensures.less)

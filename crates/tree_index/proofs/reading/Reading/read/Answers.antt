@@ -1,7 +1,4 @@
-use Rattle.std.proofs.Common.{subst, sym, reverse}
 use Rattle.std.proofs.lemmas.Result.{on_ok_weaker}
-use Rattle.backreader.specs.BackState.{BackState}
-use Rattle.tree_index.specs.Reading.{HasComeTo}
 use Rattle.tree_index.proofs.Steps.{reads}
 use Rattle.tree_index.proofs.reading.Reading.read.Goals as goal
 
@@ -12,7 +9,7 @@ returns-clause-come g c = on_ok_weaker c.open.result (λ opened honest.
     let old = c.args.self.now in
     let new = c.open.new.self in
     let f = c.in_ok-fetched.ensures in
-    subst (λ (b : BackState). HasComeTo grammar content b (reverse new.nodes.items) new.index) (sym c.open.ensures.back)
+    rw c.open.ensures.back
     (reads grammar content (g.D.Device.is_honest c.fetch.new.device) old.back c.fetch.new.back c.args.expected.item
     c.in_ok-fetched.fetched old.nodes.items new.nodes.items old.index new.index f.fetched opened honest
     (c.requires.next (f.persists.honest honest)))) c.open.ensures.opened

@@ -1,83 +1,54 @@
-use Rattle.std.proofs.Common.{◌≡◌, ◌≤◌, ◌∙◌, ℕ, List, Some, ap, length, slice_get, sym, arith}
-use Rattle.std.proofs.lemmas.Option.{slice_get-get_or}
-use Rattle.tree_index.specs.Tokens.{HasNoTokens, HasTokens}
+use Rattle.std.proofs.Common.{◌≡◌, ◌∙◌, sym, ◌<◌, ℕ, List, Some, ap, get_or, length, refl, slice_get, arith}
+use Rattle.std.proofs.lemmas.Option.{slice_get_read}
 use Rattle.tree_index.proofs.Counts.{has_tokens, if_no_difference, if_tokens, no_count, no_difference, no_end, no_subtree}
 use Rattle.tree_index.proofs.NoChild.{if_none}
 use Rattle.tree_index.proofs.tokens.TokenCounts.of_subtree.Goals as goal
 
+-- the number that `get` lent from a list
+lent_number : {lent items : List ℕ} {i n : ℕ} → lent ≡ items → i < length lent → n ≡ get_or lent i n → slice_get items i ≡ Some n
+lent_number {lent} {items} {i} {n} same less is = rw same at (slice_get_read lent (length lent) i n refl less is)
+
 pub returns-clause-count : goal.returns-clause-count
 returns-clause-count c =
-    let index = c.args.index.now in
-    let counts = c.args.self.now in
-    let number = c.args.node in
-    let size = c.in_ok-size.field-0 in
-    let end = c.in_ok-end.end in
-    let first = c.in_ok-first.field-0.now in
-    let last = c.in_ok-get.field-0.now in
-    let at = c.in_ok-first.ensures.lookup in
-    let at_end = c.in_ok-get.ensures.lookup in
-    let at_first : slice_get counts.before.items number ≡ Some first =
-    ap (λ (ns : List ℕ). slice_get ns number) (sym c.deref.ensures.value)
-    ∙ slice_get-get_or c.deref.result.now number first at.3.0 ∙ ap Some (sym at.1) in
-    let at_last : slice_get counts.before.items end ≡ Some last =
-    ap (λ (ns : List ℕ). slice_get ns end) (sym c.deref-2.ensures.value)
-    ∙ slice_get-get_or c.deref-2.result.now end last at_end.3.0 ∙ ap Some (sym at_end.1) in
-    if_tokens (HasTokens index counts number) c.checked_sub.result first last c.checked_sub.ensures (λ count is. has_tokens index
-    counts number size end first last count (sym c.size.ensures ∙ c.in_ok-size.was) c.in_ok-end.ensures.1 at_first at_last is)
+    let first = c.in_ok-first.ensures.lookup in
+    let last = c.in_ok-get.ensures.lookup in
+    if_tokens c.checked_sub.result c.in_ok-first.field-0.now c.in_ok-get.field-0.now c.checked_sub.ensures
+    (has_tokens c.args.index.now c.args.self.now c.args.node c.in_ok-size.field-0
+    (sym c.size.ensures ∙ c.in_ok-size.was) c.in_ok-end.end c.in_ok-first.field-0.now
+    c.in_ok-get.field-0.now c.in_ok-end.ensures.1 (lent_number c.deref.ensures.value first.3.0 first.1)
+    (lent_number c.deref-2.ensures.value last.3.0 last.1))
 
 pub returns-in_err-size-clause-complete : goal.returns-in_err-size-clause-complete
 returns-in_err-size-clause-complete c =
-    let index = c.args.index.now in
-    let counts = c.args.self.now in
-    if_none c.from_residual.result (HasNoTokens index counts c.args.node)
-    (no_subtree index counts c.args.node (sym c.size.ensures ∙ c.in_err-size.was))
+    if_none c.from_residual.result (no_subtree c.args.index.now c.args.self.now c.args.node
+    (sym c.size.ensures ∙ c.in_err-size.was))
 
 pub returns-in_err-end-clause-complete : goal.returns-in_err-end-clause-complete
 returns-in_err-end-clause-complete c =
-    let index = c.args.index.now in
-    let counts = c.args.self.now in
-    if_none c.from_residual-in_err-end.result (HasNoTokens index counts c.args.node)
-    (no_end index counts c.args.node c.in_ok-size.field-0 (sym c.size.ensures ∙ c.in_ok-size.was) c.in_err-end.ensures)
+    if_none c.from_residual-in_err-end.result
+    (no_end c.args.index.now c.args.self.now c.args.node c.in_ok-size.field-0
+    (sym c.size.ensures ∙ c.in_ok-size.was) c.in_err-end.ensures)
 
 pub returns-in_err-first-clause-complete : goal.returns-in_err-first-clause-complete
 returns-in_err-first-clause-complete c =
-    let index = c.args.index.now in
-    let counts = c.args.self.now in
-    let size = c.in_ok-size.field-0 in
-    let past : length c.deref.result.now ≤ c.args.node = c.in_err-first.ensures.lookup.3 in
-    let all = ap length c.deref.ensures.value in
-    if_none c.from_residual-in_err-first.result (HasNoTokens index counts c.args.node)
-    (no_count index counts c.args.node size c.args.node (sym c.size.ensures ∙ c.in_ok-size.was) (omega arith)
-    (omega (arith, past, all)))
+    if_none c.from_residual-in_err-first.result
+    (no_count c.args.index.now c.args.self.now c.args.node c.in_ok-size.field-0
+    (sym c.size.ensures ∙ c.in_ok-size.was) c.args.node (omega arith)
+    (omega (arith, c.in_err-first.ensures.lookup.3, ap length c.deref.ensures.value)))
 
 pub returns-in_err-get-clause-complete : goal.returns-in_err-get-clause-complete
 returns-in_err-get-clause-complete c =
-    let index = c.args.index.now in
-    let counts = c.args.self.now in
-    let size = c.in_ok-size.field-0 in
-    let end = c.in_ok-end.ensures.1 in
-    let past : length c.deref-2.result.now ≤ c.in_ok-end.end = c.in_err-get.ensures.lookup.3 in
-    let all = ap length c.deref-2.ensures.value in
-    if_none c.from_residual-in_err-get.result (HasNoTokens index counts c.args.node)
-    (no_count index counts c.args.node size c.in_ok-end.end (sym c.size.ensures ∙ c.in_ok-size.was) (omega (arith, end))
-    (omega (arith, past, all)))
+    if_none c.from_residual-in_err-get.result
+    (no_count c.args.index.now c.args.self.now c.args.node c.in_ok-size.field-0
+    (sym c.size.ensures ∙ c.in_ok-size.was) c.in_ok-end.end
+    (omega (arith, c.in_ok-end.ensures.1)) (omega (arith, c.in_err-get.ensures.lookup.3, ap length c.deref-2.ensures.value)))
 
 pub returns-clause-complete : goal.returns-clause-complete
 returns-clause-complete c =
-    let index = c.args.index.now in
-    let counts = c.args.self.now in
-    let number = c.args.node in
-    let end = c.in_ok-end.end in
-    let first = c.in_ok-first.field-0.now in
-    let last = c.in_ok-get.field-0.now in
-    let at = c.in_ok-first.ensures.lookup in
-    let at_end = c.in_ok-get.ensures.lookup in
-    let at_first : slice_get counts.before.items number ≡ Some first =
-    ap (λ (ns : List ℕ). slice_get ns number) (sym c.deref.ensures.value)
-    ∙ slice_get-get_or c.deref.result.now number first at.3.0 ∙ ap Some (sym at.1) in
-    let at_last : slice_get counts.before.items end ≡ Some last =
-    ap (λ (ns : List ℕ). slice_get ns end) (sym c.deref-2.ensures.value)
-    ∙ slice_get-get_or c.deref-2.result.now end last at_end.3.0 ∙ ap Some (sym at_end.1) in
-    if_no_difference (HasNoTokens index counts number) c.checked_sub.result first last c.checked_sub.ensures (λ fewer.
-    no_difference index counts number c.in_ok-size.field-0 end first last (sym c.size.ensures ∙ c.in_ok-size.was)
-    c.in_ok-end.ensures.1 at_first at_last fewer)
+    let first = c.in_ok-first.ensures.lookup in
+    let last = c.in_ok-get.ensures.lookup in
+    if_no_difference c.checked_sub.result c.in_ok-first.field-0.now c.in_ok-get.field-0.now c.checked_sub.ensures
+    (no_difference c.args.index.now c.args.self.now c.args.node c.in_ok-size.field-0
+    (sym c.size.ensures ∙ c.in_ok-size.was) c.in_ok-end.end
+    c.in_ok-first.field-0.now c.in_ok-get.field-0.now c.in_ok-end.ensures.1
+    (lent_number c.deref.ensures.value first.3.0 first.1) (lent_number c.deref-2.ensures.value last.3.0 last.1))
