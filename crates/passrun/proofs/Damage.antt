@@ -2,7 +2,7 @@
 -- true of the content, and a content shows at most one fault.
 use Rattle.std.specs.List.{flat_map}
 use Rattle.std.proofs.Common.{ℕ, suc, ◌≡◌, ◌≢◌, ◌+◌, ◌^◌, ◌<◌, ◌≤◌, ◌⊎◌, inl, inr, Bool, true, false, if◌then◌else◌, List, []}
-use Rattle.std.proofs.Common.{◌∷◌, ◌++◌, Some, Ok, Err, length, refl, ap, ◌∙◌, sym, subst, arith}
+use Rattle.std.proofs.Common.{◌∷◌, ◌++◌, Some, Ok, Err, length, refl, ◌∙◌, sym, subst, arith}
 use Rattle.ag_grammar.specs.declared.direction.Direction.{Direction}
 use Rattle.ag_grammar.specs.grammars.Passes.{direction_of, other}
 use Rattle.treefile.specs.declared.reading.FrameFault.{FrameFault}
@@ -72,7 +72,7 @@ Stops s content at count todo fault.NoMemory = ⊥
 -- Reading stops at one offset for at most one fault.
 same_stop : (s : Source) (content : List ℕ) (at count : ℕ) (todo : Pending) (e f : RunFault) → Stops s content at count todo e
     → Stops s content at count todo f → e ≡ f
-same_stop s content at count todo (fault.Damaged a) (fault.Damaged b) p q = ap fault.Damaged (p.0 ∙ sym q.0)
+same_stop s content at count todo (fault.Damaged a) (fault.Damaged b) p q = cc
 same_stop s content at count [] (fault.Damaged a) fault.TooDeep p q = absurd q
 same_stop s content at count (x ∷ xs) (fault.Damaged a) fault.TooDeep p q = let le = p.1.0 in absurd (omega arith)
 same_stop s content at count [] (fault.Damaged a) fault.TooManyNodes p q = absurd q
@@ -115,7 +115,7 @@ one_stop : (s : Source) (content : List ℕ) (bodies others : List (List ℕ)) (
 one_stop s content [] [] from at there count todo left rest e f few read read' h h' most most' stops stops' =
     same_stop s content at (count + 0) left e f stops
     (subst (λ n. Stops s content n (count + 0) left f) (sym read' ∙ read)
-    (subst (λ (t : Pending). Stops s content there (count + 0) t f) (sym h' ∙ h) stops'))
+    (subst (λ (t : Pending). Stops s content there (count + 0) t f) (cc) stops'))
 one_stop s content (body ∷ bodies) others from at there count [] left rest e f few read read' h h' most most' stops stops' =
     elim h [ ]
 one_stop s content [] (another ∷ others) from at there count [] left rest e f few read read' h h' most most' stops stops' =
@@ -221,11 +221,9 @@ module _ (s : Source) (sound : IsDecidable s) where
         record {
           none = λ t v tree file.
               let begun : is_tree_file s.version content ≡ true =
-              ap (is_tree_file s.version) file.occurs
-              ∙ begins s.version s.pass
-              (flat_map frame (postfix (direction_of s.pass) (bodies_of s.version s.grammar s.passes s.pass t v)))
-              sound.usable in
-              let not_true : false ≡ true = sym is.0 ∙ begun in
+              cc (begins s.version s.pass (flat_map frame (postfix (direction_of s.pass) (bodies_of s.version s.grammar s.passes
+              s.pass t v))) sound.usable) in
+              let not_true : false ≡ true = cc in
               cc;
           shown = inl (is.0, refl);
         },
@@ -236,7 +234,7 @@ module _ (s : Source) (sound : IsDecidable s) where
       → IsDamaged s content 4
   other_pass content pass small exact not =
       let is = is_file (is_tree_file s.version content) (pass_of content) pass exact in
-      let otherwise : pass_of content ≢ s.pass = λ same. not (sym is.1 ∙ same) in
+      let otherwise : pass_of content ≢ s.pass = λ same. not (cc) in
       record {
         none = no_file_has_no_tree s.version s.grammar s.passes s.pass content sound.usable small (λ both. otherwise both.1);
         shown = inr (inl (is.0, otherwise, refl));
@@ -246,7 +244,7 @@ module _ (s : Source) (sound : IsDecidable s) where
   pub readable : (content : List ℕ) (pass : ℕ) → pass_in s.version content ≡ Ok pass → pass ≡ s.pass → IsReadable s content
   readable content pass exact same =
       let is = is_file (is_tree_file s.version content) (pass_of content) pass exact in
-      record { begins = is.0; number = is.1 ∙ same }
+      record { begins = is.0; number = cc }
 
 -- ---- at most one fault shows
 
@@ -265,8 +263,8 @@ ShowsSomewhere s content f =
     ⊎ ShowsOnWay s content f)
 
 somewhere : (s : Source) (content : List ℕ) (f : RunFault) → Shows s content f → ShowsSomewhere s content f
-somewhere s content (fault.Damaged at) (inl a) = inl (a.0, ap fault.Damaged a.1)
-somewhere s content (fault.Damaged at) (inr (inl a)) = inr (inl (a.0, a.1, ap fault.Damaged a.2))
+somewhere s content (fault.Damaged at) (inl a) = inl (a.0, cc)
+somewhere s content (fault.Damaged at) (inr (inl a)) = inr (inl (a.0, a.1, cc))
 somewhere s content (fault.Damaged at) (inr (inr a)) = inr (inr (a.0, (a.1.0, at, a.1.1, (refl, a.1.2, a.1.3))))
 somewhere s content fault.TooDeep h = inr (inr (h.readable, ((h.level, h.next) ∷ h.others, h.at, h.arrival, h.deep)))
 somewhere s content fault.TooManyNodes h = let full = h.full in
@@ -278,13 +276,13 @@ pub shows_once : ShowsOnce
 shows_once s content e f accepted one another = go (somewhere s content e one) (somewhere s content f another)
   where
     go : ShowsSomewhere s content e → ShowsSomewhere s content f → e ≡ f
-    go (inl a) (inl b) = a.1 ∙ sym b.1
-    go (inl a) (inr (inl b)) = absurd (let z : false ≡ true = sym a.0 ∙ b.0 in cc)
-    go (inl a) (inr (inr b)) = absurd (let z : false ≡ true = sym a.0 ∙ b.0.begins in cc)
-    go (inr (inl a)) (inl b) = absurd (let z : false ≡ true = sym b.0 ∙ a.0 in cc)
-    go (inr (inl a)) (inr (inl b)) = a.2 ∙ sym b.2
+    go (inl a) (inl b) = cc
+    go (inl a) (inr (inl b)) = absurd (let z : false ≡ true = cc in cc)
+    go (inl a) (inr (inr b)) = absurd (let z : false ≡ true = cc in cc)
+    go (inr (inl a)) (inl b) = absurd (let z : false ≡ true = cc in cc)
+    go (inr (inl a)) (inr (inl b)) = cc
     go (inr (inl a)) (inr (inr b)) = absurd (a.1 b.0.number)
-    go (inr (inr a)) (inl b) = absurd (let z : false ≡ true = sym b.0 ∙ a.0.begins in cc)
+    go (inr (inr a)) (inl b) = absurd (let z : false ≡ true = cc in cc)
     go (inr (inr a)) (inr (inl b)) = absurd (b.1 a.0.number)
     go (inr (inr a)) (inr (inr b)) =
         let first = a.1.2 in

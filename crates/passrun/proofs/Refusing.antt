@@ -95,7 +95,7 @@ module _ (c : Setting) (sound : IsSound c) where
           few = r.running.few;
         };
         count = r.running.records;
-        found = λ more. let z = first.3 more in (z.0, ap (λ n. drop (x.base + n) (m.values.items ++ more)) i.start ∙ z.1);
+        found = λ more. let z = first.3 more in (z.0, cc);
       }
 
   pub get_refused : (honest : Bool) (content : List ℕ) (m : Machine) (x : OpenNode) (j n : ℕ) (row : PlaceRow) (f : RunFault)
@@ -129,7 +129,7 @@ module _ (c : Setting) (sound : IsSound c) where
       let count = z.count in
       let other =
       agrees z.values (read_values c row.item p h.body m.values.items read h.taken) found.0 back_row.0 prefix
-      (theirs_are ∙ ap (λ n. drop n read) start_is ∙ back_row.1) in
+      (cc) in
       disagreed c sound row.item p (suc (length m.waiting.items + 1)) content h.body m.back.progress.at z.left m.values.items read
       h.taken z.values (λ same. not_true (other.1 same)) z.readable z.here (omega arith) (omega arith) (h.found w)
 

@@ -1,9 +1,8 @@
 -- The results of all passes together.
-use Rattle.std.proofs.Common.{◌≡◌, ℕ, zero, suc, ◌-◌, ◌≤◌, List, [], ◌∷◌, Some, None, refl, ap, subst, ◌∙◌, arith}
+use Rattle.std.proofs.Common.{◌≡◌, ℕ, zero, suc, ◌-◌, ◌≤◌, List, [], ◌∷◌, Some, None, refl, subst, arith}
 use Rattle.ag_grammar.specs.Lists.{Each}
 use Rattle.ag_grammar.specs.grammars.Accepted.{IsAccepted}
 use Rattle.ag_grammar.specs.grammars.AttributeGrammar.{Grammar}
-use Rattle.ag_grammar.specs.grammars.Counts.{rules_of_pass, sum_of_passes}
 use Rattle.ag_grammar.specs.grammars.Passes.{IsLegal, Passes}
 use Rattle.ag_grammar.specs.grammars.Running.{IsLastPass}
 use Rattle.ag_grammar.proofs.grammars.Counting.{passes_have_all_rules}
@@ -17,8 +16,7 @@ use Rattle.passrun.specs.Rounds.{HasRunAll, LeavesSolutions, last_content, other
 pub all_rules_are_run : AllRulesAreRun
 all_rules_are_run g m last start which a b evals sum accepted legal is h t u tree file =
     let none : last - 0 ≡ last = omega arith in
-    (h.counts t u tree file).evals_are ∙ ap (sum_of_passes (λ p. rules_of_pass m p g t) 0) none
-    ∙ passes_have_all_rules g m t last accepted legal is
+    cc ((h.counts t u tree file).evals_are, passes_have_all_rules g m t last accepted legal is)
 
 pub values_are_the_solution : ValuesAreTheSolution
 values_are_the_solution g m last start which a b evals sum accepted legal is h t u tree file =

@@ -1,12 +1,11 @@
 -- Files of binary fractions that are damaged, as worked examples.
-use Rattle.std.proofs.Common.{◌≡◌, ℕ, inl, inr, true, pos, List, [], ◌∷◌, Some, None, Ok, slice_get, refl, ap, ◌∙◌, sym, subst}
+use Rattle.std.proofs.Common.{◌≡◌, ℕ, inl, inr, true, pos, List, [], ◌∷◌, Some, None, Ok, refl, sym, subst}
 use Rattle.std.proofs.Common.{arith}
 use Rattle.std.proofs.lemmas.List.Elements.{All-nil}
 use Rattle.std.proofs.lemmas.Option.{same_Some}
 use Rattle.ag_value.specs.declared.value.Value.{Value, Num}
 use Rattle.ag_value.specs.Well.{IsWell}
 use Rattle.ag_grammar.specs.declared.grammar.Item.TheVariants as item
-use Rattle.ag_grammar.specs.declared.grammar.Production.{Production}
 use Rattle.treefile.specs.framing.ExpectedRecords.{Breaks, IsNoRecord, IsNodeRecord, pending_root}
 use Rattle.treefile.specs.framing.Backward.{next_before}
 use Rattle.treefile.specs.framing.Ending.{body_before, fits_before, is_tree_file}
@@ -95,8 +94,8 @@ q_is_none ys is =
     same_node version_two binary binary_passes 0 0 1 is.0 1 (0 ∷ 0 ∷ 1 ∷ []) is.1
     (production_of 1 []) is.2 numbers binary_numbered is.3 q_record in
     let same : is.1 ≡ production_of 1 [] =
-    same_Some is.1 (production_of 1 []) (sym is.3.production ∙ ap (slice_get binary.productions) one.0) in
-    let left : ◌≡◌ {A = ℕ} 0 1 = sym is.3.left ∙ ap (λ (q : Production). q.left) same in
+    same_Some is.1 (production_of 1 []) (cc) in
+    let left : ◌≡◌ {A = ℕ} 0 1 = cc in
     omega (arith, left)
 
 -- The file of the record of Q alone.

@@ -1,6 +1,6 @@
 -- The children still to be read at each step.
-use Rattle.std.proofs.Common.{ℕ, suc, ◌≡◌, ◌<◌, ◌≤◌, true, List, [], ◌∷◌, ◌++◌, Option, Some, None, Result, Ok, Err, Bor}
-use Rattle.std.proofs.Common.{slice_get, length, refl, ap, ◌∙◌, sym, subst, arith}
+use Rattle.std.proofs.Common.{ℕ, suc, ◌≡◌, ◌<◌, ◌≤◌, true, List, [], ◌∷◌, Option, Some, None, Result, Ok, Err, Bor}
+use Rattle.std.proofs.Common.{slice_get, length, refl, sym, subst, arith}
 use Rattle.ag_value.specs.declared.value.Value.{Value}
 use Rattle.ag_grammar.specs.declared.grammar.Item.{Item}
 use Rattle.ag_grammar.specs.declared.grammar.Item.TheVariants as item
@@ -11,13 +11,12 @@ use Rattle.ag_grammar.specs.grammars.Passes.{direction_of, other, nth}
 use Rattle.ag_grammar.specs.grammars.Tree.{max_depth, max_nodes}
 use Rattle.ag_grammar.specs.grammars.Solution.{left_passes}
 use Rattle.ag_value.proofs.operations.Wells.{well_text}
-use Rattle.treefile.specs.declared.body.Kind.TheVariants.{Node}
 use Rattle.treefile.specs.declared.reading.FrameFault.{FrameFault}
 use Rattle.treefile.specs.declared.reading.FrameFault.TheVariants as frame_fault
 use Rattle.treefile.specs.framing.Backward.{next_before}
 use Rattle.treefile.specs.framing.Ending.{ReadsAs}
-use Rattle.treefile.specs.records.Records.{node_body, values_up_to}
-use Rattle.treefile.specs.records.TreeFile.{body_of, version_two}
+use Rattle.treefile.specs.records.Records.{values_up_to}
+use Rattle.treefile.specs.records.TreeFile.{version_two}
 use Rattle.treefile.specs.framing.ExpectedRecords as expected
 use Rattle.treefile.specs.framing.ExpectedRecords.{Child, MatchesCopy, IsNodeRecord, IsRecordOf, Pending, before_others}
 use Rattle.treefile.specs.framing.ExpectedRecords.{children_with_copies}
@@ -86,12 +85,9 @@ no_record c (item.Symbol s) body copy none ys (p, q, e, is, same, matching) =
     let own = mended c.read (c.passes s) e is.well in
     let row = tabled c c.read (stored_items q.items) is.copies is.are_copies.0 is.are_copies.1 in
     let cs = copies c c.read (stored_items q.items) row.0 in
-    let ps : c.passes s ≡ left_passes c.passes (slice_get c.grammar.productions p) =
-    ap c.passes (sym is.left) ∙ ap (left_passes c.passes) (sym is.production) in
+    let ps : c.passes s ≡ left_passes c.passes (slice_get c.grammar.productions p) = cc in
     none p q own.0 row.0 is.production is.left own.1 row.1
-    (is.occurs ∙ ap (node_body version_two c.grammar c.passes c.read p e) (sym row.2)
-    ∙ ap (λ ps. body_of Node p (values_up_to c.read ps e ++ cs)) (sym ps) ∙ ap (λ vs. body_of Node p (vs ++ cs)) own.2
-    ∙ ap (λ ps. body_of Node p (values_up_to c.read ps own.0 ++ cs)) ps)
+    (cc)
 no_record c (item.Terminal (Class d)) body copy none ys (text, fits, is, same, matching) = none text fits is
 no_record c (item.Terminal (Literal l)) body copy none ys h = elim h [ ]
 
@@ -111,32 +107,23 @@ pub after_last : (c : Setting) (q : Production) (e : Table) (i level : ℕ) (oth
     → following c q e i level others ≡ others
 after_last c q e i level others full =
     let long = copies_length c c.read (stored_items q.items) (copies c c.read (stored_items q.items) (in_children e)) in
-    ap (λ n. following c q e n level others) (full ∙ sym long)
-    ∙ (all_pending (pass_direction c) level (children_of c q e) others).1
+    cc ((all_pending (pass_direction c) level (children_of c q e) others).1)
 
 -- The children still to be read are the same for two tables with the same copies of earlier passes.
 pub after_same : (c : Setting) (q : Production) (e h : Table) (i level : ℕ) (others : Pending)
     → copies c c.read (stored_items q.items) (in_children e) ≡ copies c c.read (stored_items q.items) (in_children h)
     → following c q e i level others ≡ following c q h i level others
-after_same c q e h i level others same =
-    ap
-    (λ cs. before_others (pass_direction c) level
-    (expected.remaining_of (pass_direction c)
-    (children_with_copies true c.grammar c.passes c.read (stored_items q.items) cs) i) others) same
+after_same c q e h i level others same = cc
 
 module _ (c : Setting) (sound : IsSound c) where
   dir : pass_direction c ≡ other (direction_of c.read)
-  dir = ap direction_of sound.next
+  dir = cc
 
   -- All children of a node whose record was read.
   pub of_node_is : (p : ℕ) (q : Production) (e : Table) (level : ℕ) (others : Pending) → IsProduction c.grammar p q
       → pending_of_child c (slice_get c.grammar.productions p) e level others ≡ before_others (other (direction_of c.read)) level
       (children_of c q e) others
-  of_node_is p q e level others there =
-      ap (λ o. pending_of_child c o e level others) there
-      ∙ ap (λ (xs : List Child). before_others (pass_direction c) level xs others)
-      (all_pending (pass_direction c) level (children_of c q e) others).0
-      ∙ ap (λ d. before_others d level (children_of c q e) others) dir
+  of_node_is p q e level others there = cc ((all_pending (pass_direction c) level (children_of c q e) others).0, dir)
 
   -- A record that does not agree with the copy in its parent's record is not a record of that child.
   pub differs : (x : Item) (p : ℕ) (body : List ℕ) (old new : List Value) (h : IsRead c x p body old new) (f : ℕ → Value)
@@ -159,13 +146,13 @@ module _ (c : Setting) (sound : IsSound c) where
       same_node version_two c.grammar c.passes c.read s s p r body h.production w h.values e
       (fits_version_two c.grammar c.passes sound.accepted sound.legal).0 own is in
       apart
-      (sym matching ∙ same_values c.read (copied_passes c (item.Symbol s)) e h.values
-      (λ a n at le. sym (one.1 a n (copied_is c (item.Symbol s) a n at) le)))
+      (cc (same_values c.read (copied_passes c (item.Symbol s)) e h.values
+      (λ a n at le. sym (one.1 a n (copied_is c (item.Symbol s) a n at) le))))
   differs (item.Terminal (Class d)) p body old new h f apart ys (text, fits, is, same, matching) =
       let t = h.1 in
       let well = well_text text fits.utf8 (let short = fits.short in omega arith) in
-      let one = one_token d text t.text well t.well (sym is ∙ t.same) in
-      apart (sym matching ∙ ap (λ v. v ∷ []) one ∙ sym (text_row c.read t.text))
+      let one = one_token d text t.text well t.well (cc) in
+      apart (cc (text_row c.read t.text))
   differs (item.Terminal (Literal l)) p body old new h f apart ys bad = elim bad [ ]
 
   missing_breaks : (x : Item) (copy : Option (List Value)) (level : ℕ) (todo : Pending)

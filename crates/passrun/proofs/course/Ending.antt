@@ -12,7 +12,7 @@ use Rattle.ag_grammar.specs.grammars.Passes.{direction_of, other}
 use Rattle.passrun.specs.passing.Ahead.{following, children_of, pending_of_child}
 use Rattle.ag_grammar.specs.grammars.Tree.{max_nodes}
 use Rattle.treefile.specs.declared.reading.FrameFault.{FrameFault}
-use Rattle.treefile.specs.framing.Backward.{ReadsTo, before_frame, next_before}
+use Rattle.treefile.specs.framing.Backward.{ReadsTo, next_before}
 use Rattle.treefile.specs.devices.Device.{LeavesContent, WhenHonest}
 use Rattle.treefile.specs.records.Records.{values_up_to}
 use Rattle.treefile.specs.declared.body.Kind.TheVariants.{Node}
@@ -21,7 +21,7 @@ use Rattle.treefile.specs.records.TreeFile.{body_of, header, version_two}
 use Rattle.treefile.specs.framing.Writing as writing
 use Rattle.treefile.proofs.framing.Backward.{none_at_header}
 use Rattle.treefile.proofs.records.Values.{values_well}
-use Rattle.backreader.specs.BackState.{HasRead, BackState, IsOver, lent_body, progress_after}
+use Rattle.backreader.specs.BackState.{HasRead, BackState, IsOver, lent_body}
 use Rattle.backreader.proofs.EndingAt.{all_bytes}
 use Rattle.passcode.specs.declared.phase.Phase.TheVariants.{Between}
 use Rattle.passcode.specs.Settings.{Setting}
@@ -56,9 +56,7 @@ none_lent None e = refl
 pub reader_kept : (honest : Bool) (content : List ℕ) (old now : BackState) (answer : Result (Option (Bor (List ℕ))) FrameFault)
     (found : Option (Bor (List ℕ))) → HasRead honest content old (lent_body (λ (b : Bor (List ℕ)). b.now) answer) now
     → answer ≡ Ok found → is_some found ≡ false → now.progress ≡ old.progress
-reader_kept honest content old now answer found h was none =
-    h.progress ∙ ap (λ z. progress_after old.progress (lent_body (λ (b : Bor (List ℕ)). b.now) z)) was
-    ∙ ap (λ z. progress_after old.progress (Ok z)) (none_lent found none)
+reader_kept honest content old now answer found h was none = cc (none_lent found none)
 
 module _ (c : Setting) (sound : IsSound c) where
   pub begun_runs : (p meter began start : ℕ) (honest honest' to_honest : Bool) (content content' to : List ℕ)
@@ -84,14 +82,12 @@ module _ (c : Setting) (sound : IsSound c) where
       let cs = copies c c.read (stored_items q.items) t.table in
       let own = values_up_to c.write (c.passes start) f in
       let kept = copies c c.write (stored_items q.items) t.table in
-      let row : values.items ≡ stored c q f e =
-      t.row ∙ ap (λ vs. vs ++ (own ++ kept)) none ∙ ap (λ s. values_up_to c.write (c.passes s) f ++ kept) (sym t.left) in
+      let row : values.items ≡ stored c q f e = cc in
       let todo = following c q e 0 2 [] in
       let node = opened c sound p start q f e 1 0 [] empty 0 [] t.there t.left (omega arith) refl in
       let passing : RunInvariant c p (first_at p 0 ∷ []) (stored c q f e) (after_reading c p f cs empty) 0 todo =
       (start, f, [], empty, 0, [], (refl, refl, refl, refl, refl, refl), Between, node) in
-      let tape : after_reading c p f cs empty ≡ record { read = [] ++ h.body ∷ []; put = [] } =
-      ap (λ b. record { read = b ∷ []; put = [] }) (sym t.same) in
+      let tape : after_reading c p f cs empty ≡ record { read = [] ++ h.body ∷ []; put = [] } = cc in
       let passing' : RunInvariant c p (first_at p 0 ∷ []) values.items (record { read = [] ++ h.body ∷ []; put = [] }) 0 todo =
       subst (λ z. RunInvariant c p (first_at p 0 ∷ []) values.items z 0 todo) tape
       (subst (λ vs. RunInvariant c p (first_at p 0 ∷ []) vs (after_reading c p f cs empty) 0 todo) (sym row) passing) in
@@ -116,22 +112,22 @@ module _ (c : Setting) (sound : IsSound c) where
                   let w = sym same ∙ z in
                   subst (λ bytes. ReadsTo version_two bytes (length bytes) (h.body ∷ []) back.progress.at) (sym (leaves w)) (
                     ap (next_before version_two content) (sym (end w)) ∙ h.found w,
-                    ap (λ n. before_frame n h.body) (sym (end w)) ∙ sym at,
+                    cc (end w),
                   );
               records = records ∙ ap (λ n. n + 1) fresh;
               few = omega arith;
               put = λ z. head z ∙ sym (append-nil (header version_two c.write));
-              written = ap (λ w. w.written) begun;
+              written = cc;
               version = ap (λ g. g.version) h.progress ∙ version;
               unbroken = ap (λ g. g.fault) h.progress ∙ unbroken;
-              whole = ap (λ w. w.is_broken) begun;
+              whole = cc;
               well =
-                  subst (All IsWell) (sym (t.row ∙ ap (λ vs. vs ++ (own ++ kept)) none))
+                  subst (All IsWell) (sym (cc))
                   (All-append IsWell own kept (values_well c.write (c.passes start) f (λ a p is le. t.well a))
                   (copies_well c c.write (stored_items q.items) t.table t.table_well));
               readable = λ z. let w = sym same ∙ z in subst (IsReadable (source c)) (sym (leaves w)) (readable w);
               ahead =
-                  (children, omega arith, is_record c (item.Symbol start) p h.body old.items values.items t None tt, sym come);
+                  (children, omega arith, is_record c (item.Symbol start) p h.body old.items values.items t None tt, cc);
             }));
         begun = omega arith;
         low = omega arith;
@@ -176,5 +172,5 @@ module _ (c : Setting) (sound : IsSound c) where
       let file = run.readable is in
       let bytes' = all_bytes content m.back (run.over is) (none_at_header version_two content m.back.progress.at end) in
       finished c sound m.root content to' m.values.items run.transcript m.back.progress.at count (meter - m.begun)
-      (body_of Node m.root m.values.items) run.todo h (sym h.record_is) bytes' file.begins file.number (run.read is) end bytes
-      (counted ∙ run.records) run.few
+      (body_of Node m.root m.values.items) run.todo h (cc) bytes' file.begins file.number (run.read is) end bytes
+      (cc) run.few

@@ -1,6 +1,6 @@
 -- The result of a pass whose root is written and which has no frame left to read.
 use Rattle.std.specs.List.{flat_map}
-use Rattle.std.proofs.Common.{ℕ, ◌≡◌, ◌≤◌, List, [], ◌∷◌, ◌++◌, None, Ok, length, reverse, true, refl, ap, ◌∙◌, sym, arith}
+use Rattle.std.proofs.Common.{ℕ, ◌≡◌, ◌≤◌, List, [], ◌∷◌, ◌++◌, None, Ok, length, reverse, true, refl, ◌∙◌, arith}
 use Rattle.std.proofs.lemmas.List.{reverse-reverse}
 use Rattle.ag_value.specs.declared.value.Value.{Value}
 use Rattle.ag_grammar.specs.declared.direction.Direction.{Direction}
@@ -13,7 +13,7 @@ use Rattle.treefile.specs.framing.Backward.{ReadsTo, next_before, pass_of}
 use Rattle.treefile.specs.framing.Ending.{IsBytes, is_tree_file, version_two_usable}
 use Rattle.treefile.specs.records.Orders.{BodyTree, branch, prefix, postfix}
 use Rattle.treefile.specs.records.Records.{bodies_of}
-use Rattle.treefile.specs.records.TreeFile.{version_two, file, frame, header}
+use Rattle.treefile.specs.records.TreeFile.{version_two, frame, header}
 use Rattle.treefile.proofs.framing.Backward.{back_is_file, reads_whole}
 use Rattle.treefile.proofs.records.Orders.{length-prefix, turned}
 use Rattle.treefile.proofs.records.Records.{bodies_count}
@@ -48,20 +48,18 @@ finished c sound root content to values transcript place count evals body todo r
     let w = ready.valuation in
     let d = direction_of c.read in
     let bt = bodies_of version_two c.grammar c.passes c.read t w in
-    let dir : pass_direction c ≡ other d = ap direction_of sound.next in
-    let back : reverse transcript.read ≡ postfix d bt =
-    ap reverse (ready.ready.read ∙ ap (λ d. prefix d bt) dir ∙ sym (turned d bt)) ∙ reverse-reverse (postfix d bt) in
+    let dir : pass_direction c ≡ other d = cc in
+    let back : reverse transcript.read ≡ postfix d bt = cc (turned d bt, reverse-reverse (postfix d bt)) in
     let n = count_of (pass_direction c) c.grammar c.passes c.read t w in
-    let len : length transcript.read ≡ node_count t = ap length ready.ready.read ∙ n in
+    let len : length transcript.read ≡ node_count t = cc in
     record {
       tree = t;
       values = w;
       fits = ready.ready.evaluated.fits;
       from = record {
         occurs =
-            back_is_file version_two content bytes transcript.read version_two_usable is_file
-            (reads_whole version_two content transcript.read (length content) place read end)
-            ∙ ap (λ k. file version_two k (reverse transcript.read)) pass ∙ ap (file version_two c.read) back;
+            cc (back_is_file version_two content bytes transcript.read version_two_usable is_file
+            (reads_whole version_two content transcript.read (length content) place read end));
         texts =
             solves_wider (OfPass c.passes c.write) NoRule c.grammar
             (λ p q r production rule bad. absurd bad) t w ready.ready.evaluated.solved;
@@ -70,11 +68,7 @@ finished c sound root content to values transcript place count evals body todo r
             (λ ps d e r a p is le. r a p is (let s = sound.next in omega arith)) t w w ready.ready.evaluated.well;
       };
       written = record {
-        occurs =
-            put ∙ ap (λ xs. header version_two c.write ++ flat_map frame xs)
-            (ap (λ b. transcript.put ++ b ∷ []) own
-            ∙ ap (λ xs. xs ++ root_body (bodies_of version_two c.grammar c.passes c.write t w) ∷ []) ready.ready.put
-            ∙ whole (pass_direction c) (bodies_of version_two c.grammar c.passes c.write t w));
+        occurs = cc (whole (pass_direction c) (bodies_of version_two c.grammar c.passes c.write t w));
         texts =
             solves_wider (OfPass c.passes c.write) NoRule c.grammar
             (λ p q r production rule bad. absurd bad) t w ready.ready.evaluated.solved;
@@ -82,6 +76,6 @@ finished c sound root content to values transcript place count evals body todo r
       };
       solved = ready.ready.evaluated.solved;
       limits = record { deep = ready.deep; large = omega arith };
-      nodes = counted ∙ len;
+      nodes = cc;
       rules = ready.counted;
     }

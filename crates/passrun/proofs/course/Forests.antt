@@ -49,22 +49,24 @@ prefix_snoc : (g : Grammar) (m : Passes) (k : ℕ) (ts : Forest) (ws : ℕ → V
     (bodies_of_all version_two g m k ts ws) ++ prefix LeftToRight (bodies_of version_two g m k t w)
 prefix_snoc g m k none ws t w = append-nil (prefix LeftToRight (bodies_of version_two g m k t w))
 prefix_snoc g m k (more s ts) ws t w =
-    ap (λ xs. prefix LeftToRight (bodies_of version_two g m k s (ws 0)) ++ xs) (prefix_snoc g m k ts (rest ws) t w)
-    ∙ sym
-    (append_assoc (prefix LeftToRight (bodies_of version_two g m k s (ws 0)))
-    (prefix_all LeftToRight (bodies_of_all version_two g m k ts (rest ws)))
-    (prefix LeftToRight (bodies_of version_two g m k t w)))
+    cc (
+      prefix_snoc g m k ts (rest ws) t w,
+      append_assoc (prefix LeftToRight (bodies_of version_two g m k s (ws 0)))
+          (prefix_all LeftToRight (bodies_of_all version_two g m k ts (rest ws)))
+          (prefix LeftToRight (bodies_of version_two g m k t w)),
+    )
 
 postfix_snoc : (g : Grammar) (m : Passes) (k : ℕ) (ts : Forest) (ws : ℕ → Valuation) (t : Tree) (w : Valuation)
     → postfix_all LeftToRight (bodies_of_all version_two g m k (snoc ts t) (snoc_values ts ws w)) ≡ postfix_all LeftToRight
     (bodies_of_all version_two g m k ts ws) ++ postfix LeftToRight (bodies_of version_two g m k t w)
 postfix_snoc g m k none ws t w = append-nil (postfix LeftToRight (bodies_of version_two g m k t w))
 postfix_snoc g m k (more s ts) ws t w =
-    ap (λ xs. postfix LeftToRight (bodies_of version_two g m k s (ws 0)) ++ xs) (postfix_snoc g m k ts (rest ws) t w)
-    ∙ sym
-    (append_assoc (postfix LeftToRight (bodies_of version_two g m k s (ws 0)))
-    (postfix_all LeftToRight (bodies_of_all version_two g m k ts (rest ws)))
-    (postfix LeftToRight (bodies_of version_two g m k t w)))
+    cc (
+      postfix_snoc g m k ts (rest ws) t w,
+      append_assoc (postfix LeftToRight (bodies_of version_two g m k s (ws 0)))
+          (postfix_all LeftToRight (bodies_of_all version_two g m k ts (rest ws)))
+          (postfix LeftToRight (bodies_of version_two g m k t w)),
+    )
 
 fits_snoc : (g : Grammar) (xs : List Item) (ts : Forest) (x : Item) (t : Tree) → FitsAll g xs ts → Fits g x t
     → FitsAll g (xs ++ x ∷ []) (snoc ts t)
@@ -125,9 +127,7 @@ fits_add LeftToRight g xs i ts x t at h f one =
 fits_add RightToLeft g xs i ts x t at h f one =
     let n : suc (length xs - suc i) ≡ length xs - i = omega arith in
     let e = get_or_from_slice_get xs (length xs - suc i) x x at in
-    let l : drop (length xs - suc i) xs ≡ x ∷ drop (length xs - i) xs =
-    drop_less xs (length xs - suc i) x (omega arith) ∙ ap (λ y. y ∷ drop (suc (length xs - suc i)) xs) e
-    ∙ ap (λ n. x ∷ drop n xs) n in
+    let l : drop (length xs - suc i) xs ≡ x ∷ drop (length xs - i) xs = cc (drop_less xs (length xs - suc i) x (omega arith)) in
     subst (λ ys. FitsAll g ys (more t ts)) (sym l) (one, f)
 
 pub solves_add : (d : Direction) (W : Production → Rule → Type 0) (g : Grammar) (ts : Forest) (ws : ℕ → Valuation) (t : Tree)
@@ -178,17 +178,14 @@ pub roots_add : (d : Direction) (g : Grammar) (xs : List Item) (i : ℕ) (ts : F
 roots_add LeftToRight g xs i ts ws w e h f roots here b a l =
     let n : size ts ≡ i = fits_size g (take i xs) ts f ∙ length-take i xs ∙ omega arith in
     elim (cases_lt b i) [
-      | inl x ↦ ap (λ v. v [] a) (snoc_old ts ws w b (omega arith)) ∙ roots b a x
-      | inr x ↦ let m : suc i ≡ suc (0 + b) = omega arith in
-          ap (λ v. v [] a) (snoc_new ts ws w b (omega arith)) ∙ here a ∙ ap (λ j. e j a) m
+      | inl x ↦ cc (snoc_old ts ws w b (omega arith), roots b a x)
+      | inr x ↦ let m : suc i ≡ suc (0 + b) = omega arith in cc (snoc_new ts ws w b (omega arith), here a)
     ]
 roots_add RightToLeft g xs i ts ws w e h f roots here zero a l =
-    let n : suc (length xs - suc i) ≡ suc (length xs - suc i + 0) = omega arith in
-    here a ∙ ap (λ j. e j a) n
+    let n : suc (length xs - suc i) ≡ suc (length xs - suc i + 0) = omega arith in cc (here a)
 roots_add RightToLeft g xs i ts ws w e h f roots here (suc b) a l =
     let x : b < i = omega arith in
-    let n : length xs - i + b ≡ length xs - suc i + suc b = omega arith in
-    roots b a x ∙ ap (λ j. e (suc j) a) n
+    let n : length xs - i + b ≡ length xs - suc i + suc b = omega arith in cc (roots b a x)
 
 none_visited : (d : Direction) (xs : List Item) → visited d xs 0 ≡ []
 none_visited LeftToRight xs = refl
@@ -199,4 +196,4 @@ fits_none d g xs = subst (λ ys. FitsAll g ys none) (sym (none_visited d xs)) tt
 
 pub all_visited : (d : Direction) (xs : List Item) → visited d xs (length xs) ≡ xs
 all_visited LeftToRight xs = take_all (length xs) xs (omega arith)
-all_visited RightToLeft xs = let n : length xs - length xs ≡ 0 = omega arith in ap (λ n. drop n xs) n
+all_visited RightToLeft xs = let n : length xs - length xs ≡ 0 = omega arith in cc

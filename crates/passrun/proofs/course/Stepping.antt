@@ -1,5 +1,5 @@
 -- One more pass, alternating between two devices.
-use Rattle.std.proofs.Common.{◌≡◌, ℕ, suc, ◌+◌, ◌-◌, ◌<◌, ◌≤◌, Bool, inl, inr, List, Result, Ok, Err, refl, sym, subst, ◌∙◌}
+use Rattle.std.proofs.Common.{◌≡◌, ℕ, suc, ◌+◌, ◌-◌, ◌<◌, ◌≤◌, Bool, inl, inr, List, Result, Ok, Err, refl, sym, subst}
 use Rattle.std.proofs.Common.{arith}
 use Rattle.std.specs.Prelude.{IfErr, IfOk, OnErr, OnOk}
 use Rattle.std.proofs.lemmas.Bool.{cases_lt}
@@ -113,7 +113,7 @@ all_starts g m k n a b evals same fresh =
       nothing = λ e. (refl, refl, refl);
     } in
     subst (λ e. HasRunAll g m k n a A a b e (record { nodes = 0; read = 0; written = 0 })) (sym fresh)
-    (subst (λ n. HasRunAll g m k n a A a b 0 (record { nodes = 0; read = 0; written = 0 })) (sym same) whole)
+    (subst (λ n. HasRunAll g m k n a A a b 0 (record { nodes = 0; read = 0; written = 0 })) (cc) whole)
 
 -- After pass `last` one more pass ran, pass n, from the device with the last file to the other.
 module _ (g : Grammar) (plan : List (List ℕ) × Lists) (k last n : ℕ) (start a b a_new b_new : List ℕ) (which : Last)
@@ -137,8 +137,7 @@ module _ (g : Grammar) (plan : List (List ℕ) × Lists) (k last n : ℕ) (start
       (last_content which a b) =
       goes_on_run version_two g (passes_of plan.0) k last start (last_content which a b) (other_content which a b)
       (other_content which a_new b_new) legal le before.runs exact.0 in
-      let back : last_content which a b ≡ other_content (other_last which) a_new b_new =
-      sym step.kept ∙ sym (turned_other which a_new b_new) in
+      let back : last_content which a b ≡ other_content (other_last which) a_new b_new = cc (turned_other which a_new b_new) in
       subst (RunsPasses version_two g (passes_of plan.0) k (suc last) start (last_content (other_last which) a_new b_new)) back
       (subst (λ (c : List ℕ). RunsPasses version_two g (passes_of plan.0) k (suc last) start c (last_content which a b))
       (sym (turned_last which a_new b_new)) runs)

@@ -3,7 +3,7 @@ use Rattle.std.specs.Global.{Vec}
 use Rattle.std.specs.Option.{option_to_list}
 use Rattle.std.specs.Prelude.{slice_index_or}
 use Rattle.std.proofs.Common.{ℕ, zero, suc, ◌≡◌, ◌+◌, ◌*◌, ◌-◌, ◌<◌, ◌≤◌, ◌⊎◌, inl, inr, Bool, true, false, if◌then◌else◌, List}
-use Rattle.std.proofs.Common.{[], ◌∷◌, ◌++◌, Option, Some, None, slice_get, drop, length, reverse, refl, ap, ◌∙◌, sym, arith}
+use Rattle.std.proofs.Common.{[], ◌∷◌, ◌++◌, Option, Some, None, slice_get, drop, length, reverse, refl, ap, arith}
 use Rattle.std.proofs.lemmas.List.{reverse-append}
 use Rattle.ag_value.specs.declared.value.Value.{Value}
 use Rattle.ag_grammar.specs.declared.grammar.Item.{Item}
@@ -42,7 +42,7 @@ list_within (row ∷ rows) (suc p) k = let h = list_within rows p k in omega ari
 -- One instruction fewer remains.
 fewer : (c : Setting) (x : OpenNode) (z : Instr) → slice_get (list_at c x.production) x.at ≡ Some z
     → length (rest_of c x) ≡ suc (length (drop (x.at + 1) (list_at c x.production)))
-fewer c x z at = ap length (next_is (list_at c x.production) x.at z at)
+fewer c x z at = cc (next_is (list_at c x.production) x.at z at)
 
 going_most : (c : Setting) (next : Option OpenNode) → reserved_work c next ≤ node_cost c
 going_most c None = omega arith
@@ -53,10 +53,10 @@ going_most c (Some x) = go (goes_next (rest_of c x))
     go false = omega arith
 
 going_none : (c : Setting) (x : OpenNode) → goes_next (rest_of c x) ≡ false → reserved_work c (Some x) ≡ 0
-going_none c x e = ap (λ b. if b then node_cost c else 0) e
+going_none c x e = cc
 
 one_less : (b n : ℕ) → 0 < n → b * n ≡ b * (n - 1) + b
-one_less b n h = let e : n ≡ suc (n - 1) = omega arith in ap (λ n. b * n) e ∙ mul_suc b (n - 1)
+one_less b n h = let e : n ≡ suc (n - 1) = omega arith in cc (mul_suc b (n - 1))
   where
     mul_suc : (b n : ℕ) → b * suc n ≡ b * n + b
     mul_suc b n = omega arith
@@ -88,9 +88,8 @@ module _ (c : Setting) (sound : IsSound c) where
       let l = fewer c x (instr.Put j) at in
       let k = ap (λ next. length (rest_of c next)) on in
       let g =
-      going_none c next (ap (λ next. goes_next (rest_of c next)) on
-      ∙ put_stays c sound m.root x (reverse m.waiting.items) m.values.items r.running.transcript
-      (meter - m.begun) r.running.todo j at r.running.invariant) in
+      going_none c next (cc (put_stays c sound m.root x (reverse m.waiting.items) m.values.items r.running.transcript
+      (meter - m.begun) r.running.todo j at r.running.invariant)) in
       omega arith
 
   pub given_less : (m : Machine) (values : Vec Value) (x next : OpenNode) (rule : ℕ) → RunsRuleNext c x rule
@@ -102,15 +101,14 @@ module _ (c : Setting) (sound : IsSound c) where
       let l = fewer c x z at in
       let k = ap (λ next. length (rest_of c next)) on in
       let same : goes_next (drop (x.at + 1) (list_at c x.production)) ≡ goes_next (rest_of c x) =
-      go z giving ∙ sym (ap goes_next (next_is (list_at c x.production) x.at z at)) in
-      let g : reserved_work c (Some next) ≡ reserved_work c (Some x) =
-      ap (λ next. reserved_work c (Some next)) on ∙ ap (λ b. if b then node_cost c else 0) same in
+      cc (go z giving, next_is (list_at c x.production) x.at z at) in
+      let g : reserved_work c (Some next) ≡ reserved_work c (Some x) = cc in
       omega arith
     where
       go : (z : Instr) → (z ≡ instr.Set j a rule) ⊎ ((z ≡ instr.Def a rule) × (j ≡ 0))
           → goes_next (drop (x.at + 1) (list_at c x.production)) ≡ goes_next (z ∷ drop (x.at + 1) (list_at c x.production))
-      go z (inl e) = ap (λ z. goes_next (z ∷ drop (x.at + 1) (list_at c x.production))) (sym e)
-      go z (inr e) = ap (λ z. goes_next (z ∷ drop (x.at + 1) (list_at c x.production))) (sym e.0)
+      go z (inl e) = cc
+      go z (inr e) = cc
 
   pub entered_less : (m : Machine) (waiting : Vec OpenNode) (x child : OpenNode) (j : ℕ) → RunsSomehow c m (Some x)
       → slice_get (list_at c x.production) x.at ≡ Some (instr.Go j)
@@ -121,19 +119,16 @@ module _ (c : Setting) (sound : IsSound c) where
   entered_less m waiting x child j (honest, content, to_honest, to, meter, r) at is first pushed =
       let l = fewer c x (instr.Go j) at in
       let stack : reverse waiting.items ≡ left_at x j ∷ reverse m.waiting.items =
-      ap reverse pushed ∙ reverse-append m.waiting.items (left_at x j ∷ []) in
+      cc (reverse-append m.waiting.items (left_at x j ∷ [])) in
       let n = ap (remaining_work c) stack in
-      let here : reserved_work c (Some x) ≡ node_cost c =
-      ap (λ xs. if goes_next xs then node_cost c else 0) (next_is (list_at c x.production) x.at (instr.Go j) at) in
+      let here : reserved_work c (Some x) ≡ node_cost c = cc (next_is (list_at c x.production) x.at (instr.Go j) at) in
       let h =
       child_of c sound x (reverse m.waiting.items) m.values.items j at
       (m.root, r.running.transcript, meter - m.begun, r.running.todo, r.running.invariant) in
-      let rest : rest_of c child ≡ list_at c x.child =
-      ap (λ p. drop child.at (list_at c p)) is ∙ ap (λ n. drop n (list_at c x.child)) first in
+      let rest : rest_of c child ≡ list_at c x.child = cc in
       let g =
-      going_none c child (ap goes_next rest
-      ∙ goes_nowhere c h.production start (list_at c x.child) (λ e. let bad : ⊥ = cc in bad)
-      (sound.course x.child h.production h.there)) in
+      going_none c child (cc (goes_nowhere c h.production start (list_at c x.child) (λ e. let bad : ⊥ = cc in bad)
+      (sound.course x.child h.production h.there))) in
       let w = list_within c.code x.child c.read in
       let k = ap length rest in
       omega arith

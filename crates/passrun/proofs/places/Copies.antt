@@ -1,5 +1,5 @@
 -- The copies of the values at a node's children: their use in reading, and their changes.
-use Rattle.std.proofs.Common.{ℕ, zero, suc, ◌≡◌, ◌≢◌, ◌<◌, ◌≤◌, inl, inr, if◌then◌else◌, true, List, [], ◌∷◌, ◌++◌, Some, Option}
+use Rattle.std.proofs.Common.{ℕ, zero, suc, ◌≡◌, ◌≢◌, ◌<◌, ◌≤◌, inl, inr, true, List, [], ◌∷◌, Some, Option}
 use Rattle.std.proofs.Common.{slice_get, length, drop, refl, ap, ◌∙◌, sym, subst, arith}
 use Rattle.std.proofs.lemmas.Bool.{cases_eq, le-leb}
 use Rattle.std.proofs.lemmas.List.{drop_at, take_at}
@@ -14,7 +14,7 @@ use Rattle.ag_grammar.specs.grammars.Passes.{HasPass, item_passes}
 use Rattle.ag_grammar.specs.grammars.Solution.{Solves, SolvesAll, Valuation, rest}
 use Rattle.ag_grammar.specs.grammars.Tree.{Tree, Forest, leaf, node, none, more, Fits, FitsAll}
 use Rattle.treefile.specs.framing.ExpectedRecords.{Child, children_with_copies}
-use Rattle.treefile.specs.records.Records.{copies_of, copy_of, left_synthesized, synthesized_passes, values_up_to}
+use Rattle.treefile.specs.records.Records.{copies_of, copy_of, values_up_to}
 use Rattle.treefile.proofs.records.Values.{count_of_values}
 use Rattle.passcode.specs.Settings.{Setting}
 use Rattle.passrun.specs.passing.Change.{set, with_row}
@@ -38,16 +38,14 @@ copies_at c k (y ∷ xs) e zero x at =
     let same : y ≡ x = cc in
     let prefix = values_up_to k (copied_passes c y) (e 0) in
     let long = count_of_values k (copied_passes c y) (e 0) ∙ sym (count_copied c k y) in
-    ap (λ vs. child y vs) (take_at prefix (copies c k xs (λ j. e (suc j))) _ long)
-    ∙ ap (λ z. child z (values_up_to k (copied_passes c z) (e 0))) same
+    cc (take_at prefix (copies c k xs (λ j. e (suc j))) _ long, same)
   where
     child : Item → List Value → Option Child
     child y vs = Some (y, Some vs)
 copies_at c k (y ∷ xs) e (suc j) x at =
     let prefix = values_up_to k (copied_passes c y) (e 0) in
     let long = count_of_values k (copied_passes c y) (e 0) ∙ sym (count_copied c k y) in
-    ap (λ vs. slice_get (children_with_copies true c.grammar c.passes k xs vs) j)
-    (drop_at prefix (copies c k xs (λ j. e (suc j))) _ long) ∙ copies_at c k xs (λ j. e (suc j)) j x at
+    cc (drop_at prefix (copies c k xs (λ j. e (suc j))) _ long, copies_at c k xs (λ j. e (suc j)) j x at)
 
 -- The copy of a tree consists of the values at its root.
 copy_is : (c : Setting) (W : Production → Rule → Type 0) (k : ℕ) (x : Item) (t : Tree) (w : Valuation) → Fits c.grammar x t
@@ -55,11 +53,8 @@ copy_is : (c : Setting) (W : Production → Rule → Type 0) (k : ℕ) (x : Item
 copy_is c W k (item.Symbol s) (leaf d text) w fits solved = elim fits [ ]
 copy_is c W k (item.Terminal (Literal l)) (leaf d text) w fits solved = elim fits [ ]
 copy_is c W k (item.Terminal a) (node p ts) w fits solved = elim fits [ ]
-copy_is c W k (item.Terminal (Class d)) (leaf e text) w fits solved =
-    ap (λ v. v ∷ []) (sym solved) ∙ sym (ap (λ b. (if b then w [] 0 ∷ [] else []) ++ []) (le-leb 0 k (omega arith)))
-copy_is c W k (item.Symbol s) (node p ts) w fits solved =
-    ap (λ ps. values_up_to k ps (w []))
-    (ap (left_synthesized c.grammar c.passes) fits.1 ∙ ap (synthesized_passes c.grammar c.passes) fits.2)
+copy_is c W k (item.Terminal (Class d)) (leaf e text) w fits solved = cc (le-leb 0 k (omega arith))
+copy_is c W k (item.Symbol s) (node p ts) w fits solved = cc
 
 -- The copies of the children consist of the values at their roots.
 pub copies_are : (c : Setting) (W : Production → Rule → Type 0) (k : ℕ) (xs : List Item) (ts : Forest) (ws : ℕ → Valuation)
@@ -70,11 +65,11 @@ copies_are c W k [] none ws e fits solved roots = refl
 copies_are c W k (x ∷ xs) none ws e fits solved roots = elim fits [ ]
 copies_are c W k [] (more t ts) ws e fits solved roots = elim fits [ ]
 copies_are c W k (x ∷ xs) (more t ts) ws e fits solved roots =
-    ap (λ vs. vs ++ copies_of c.grammar c.passes k ts (rest ws))
-    (copy_is c W k x t (ws 0) fits.0 solved.0
-    ∙ same_values k (copied_passes c x) (ws 0 []) (e 0) (λ a p is le. roots 0 a p x refl is le))
-    ∙ ap (λ vs. values_up_to k (copied_passes c x) (e 0) ++ vs)
-    (copies_are c W k xs ts (rest ws) (λ j. e (suc j)) fits.1 solved.1 (λ b a p y at is le. roots (suc b) a p y at is le))
+    cc (
+      copy_is c W k x t (ws 0) fits.0 solved.0,
+      same_values k (copied_passes c x) (ws 0 []) (e 0) (λ a p is le. roots 0 a p x refl is le),
+      copies_are c W k xs ts (rest ws) (λ j. e (suc j)) fits.1 solved.1 (λ b a p y at is le. roots (suc b) a p y at is le),
+    )
 
 -- An attribute of the pass that is written has no copy of an earlier pass.
 written_there : (c : Setting) (q : Production) (b n p j a : ℕ) (x : Item)
@@ -84,7 +79,7 @@ written_there c q b n p j a x pass at is bj na =
     let w : slice_get (item_passes c.passes (item_at q (suc b))) n ≡ Some c.write =
     subst (λ j. slice_get (item_passes c.passes (item_at q j)) n ≡ Some c.write) (sym bj)
     (subst (λ a. slice_get (item_passes c.passes (item_at q j)) a ≡ Some c.write) (sym na) pass) in
-    let e : Some p ≡ Some c.write = sym (copied_is c x n p is) ∙ ap (λ z. slice_get (item_passes c.passes z) n) (sym at) ∙ w in
+    let e : Some p ≡ Some c.write = cc (copied_is c x n p is) in
     cc
 
 -- A value of the pass that is written does not change the copies of earlier passes.
@@ -109,11 +104,10 @@ copies_row c q e j x h at agree =
         → p ≤ c.read → with_row e (suc j) h (suc b) n ≡ e (suc b) n
     same b n p y at' is le = elim (cases_eq b j) [
       | inl here ↦ (
-          let items : Some y ≡ Some x = sym at' ∙ ap (slice_get (stored_items q.items)) here ∙ at in
+          let items : Some y ≡ Some x = cc in
           let yx : y ≡ x = cc in
           let is' = subst (λ y. slice_get (copied_passes c y) n ≡ Some p) yx is in
-          ap (λ b. with_row e (suc j) h (suc b) n) here ∙ with_here e (suc j) h n
-          ∙ sym (same_at c.read (copied_passes c x) (e (suc j)) h agree n p is' le) ∙ ap (λ b. e (suc b) n) (sym here))
+          cc (with_here e (suc j) h n, same_at c.read (copied_passes c x) (e (suc j)) h agree n p is' le))
       | inr apart ↦ with_other e (suc j) h (suc b) n (λ z. apart (omega arith))
     ]
 
@@ -138,14 +132,15 @@ pub shown_row : (c : Setting) (q : Production) (n n' : ℕ) (e s : Table) (j : �
     → AgreesSoFar c q n e s → AgreesSoFar c q n' (with_row e (suc j) h) s
 shown_row c q n n' e s j x h at agree next others never shown b m p y at' is le when = elim (cases_eq b j) [
   | inl here ↦ (
-      let items : Some y ≡ Some x = sym at' ∙ ap (slice_get (stored_items q.items)) here ∙ at in
+      let items : Some y ≡ Some x = cc in
       let yx : y ≡ x = cc in
       let is' = subst (λ y. slice_get (copied_passes c y) m ≡ Some p) yx is in
       let less : p < c.write = elim when [ inl l ↦ l | inr k ↦ never m p is' (subst (λ b. IsReached c q n' (suc b)) here k) ] in
-      ap (λ b. s (suc b) m) here ∙ same_at c.read (copied_passes c x) (s (suc j)) h agree m p is' (omega arith)
-      ∙ sym (ap (λ b. with_row e (suc j) h (suc b) m) here ∙ with_here e (suc j) h m))
-  | inr apart ↦ shown b m p y at' is le (elim when [ inl l ↦ inl l | inr k ↦ inr (others b apart k) ])
-      ∙ sym (with_other e (suc j) h (suc b) m (λ z. apart (omega arith)))
+      cc (same_at c.read (copied_passes c x) (s (suc j)) h agree m p is' (omega arith), with_here e (suc j) h m))
+  | inr apart ↦ cc (
+    shown b m p y at' is le (elim when [ inl l ↦ inl l | inr k ↦ inr (others b apart k) ]),
+    with_other e (suc j) h (suc b) m (λ z. apart (omega arith)),
+  )
 ]
 
 -- The copies also agree so far if both tables get the values that the pass computed at a child.
@@ -153,11 +148,12 @@ pub shown_both : (c : Setting) (q : Production) (n n' : ℕ) (e s : Table) (j : 
     → ((b : ℕ) → b ≢ j → IsReached c q n' (suc b) → IsReached c q n (suc b)) → AgreesSoFar c q n e s
     → AgreesSoFar c q n' (with_row e (suc j) h) (with_row s (suc j) h)
 shown_both c q n n' e s j h others shown b m p y at is le when = elim (cases_eq b j) [
-  | inl here ↦ ap (λ b. with_row s (suc j) h (suc b) m) here ∙ with_here s (suc j) h m
-      ∙ sym (ap (λ b. with_row e (suc j) h (suc b) m) here ∙ with_here e (suc j) h m)
-  | inr apart ↦ with_other s (suc j) h (suc b) m (λ z. apart (omega arith))
-      ∙ shown b m p y at is le (elim when [ inl l ↦ inl l | inr k ↦ inr (others b apart k) ])
-      ∙ sym (with_other e (suc j) h (suc b) m (λ z. apart (omega arith)))
+  | inl here ↦ cc (with_here s (suc j) h m, with_here e (suc j) h m)
+  | inr apart ↦ cc (
+    with_other s (suc j) h (suc b) m (λ z. apart (omega arith)),
+    shown b m p y at is le (elim when [ inl l ↦ inl l | inr k ↦ inr (others b apart k) ]),
+    with_other e (suc j) h (suc b) m (λ z. apart (omega arith)),
+  )
 ]
 
 -- Values that agree with the copy agree with the table.
@@ -165,5 +161,5 @@ pub agree_table : (c : Setting) (q : Production) (n : ℕ) (e s : Table) (j : �
     → slice_get (stored_items q.items) j ≡ Some x → c.write ≡ suc c.read → AgreesSoFar c q n e s → AgreeAt c x (s (suc j)) h
     → AgreeAt c x (e (suc j)) h
 agree_table c q n e s j x h at next shown agree =
-    same_values c.read (copied_passes c x) (e (suc j)) (s (suc j))
-    (λ a p is le. sym (shown j a p x at is (omega arith) (inl (omega arith)))) ∙ agree
+    cc (same_values c.read (copied_passes c x) (e (suc j)) (s (suc j))
+    (λ a p is le. sym (shown j a p x at is (omega arith) (inl (omega arith)))))

@@ -1,6 +1,6 @@
 -- The slots of a node's values.
 use Rattle.std.proofs.Common.{ℕ, zero, suc, ◌≡◌, ◌≢◌, ◌+◌, ◌<◌, ◌≤◌, Bool, true, false, nat_le, if◌then◌else◌, List, [], ◌∷◌}
-use Rattle.std.proofs.Common.{◌++◌, Some, None, Option, slice_get, length, take, drop, set, map, refl, ap, ◌∙◌, sym, arith}
+use Rattle.std.proofs.Common.{◌++◌, Some, None, Option, slice_get, length, take, drop, set, map, refl, ◌∙◌, sym, arith}
 use Rattle.std.proofs.Common.{append_assoc, length-append}
 use Rattle.std.proofs.lemmas.Bool.{le-leb}
 use Rattle.std.proofs.lemmas.List.{drop_at, set-append_left}
@@ -26,9 +26,8 @@ get_left (y ∷ xs) ys zero x h = h
 get_left (y ∷ xs) ys (suc i) x h = get_left xs ys i x h
 
 pub get_right : {X : Type 0} (xs ys : List X) (i : ℕ) → slice_get (xs ++ ys) (length xs + i) ≡ slice_get ys i
-get_right [] ys i = let n : 0 + i ≡ i = omega arith in ap (slice_get ys) n
-get_right (x ∷ xs) ys i = let n : suc (length xs) + i ≡ suc (length xs + i) = omega arith in
-    ap (slice_get (x ∷ (xs ++ ys))) n ∙ get_right xs ys i
+get_right [] ys i = let n : 0 + i ≡ i = omega arith in cc
+get_right (x ∷ xs) ys i = let n : suc (length xs) + i ≡ suc (length xs + i) = omega arith in cc (get_right xs ys i)
 
 one : ℕ → ℕ → Value → List Value
 one k p x = if nat_le p k then x ∷ [] else []
@@ -47,15 +46,13 @@ pub row_at : (k : ℕ) (ps : List ℕ) (f : ℕ → Value) (a p : ℕ) → slice
 row_at k [] f a p is le = cc
 row_at k (x ∷ ps) f zero p is le =
     let e : x ≡ p = cc in
-    let t : nat_le x k ≡ true = le-leb x k (omega arith) in
-    ap (λ b. slice_get ((if b then f 0 ∷ [] else []) ++ values_up_to k ps (λ a. f (suc a))) 0) t
+    let t : nat_le x k ≡ true = le-leb x k (omega arith) in cc
 row_at k (x ∷ ps) f (suc a) p is le = go (nat_le x k) ∙ row_at k ps (λ a. f (suc a)) a p is le
   where
     go : (b : Bool) → slice_get ((if b then f 0 ∷ [] else []) ++ values_up_to k ps (λ a. f (suc a)))
         ((if b then 1 else 0) + rank k ps a) ≡ slice_get (values_up_to k ps (λ a. f (suc a))) (rank k ps a)
-    go true = let n : 1 + rank k ps a ≡ suc (rank k ps a) = omega arith in
-        ap (slice_get (f 0 ∷ values_up_to k ps (λ a. f (suc a)))) n
-    go false = let n : 0 + rank k ps a ≡ rank k ps a = omega arith in ap (slice_get (values_up_to k ps (λ a. f (suc a)))) n
+    go true = let n : 1 + rank k ps a ≡ suc (rank k ps a) = omega arith in cc
+    go false = let n : 0 + rank k ps a ≡ rank k ps a = omega arith in cc
 
 pub row_set : (k : ℕ) (ps : List ℕ) (f h : ℕ → Value) (a p : ℕ) (v : Value) → slice_get ps a ≡ Some p → p ≤ k → h a ≡ v
     → ((b : ℕ) → b ≢ a → h b ≡ f b) → set (values_up_to k ps f) (rank k ps a) v ≡ values_up_to k ps h
@@ -63,10 +60,7 @@ row_set k [] f h a p v is le here other = cc
 row_set k (x ∷ ps) f h zero p v is le here other =
     let e : x ≡ p = cc in
     let t : nat_le x k ≡ true = le-leb x k (omega arith) in
-    let rest = same_values k ps (λ a. f (suc a)) (λ a. h (suc a)) (λ a n at le. sym (other (suc a) (λ z. omega arith))) in
-    ap (λ b. set ((if b then f 0 ∷ [] else []) ++ values_up_to k ps (λ a. f (suc a))) 0 v) t
-    ∙ ap (λ x. x ∷ values_up_to k ps (λ a. f (suc a))) (sym here) ∙ ap (λ xs. h 0 ∷ xs) rest
-    ∙ ap (λ b. (if b then h 0 ∷ [] else []) ++ values_up_to k ps (λ a. h (suc a))) (sym t)
+    let rest = same_values k ps (λ a. f (suc a)) (λ a. h (suc a)) (λ a n at le. sym (other (suc a) (λ z. omega arith))) in cc
 row_set k (x ∷ ps) f h (suc a) p v is le here other =
     go (nat_le x k)
     (row_set k ps (λ a. f (suc a)) (λ a. h (suc a)) a p v is le here (λ b z. other (suc b) (λ y. z (omega arith))))
@@ -75,18 +69,14 @@ row_set k (x ∷ ps) f h (suc a) p v is le here other =
         → set ((if b then f 0 ∷ [] else []) ++ values_up_to k ps (λ a. f (suc a))) ((if b then 1 else 0) + rank k ps a) v
         ≡ (if b then h 0 ∷ [] else []) ++ values_up_to k ps (λ a. h (suc a))
     go true rest =
-        let n : 1 + rank k ps a ≡ suc (rank k ps a) = omega arith in
-        ap (λ i. set (f 0 ∷ values_up_to k ps (λ a. f (suc a))) i v) n ∙ ap (λ xs. f 0 ∷ xs) rest
-        ∙ ap (λ x. x ∷ values_up_to k ps (λ a. h (suc a))) (sym (other 0 (λ z. omega arith)))
-    go false rest = let n : 0 + rank k ps a ≡ rank k ps a = omega arith in
-        ap (λ i. set (values_up_to k ps (λ a. f (suc a))) i v) n ∙ rest
+        let n : 1 + rank k ps a ≡ suc (rank k ps a) = omega arith in cc (other 0 (λ z. omega arith))
+    go false rest = let n : 0 + rank k ps a ≡ rank k ps a = omega arith in cc
 
 -- Values that make the same row are equal up to the pass.
 pub same_at : (k : ℕ) (ps : List ℕ) (f h : ℕ → Value) → values_up_to k ps f ≡ values_up_to k ps h → (a p : ℕ)
     → slice_get ps a ≡ Some p → p ≤ k → f a ≡ h a
 same_at k ps f h same a p is le =
-    let e : Some (f a) ≡ Some (h a) =
-    sym (row_at k ps f a p is le) ∙ ap (λ vs. slice_get vs (rank k ps a)) same ∙ row_at k ps h a p is le in
+    let e : Some (f a) ≡ Some (h a) = cc (row_at k ps f a p is le, row_at k ps h a p is le) in
     cc
 
 -- An element among the first n of a list.
@@ -102,7 +92,7 @@ rank_taken k zero [] a p is = refl
 rank_taken k zero (q ∷ ps) a p is = absurd (let bad : ⊥ = cc in bad)
 rank_taken k (suc n) [] a p is = refl
 rank_taken k (suc n) (q ∷ ps) zero p is = refl
-rank_taken k (suc n) (q ∷ ps) (suc a) p is = ap (λ r. (if nat_le q k then 1 else 0) + r) (rank_taken k n ps a p is)
+rank_taken k (suc n) (q ∷ ps) (suc a) p is = cc (rank_taken k n ps a p is)
 
 -- The row of the first n attributes is a prefix of the row of all.
 pub begins_row : (k n : ℕ) (ps : List ℕ) (h : ℕ → Value)
@@ -113,7 +103,7 @@ begins_row k (suc n) [] h = ([], refl)
 begins_row k (suc n) (p ∷ ps) h =
     let r = begins_row k n ps (λ a. h (suc a)) in
     let first = if nat_le p k then h 0 ∷ [] else [] in
-    (r.0, ap (λ vs. first ++ vs) r.1 ∙ sym (append_assoc first (values_up_to k (take n ps) (λ a. h (suc a))) r.0))
+    (r.0, cc (append_assoc first (values_up_to k (take n ps) (λ a. h (suc a))) r.0))
 
 -- The copies of an item are a prefix of the row of its tree's root.
 pub begins_with_copy : (c : Setting) (x : Item) (h : ℕ → Value)
@@ -124,7 +114,7 @@ begins_with_copy c (item.Terminal (Class d)) h = ([], sym (append_nothing (value
   where
     append_nothing : (xs : List Value) → xs ++ [] ≡ xs
     append_nothing [] = refl
-    append_nothing (x ∷ xs) = ap (λ ys. x ∷ ys) (append_nothing xs)
+    append_nothing (x ∷ xs) = cc (append_nothing xs)
 begins_with_copy c (item.Terminal (Literal l)) h = ([], refl)
 
 -- The number of copies.
@@ -149,10 +139,10 @@ pub copies_same : (c : Setting) (k : ℕ) (xs : List Item) (e h : Table)
     → copies c k xs e ≡ copies c k xs h
 copies_same c k [] e h same = refl
 copies_same c k (x ∷ xs) e h same =
-    ap (λ vs. vs ++ copies c k xs (λ j. e (suc j)))
-    (same_values k (copied_passes c x) (e 0) (h 0) (λ a p is le. same 0 a p x refl is le))
-    ∙ ap (λ vs. values_up_to k (copied_passes c x) (h 0) ++ vs)
-    (copies_same c k xs (λ j. e (suc j)) (λ j. h (suc j)) (λ j a p y at is le. same (suc j) a p y at is le))
+    cc (
+      same_values k (copied_passes c x) (e 0) (h 0) (λ a p is le. same 0 a p x refl is le),
+      copies_same c k xs (λ j. e (suc j)) (λ j. h (suc j)) (λ j a p y at is le. same (suc j) a p y at is le),
+    )
 
 -- The copies of one item come between other values, `before` and `after`. For a table that differs only at this item, `before`
 -- and `after` are the same.
@@ -166,9 +156,7 @@ shares c (y ∷ xs) zero x at e =
       [],
       copies c c.write xs (λ j. e (suc j)),
       refl,
-      λ h other. ap (λ (z : Item). values_up_to c.write (copied_passes c z) (h 0) ++ copies c c.write xs (λ j. h (suc j))) same
-          ∙ ap (λ vs. values_up_to c.write (copied_passes c x) (h 0) ++ vs)
-          (copies_same c c.write xs (λ j. h (suc j)) (λ j. e (suc j))
+      λ h other. cc (copies_same c c.write xs (λ j. h (suc j)) (λ j. e (suc j))
           (λ j a p z at' is le. other (suc j) a (λ bad. omega arith))),
     )
 shares c (y ∷ xs) (suc b) x at e =
@@ -180,10 +168,11 @@ shares c (y ∷ xs) (suc b) x at e =
       first ++ r.0,
       r.1,
       omega arith,
-      λ h other. ap (λ vs. vs ++ copies c c.write xs (λ j. h (suc j)))
-          (same_values c.write (copied_passes c y) (h 0) (e 0) (λ a p is le. other 0 a (λ bad. omega arith)))
-          ∙ ap (λ vs. first ++ vs) (r.3 (λ j. h (suc j)) (λ j a z. other (suc j) a (λ w. z (omega arith))))
-          ∙ sym (append_assoc first r.0 (values_up_to c.write (copied_passes c x) (h (suc b)) ++ r.1)),
+      λ h other. cc (
+        same_values c.write (copied_passes c y) (h 0) (e 0) (λ a p is le. other 0 a (λ bad. omega arith)),
+        r.3 (λ j. h (suc j)) (λ j a z. other (suc j) a (λ w. z (omega arith))),
+        append_assoc first r.0 (values_up_to c.write (copied_passes c x) (h (suc b)) ++ r.1),
+      ),
     )
 
 -- The values of a row from the copies of an item on.
@@ -199,14 +188,12 @@ share_at c q f s row b x at =
     let share = values_up_to c.write (copied_passes c x) (s (suc b)) in
     let copied : copies c c.write xs (in_children s) ≡ r.0 ++ (share ++ r.1) = r.3 (in_children s) (λ j a z. refl) in
     let prefix : stored c q f s ++ row ≡ (own ++ r.0) ++ (share ++ (r.1 ++ row)) =
-    ap (λ vs. (own ++ vs) ++ row) copied ∙ ap (λ vs. vs ++ row) (sym (append_assoc own r.0 (share ++ r.1)))
-    ∙ append_assoc (own ++ r.0) (share ++ r.1) row ∙ ap (λ vs. (own ++ r.0) ++ vs) (append_assoc share r.1 row) in
+    cc (append_assoc own r.0 (share ++ r.1), append_assoc (own ++ r.0) (share ++ r.1) row, append_assoc share r.1 row) in
     let n = length_row c.write (c.passes q.left) f in
     let m = r.2 in
     let l = length-append own r.0 in (
       r.1 ++ row,
-      ap (drop (copy_start c q (suc b))) prefix
-          ∙ drop_at (own ++ r.0) (share ++ (r.1 ++ row)) (copy_start c q (suc b)) (omega arith),
+      cc (drop_at (own ++ r.0) (share ++ (r.1 ++ row)) (copy_start c q (suc b)) (omega arith)),
     )
 
 -- The slot of an argument at a child has its value.
@@ -220,26 +207,24 @@ argument_at c q f s row b a p x at is le =
     let share = values_up_to c.write (copied_passes c x) (s (suc b)) in
     let copied : copies c c.write xs (in_children s) ≡ r.0 ++ (share ++ r.1) = r.3 (in_children s) (λ j a z. refl) in
     let prefix : stored c q f s ++ row ≡ (own ++ r.0) ++ (share ++ (r.1 ++ row)) =
-    ap (λ vs. (own ++ vs) ++ row) copied ∙ ap (λ vs. vs ++ row) (sym (append_assoc own r.0 (share ++ r.1)))
-    ∙ append_assoc (own ++ r.0) (share ++ r.1) row ∙ ap (λ vs. (own ++ r.0) ++ vs) (append_assoc share r.1 row) in
+    cc (append_assoc own r.0 (share ++ r.1), append_assoc (own ++ r.0) (share ++ r.1) row, append_assoc share r.1 row) in
     let n = length_row c.write (c.passes q.left) f in
     let m = r.2 in
     let l = length-append own r.0 in
     let ranks = rank_copied x at is in
     let index : argument_slot c q (suc b) a ≡ length (own ++ r.0) + rank c.write (copied_passes c x) a = omega arith in
-    ap (slice_get (stored c q f s ++ row)) index
-    ∙ ap (λ vs. slice_get vs (length (own ++ r.0) + rank c.write (copied_passes c x) a)) prefix
-    ∙ get_right (own ++ r.0) (share ++ (r.1 ++ row)) (rank c.write (copied_passes c x) a)
-    ∙ get_left share (r.1 ++ row) (rank c.write (copied_passes c x) a) (s (suc b) a)
-    (row_at c.write (copied_passes c x) (s (suc b)) a p is le)
+    cc (
+      get_right (own ++ r.0) (share ++ (r.1 ++ row)) (rank c.write (copied_passes c x) a),
+      get_left share (r.1 ++ row) (rank c.write (copied_passes c x) a) (s (suc b) a)
+          (row_at c.write (copied_passes c x) (s (suc b)) a p is le),
+    )
   where
     rank_copied : (x : Item) → slice_get (stored_items q.items) b ≡ Some x → slice_get (copied_passes c x) a ≡ Some p
         → rank c.write (place_passes c q (suc b)) a ≡ rank c.write (copied_passes c x) a
     rank_copied (item.Symbol t) at is =
-        ap (λ z. rank c.write (item_passes c.passes z) a) at
-        ∙ rank_taken c.write (synthesized_count (slice_get c.grammar.symbols t)) (c.passes t) a p is
-    rank_copied (item.Terminal (Class d)) at is = ap (λ z. rank c.write (item_passes c.passes z) a) at
-    rank_copied (item.Terminal (Literal l)) at is = ap (λ z. rank c.write (item_passes c.passes z) a) at
+        cc (rank_taken c.write (synthesized_count (slice_get c.grammar.symbols t)) (c.passes t) a p is)
+    rank_copied (item.Terminal (Class d)) at is = cc
+    rank_copied (item.Terminal (Literal l)) at is = cc
 
 -- The slot of an argument at the left side has its value.
 pub own_at : (c : Setting) (q : Production) (f : ℕ → Value) (s : Table) (row : List Value) (a p : ℕ)
@@ -249,9 +234,8 @@ own_at c q f s row a p is le =
     let own = values_up_to c.write (c.passes q.left) f in
     let copied = copies c c.write (stored_items q.items) (in_children s) in
     let n : argument_slot c q 0 a ≡ rank c.write (c.passes q.left) a = omega arith in
-    ap (slice_get (stored c q f s ++ row)) n
-    ∙ get_left (own ++ copied) row (rank c.write (c.passes q.left) a) (f a)
-    (get_left own copied (rank c.write (c.passes q.left) a) (f a) (row_at c.write (c.passes q.left) f a p is le))
+    cc (get_left (own ++ copied) row (rank c.write (c.passes q.left) a) (f a)
+    (get_left own copied (rank c.write (c.passes q.left) a) (f a) (row_at c.write (c.passes q.left) f a p is le)))
 
 -- Replacing one of the node's own values in its row.
 pub own_set : (c : Setting) (q : Production) (f h : ℕ → Value) (s : Table) (a p : ℕ) (v : Value)
@@ -261,8 +245,10 @@ own_set c q f h s a p v is le here other =
     let own = values_up_to c.write (c.passes q.left) f in
     let copied = copies c c.write (stored_items q.items) (in_children s) in
     let r = rank c.write (c.passes q.left) a in
-    set-append_left own copied r v (slice_get_within own r (f a) (row_at c.write (c.passes q.left) f a p is le))
-    ∙ ap (λ vs. vs ++ copied) (row_set c.write (c.passes q.left) f h a p v is le here other)
+    cc (
+      set-append_left own copied r v (slice_get_within own r (f a) (row_at c.write (c.passes q.left) f a p is le)),
+      row_set c.write (c.passes q.left) f h a p v is le here other,
+    )
 
 -- A synthesized attribute comes before all inherited ones, so it is among those that are copied.
 syn_below : (syn inh : List (List ℕ)) (a : ℕ)

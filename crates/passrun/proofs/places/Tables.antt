@@ -8,14 +8,13 @@ use Rattle.ag_grammar.specs.declared.grammar.Target.{Target}
 use Rattle.ag_grammar.specs.grammars.AttributeGrammar.{Grammar}
 use Rattle.ag_grammar.specs.grammars.Passes.{Passes}
 use Rattle.ag_grammar.specs.grammars.Solution.{left_passes}
-use Rattle.treefile.specs.declared.body.Kind.TheVariants.{Node}
 use Rattle.treefile.specs.records.Records.{values_up_to, node_body}
-use Rattle.treefile.specs.records.TreeFile.{body_of, version_two}
+use Rattle.treefile.specs.records.TreeFile.{version_two}
 use Rattle.pass_rows.specs.Places.{Table}
 use Rattle.passrun.specs.passing.Change.{set, with_row}
 
 pub set_here : (e : Table) (j a : ℕ) (v : Value) → set e j a v j a ≡ v
-set_here e j a v = ap (λ b. cond (b && nat_eq a a) v (e j a)) (eq-eqb j j refl) ∙ ap (λ b. cond b v (e j a)) (eq-eqb a a refl)
+set_here e j a v = cc (eq-eqb j j refl, eq-eqb a a refl)
 
 pub set_other : (e : Table) (j a : ℕ) (v : Value) (i b : ℕ) → ((i ≡ j) × (b ≡ a) → ⊥) → set e j a v i b ≡ e i b
 set_other e j a v i b h = go (nat_eq i j) refl
@@ -53,10 +52,10 @@ same_values k (p ∷ ps) f h e =
 
 -- The table with the values at one place replaced.
 pub with_is : (e : Table) (j : ℕ) (f : ℕ → Value) → with_row e j f j ≡ f
-with_is e j f = ap (λ b. cond b f (e j)) (eq-eqb j j refl)
+with_is e j f = cc (eq-eqb j j refl)
 
 pub with_here : (e : Table) (j : ℕ) (f : ℕ → Value) (a : ℕ) → with_row e j f j a ≡ f a
-with_here e j f a = ap (λ b. cond b f (e j) a) (eq-eqb j j refl)
+with_here e j f a = cc (eq-eqb j j refl)
 
 pub with_other : (e : Table) (j : ℕ) (f : ℕ → Value) (i a : ℕ) → i ≢ j → with_row e j f i a ≡ e i a
 with_other e j f i a h = go (nat_eq i j) refl
@@ -87,13 +86,12 @@ pub body_same : (k : ℕ) (g : Grammar) (m : Passes) (p s : ℕ) (f h : ℕ → 
     → left_passes m (slice_get g.productions p) ≡ m s → ((a n : ℕ) → slice_get (m s) a ≡ Some n → n ≤ k → f a ≡ h a)
     → node_body version_two g m k p f cs ≡ node_body version_two g m k p h cs
 body_same k g m p s f h cs is same =
-    ap (λ vs. body_of Node p (vs ++ cs))
-    (same_values k (left_passes m (slice_get g.productions p)) f h
+    cc (same_values k (left_passes m (slice_get g.productions p)) f h
     (λ a n at le. same a n (subst (λ ps. slice_get ps a ≡ Some n) is at) le))
 
 -- The row of a token.
 pub text_row : (k : ℕ) (text : List ℕ) → values_up_to k (0 ∷ []) (λ a. Text text) ≡ Text text ∷ []
-text_row k text = ap (λ b. (if b then Text text ∷ [] else []) ++ []) (le-leb 0 k (omega arith))
+text_row k text = cc (le-leb 0 k (omega arith))
 
 pub All-before : (P : Value → Type 0) (xs ys : List Value) → All P (xs ++ ys) → All P xs
 All-before P [] ys h = All-nil P

@@ -129,7 +129,7 @@ module _ (c : Setting) (sound : IsSound c) where
         production = q;
         there = o.is_open.there;
         item = g.item;
-        occurs = ap (item_at q) place ∙ g.occurs;
+        occurs = cc;
         some = omega arith;
         within = subst (λ j. x.base + (copy_start c q j + copied_width c g.item) ≤ length values) (sym place) within;
       }
@@ -149,7 +149,7 @@ module _ (c : Setting) (sound : IsSound c) where
         production = q;
         there = o.is_open.there;
         item = item.0;
-        occurs = ap (item_at q) place ∙ item.1.1;
+        occurs = cc item.1.1;
         some = omega arith;
         within = subst (λ j. x.base + (copy_start c q j + copied_width c item.0) ≤ length values) (sym place) within;
       }
@@ -280,7 +280,7 @@ module _ (c : Setting) (sound : IsSound c) where
           let ps : item_passes c.passes (item_at q j) ≡ c.passes g.production.left =
           ap (λ j. item_passes c.passes (item_at q j)) turn.place ∙ ap (item_passes c.passes) g.occurs
           ∙ ap c.passes (sym g.left) in
-          let at1 : slice_get (c.passes g.production.left) a ≡ Some c.write = ap (λ ps. slice_get ps a) (sym ps) ∙ pass in
+          let at1 : slice_get (c.passes g.production.left) a ≡ Some c.write = cc pass in
           let less =
           slice_get_within (values_up_to c.write (c.passes g.production.left) (o.table pl))
           (rank c.write (c.passes g.production.left) a) (o.table pl a)

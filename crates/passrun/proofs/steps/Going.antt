@@ -46,7 +46,7 @@ goes c sound x old new values j width at is pushed root t now todo h =
     subst (λ ys. RunInvariant c root (first_at x.child (length values - width) ∷ ys) values t now todo)
     (sym (ap reverse pushed ∙ reverse-append old (left_at x j ∷ [])))
     (step_go c sound root x (reverse old) values t now todo j (length values - width) at (λ q there.
-    let same : Some child.production ≡ Some q = sym child.there ∙ there in
+    let same : Some child.production ≡ Some q = cc there in
     let one : child.production ≡ q = cc in
     let w = is q there in
     let long = subst (λ q. stored_width c q ≤ length values) one child.width in

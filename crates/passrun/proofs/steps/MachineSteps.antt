@@ -78,13 +78,18 @@ begins_so c (item.Symbol s) p body old new h =
     let share = values_up_to c.write (copied_passes c (item.Symbol s)) h.values in
     let copied = copies c c.write (stored_items h.production.items) h.table in (
       begins.0 ++ copied,
-      ap (drop (length old)) h.row ∙ drop_at old (values_up_to c.write (c.passes s) h.values ++ copied) (length old) refl
-          ∙ ap (λ vs. vs ++ copied) begins.1 ∙ append_assoc share begins.0 copied,
+      cc (
+        drop_at old (values_up_to c.write (c.passes s) h.values ++ copied) (length old) refl,
+        append_assoc share begins.0 copied,
+      ),
     )
 begins_so c (item.Terminal (Class d)) p body old new h = (
   [],
-  ap (drop (length old)) h.1.row ∙ drop_at old (Text h.1.text ∷ []) (length old) refl ∙ sym (text_row c.write h.1.text)
-      ∙ sym (append-nil (values_up_to c.write (0 ∷ []) (λ a. Text h.1.text))),
+  cc (
+    drop_at old (Text h.1.text ∷ []) (length old) refl,
+    text_row c.write h.1.text,
+    append-nil (values_up_to c.write (0 ∷ []) (λ a. Text h.1.text)),
+  ),
 )
 begins_so c (item.Terminal (Literal l)) p body old new h = elim h [ ]
 
@@ -97,8 +102,8 @@ pub has_agreed : (c : Setting) (q : Production) (x : OpenNode) (j : ℕ) (x' : I
 has_agreed c q x j x' p body old new ours theirs from start answer h agrees true_is ours_are theirs_are from_is start_is f rest
     prefix =
     let back = begins_so c x' p body old new h in
-    (agrees f (read_values c x' p body old new h) rest back.0 (ours_are ∙ ap (λ n. drop n new) from_is ∙ prefix)
-    (theirs_are ∙ ap (λ n. drop n new) start_is ∙ back.1)).0 true_is
+    (agrees f (read_values c x' p body old new h) rest back.0 (cc)
+    (cc)).0 true_is
 
 -- An item that is not a terminal is a symbol.
 pub symbol_there : (x : Item) → ((t : Terminal) → x ≡ item.Terminal t → ⊥) → (s : ℕ) × (x ≡ item.Symbol s)
@@ -125,8 +130,7 @@ pub indexed : (c : Setting) (p : ℕ) (xs : List Production) (q r : Production) 
     → IsProduction c.grammar p r → IsProduction c.grammar p q
 indexed c p xs q r same is there =
     let less : p < length xs = let l = slice_get_within c.grammar.productions p r there in let m = ap length same in
-    omega arith in
-    ap (λ xs. slice_get xs p) (sym same) ∙ slice_get-get_or xs p q less ∙ ap Some (sym is)
+    omega arith in cc (slice_get-get_or xs p q less)
 
 -- If popping returned nothing, the first fact that the contract of `pop` states for this case holds.
 pub none_popped : (P Q : Type 0) (R : OpenNode → Type 0) (r : Option OpenNode) → MatchOption r (P × Q) R → r ≡ None → P
@@ -147,13 +151,13 @@ pub rule_indexed : (xs rules : List Rule) (r : ℕ) (u w : Rule) → xs ≡ rule
     → slice_get rules r ≡ Some u
 rule_indexed xs rules r u w same is there =
     let less : r < length xs = let l = slice_get_within rules r w there in let m = ap length same in omega arith in
-    ap (λ xs. slice_get xs r) (sym same) ∙ slice_get-get_or xs r u less ∙ ap Some (sym is)
+    cc (slice_get-get_or xs r u less)
 
 pub popped : (r : Option OpenNode) (xs ys : List OpenNode) → xs ≡ ys ++ option_to_list r → (r ≡ None → length xs ≡ 0)
     → reverse xs ≡ stack_of r ys
 popped None [] ys e none = refl
 popped None (x ∷ xs) ys e none = let n = none refl in absurd (omega arith)
-popped (Some x) xs ys e none = ap reverse e ∙ reverse-append ys (x ∷ [])
+popped (Some x) xs ys e none = cc (reverse-append ys (x ∷ []))
 
 -- The item at a place, as the context of a pass returns it, with its copies among the values.
 pub record IsPlace (c : Setting) (x : OpenNode) (j : ℕ) (row : PlaceRow) (values : List Value) : Type 0 where
@@ -171,9 +175,9 @@ the_place c x j row values h is =
     record {
       production = h.production;
       there = h.there;
-      occurs = h.occurs ∙ ap Some (sym z.0);
+      occurs = cc;
       start = z.1;
-      known = z.3 ∙ ap (known_width c) (sym z.0);
+      known = cc;
       within = subst (λ x'. x.base + (copy_start c h.production j + copied_width c x') ≤ length values) (sym z.0) h.within;
     }
 
@@ -235,7 +239,7 @@ module _ (c : Setting) (sound : IsSound c) where
             (next ∷ reverse m.waiting.items) (meter - m.begun)) (sym on)
             (subst
             (λ vs. IsRunning c m.root honest' content' to_honest to back m.writer vs
-            (after_step x p ∷ reverse m.waiting.items) (meter - m.begun)) (sym kept) run);
+            (after_step x p ∷ reverse m.waiting.items) (meter - m.begun)) (cc) run);
         begun = r.begun;
         low = r.low;
       }
@@ -274,15 +278,15 @@ module _ (c : Setting) (sound : IsSound c) where
       → x.base + row.start + 1 ≤ length m.values.items
   text_within m x j row t runs at is token =
       let i = put_is m x j row runs at is in
-      let d = class_at i.production j t (i.occurs ∙ ap Some token) in
-      let one : copied_width c row.item ≡ 1 = ap (copied_width c) (token ∙ ap item.Terminal d.1) ∙ token_width d.0 in
+      let d = class_at i.production j t (cc) in
+      let one : copied_width c row.item ≡ 1 = cc (token_width d.0) in
       let w = i.within in
       let s = i.start in
       omega arith
     where
       token_width : (d : ℕ) → copied_width c (item.Terminal (Class d)) ≡ 1
       token_width d = let one : ◌≡◌ {A = ℕ} (if nat_le 0 c.write then 1 else 0) 1 =
-          ap (λ b. if b then 1 else 0) (le-leb 0 c.write (omega arith)) in omega arith
+          cc (le-leb 0 c.write (omega arith)) in omega arith
 
   pub put_room : (m : Machine) (x : OpenNode) → RunsSomehow c m (Some x) → m.writer.written < 2 ^ 64 - 1
   put_room m x (honest, content, to_honest, to, meter, r) =
@@ -309,9 +313,8 @@ module _ (c : Setting) (sound : IsSound c) where
   put_leads m out honest honest' content content' x next j row t text runs at is token text_is h same on from_honest from meter
       r =
       let i = put_is m x j row runs at is in
-      let d = class_at i.production j t (i.occurs ∙ ap Some token) in
-      let occurs : item_at i.production j ≡ Some (item.Terminal (Class d.0)) =
-      i.occurs ∙ ap Some (token ∙ ap item.Terminal d.1) in
+      let d = class_at i.production j t (cc) in
+      let occurs : item_at i.production j ≡ Some (item.Terminal (Class d.0)) = cc in
       record {
         running =
             subst
@@ -319,7 +322,7 @@ module _ (c : Setting) (sound : IsSound c) where
             (next ∷ reverse m.waiting.items) (meter - m.begun)) (sym on)
             (put_runs c sound m.root from_honest honest honest' from content content' m.back m.writer out m.values.items x
             (reverse m.waiting.items) (meter - m.begun) j d.0 i.production text at i.there occurs
-            (text_is ∙ ap (λ n. take 1 (drop (x.base + n) m.values.items)) i.start) h same r.running);
+            (cc) h same r.running);
         begun = r.begun;
         low = r.low;
       }
@@ -331,7 +334,7 @@ module _ (c : Setting) (sound : IsSound c) where
   left_leads m honest content x next j s row runs at is node on from_honest from meter r =
       let i = put_is m x j row runs at is in
       let goes =
-      left_node c sound x (reverse m.waiting.items) m.values.items j s i.production at i.there (i.occurs ∙ ap Some node) in
+      left_node c sound x (reverse m.waiting.items) m.values.items j s i.production at i.there (cc) in
       record {
         running =
             subst
@@ -386,7 +389,7 @@ module _ (c : Setting) (sound : IsSound c) where
       → slice_get (list_at c x.production) x.at ≡ Some instr.End → m.waiting.items ≡ waiting ++ y ∷ []
       → HasWaited c y x.base m.values.items
   waited_for m waiting x y (honest, content, to_honest, to, meter, r) at is =
-      let stack : reverse m.waiting.items ≡ y ∷ reverse waiting = ap reverse is ∙ reverse-append waiting (y ∷ []) in
+      let stack : reverse m.waiting.items ≡ y ∷ reverse waiting = cc (reverse-append waiting (y ∷ [])) in
       waited c sound m.root x y (reverse waiting) m.values.items r.running.transcript (meter - m.begun) r.running.todo at
       (subst (λ xs. RunInvariant c m.root (x ∷ xs) m.values.items r.running.transcript (meter - m.begun) r.running.todo) stack
       r.running.invariant)
@@ -419,8 +422,7 @@ module _ (c : Setting) (sound : IsSound c) where
   ended_leads m values waiting out honest honest' content content' x y row put from runs at pushed is from_is put_is' h same vs
       from_honest from_content meter r =
       let w = waited_for m waiting.items x y runs at pushed in
-      let stack : reverse m.waiting.items ≡ y ∷ reverse waiting.items =
-      ap reverse pushed ∙ reverse-append waiting.items (y ∷ []) in
+      let stack : reverse m.waiting.items ≡ y ∷ reverse waiting.items = cc (reverse-append waiting.items (y ∷ [])) in
       let running =
       subst
       (λ xs. IsRunning c m.root from_honest from_content honest content m.back m.writer m.values.items (x ∷ xs)
@@ -430,7 +432,7 @@ module _ (c : Setting) (sound : IsSound c) where
             ended_runs c sound m.root from_honest honest honest' from_content content content' m.back m.writer out m.values.items
             values.items x y (reverse waiting.items) (meter - m.begun) from row.width at
             (λ q x' there occurs. let z = place_is c q y.place row x' w.some (is q there) occurs in
-            (from_is ∙ ap (λ n. y.base + n) z.1, z.2)) vs
+            (cc, z.2)) vs
             (subst (λ vs. HasPut Node x.production vs honest content content' m.writer out) put_is' h) same running;
         begun = r.begun;
         low = r.low;
@@ -469,8 +471,7 @@ module _ (c : Setting) (sound : IsSound c) where
   ruled m x meter r q runs next there =
       let h = rule_of m x meter r runs next in
       let same = same_production c x.production h.production q h.there there in
-      let slots : target_slot c q h.rule.target.place h.rule.target.attr ≡ target_slot c h.production next.0 next.1 =
-      ap (λ t. target_slot c q t.place t.attr) h.target ∙ ap (λ q. target_slot c q next.0 next.1) (sym same) in
+      let slots : target_slot c q h.rule.target.place h.rule.target.attr ≡ target_slot c h.production next.0 next.1 = cc in
       let n = h.within in (
         h.rule,
         subst (λ q. slice_get q.rules r ≡ Some h.rule) same h.numbered,
@@ -496,7 +497,7 @@ module _ (c : Setting) (sound : IsSound c) where
       let there = indexed c x.production ps q h.production same is h.there in
       let w = ruled m x meter r q runs next there in
       let numbered = rule_indexed us q.rules r u w.0 rules at w.1 in
-      let e : Some w.0 ≡ Some u = sym w.1 ∙ numbered in
+      let e : Some w.0 ≡ Some u = cc numbered in
       let one : w.0 ≡ u = cc in
       record {
         there = there;

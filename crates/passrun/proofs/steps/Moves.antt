@@ -44,7 +44,7 @@ use Rattle.passrun.proofs.steps.RuleTargets.{argument_kind, target_kind}
 pub known_differs : (c : Setting) (q : Production) (i j : ℕ) → i < arity q → IsReached c q i j → j ≢ place_of q c.write i
 known_differs c q i j h k z = elim k [
   | inl x ↦ omega arith
-  | inr x ↦ (let less = x.1 in let same = one_turn q c.write x.0 i (omega arith) h (sym x.2 ∙ z) in omega arith)
+  | inr x ↦ (let less = x.1 in let same = one_turn q c.write x.0 i (omega arith) h (cc) in omega arith)
 ]
 
 pub known_more : (c : Setting) (q : Production) (i j : ℕ) → IsReached c q i j → IsReached c q (suc i) j
@@ -58,7 +58,7 @@ known_last c q i j k = elim k [ inl x ↦ inl (inl x) | inr x ↦ last x.0 x.1 x
     split b i h = grind arith
 
     last : (b : ℕ) → b < suc i → j ≡ place_of q c.write b → IsReached c q i j ⊎ (j ≡ place_of q c.write i)
-    last b l e = elim (split b i l) [ inl x ↦ inl (inr (b, x, e)) | inr x ↦ inr (e ∙ ap (place_of q c.write) x) ]
+    last b l e = elim (split b i l) [ inl x ↦ inl (inr (b, x, e)) | inr x ↦ inr (cc) ]
 
 module _ (c : Setting) (sound : IsSound c) where
   -- The table of a node has other values, and the phase changes.
@@ -119,16 +119,15 @@ module _ (c : Setting) (sound : IsSound c) where
         | inl here ↦ (
             let z = x.available o arg in
             let less : z.0 < c.write = elim z.3 [ inl l ↦ l | inr k ↦ absurd (known_differs c q i o.place within k here) ] in
-            let item : item_at q o.place ≡ Some x' = ap (item_at q) here ∙ occurs in
+            let item : item_at q o.place ≡ Some x' = cc in
             let kind : slice_get (item_kinds c.grammar (Some x')) o.attr ≡ Some Synthesized =
-            ap (λ w. slice_get (item_kinds c.grammar w) o.attr) (sym item)
-            ∙ argument_kind c.grammar sound.accepted p q is_open.there r u o num arg ∙ ap Some (found o.place here) in
-            let pass : slice_get (item_passes c.passes (Some x')) o.attr ≡ Some z.0 =
-            ap (λ w. slice_get (item_passes c.passes w) o.attr) (sym item) ∙ z.1 in
+            cc (item, argument_kind c.grammar sound.accepted p q is_open.there r u o num arg, found o.place here) in
+            let pass : slice_get (item_passes c.passes (Some x')) o.attr ≡ Some z.0 = cc item in
             let next = sound.next in
-            ap (λ j. e j o.attr) here ∙ same_at c.read (copied_passes c x') (e pl) h agree o.attr z.0
-            (has_copy c x' o.attr z.0 kind pass) (omega arith)
-            ∙ sym (ap (λ j. with_row e pl h j o.attr) here ∙ with_here e pl h o.attr))
+            cc (
+              same_at c.read (copied_passes c x') (e pl) h agree o.attr z.0 (has_copy c x' o.attr z.0 kind pass) (omega arith),
+              with_here e pl h o.attr,
+            ))
       ]
         where
           found : (j : ℕ) → j ≡ pl → used_kind j ≡ Synthesized
@@ -181,8 +180,7 @@ module _ (c : Setting) (sound : IsSound c) where
             z.0,
             subst (λ w. slice_get (item_kinds c.grammar w) o.attr ≡ Some Synthesized)
                 (sym (ap (item_at q) is ∙ occurs)) z.1,
-          )) in
-          ap (λ j. e j o.attr) is ∙ sym k ∙ sym (with_here e pl h o.attr) ∙ sym (ap (λ j. with_row e pl h j o.attr) is)
+          )) in cc (with_here e pl h o.attr)
 
       inherited : (j : ℕ) → j ≡ pl → defined_kind j ≡ Inherited
       inherited zero z = absurd (omega arith)
@@ -194,7 +192,7 @@ module _ (c : Setting) (sound : IsSound c) where
         | inr apart ↦ other u.target.place u.target.attr apart
         | inl is ↦ kept u.target c.write is z'.passed (omega arith) (λ z.
             let k = target_kind c.grammar sound.accepted p q is_open.there r u num in
-            let y : Some (defined_kind u.target.place) ≡ Some Synthesized = sym k ∙ z.1 in
+            let y : Some (defined_kind u.target.place) ≡ Some Synthesized = cc in
             let w : defined_kind u.target.place ≡ Synthesized = cc in
             let v : Inherited ≡ Synthesized = sym (inherited u.target.place is) ∙ w in
             absurd (cc))
@@ -246,17 +244,17 @@ module _ (c : Setting) (sound : IsSound c) where
           solved = solves_add d (OfPass c.passes c.write) c.grammar ts ws t w is_open.visits.solved gone.evaluated.solved;
           well = each_add d (WellAt (λ n. n ≤ c.write)) c.grammar c.passes ts ws t w is_open.visits.well gone.evaluated.well;
           read =
-              reads ∙ gone.read ∙ ap (λ xs. xs ++ prefix d (bodies_of version_two c.grammar c.passes c.read t w))
-              is_open.visits.read
-              ∙ append_assoc (after_reading c p f copied old).read
-              (prefix_all d (bodies_of_all version_two c.grammar c.passes c.read ts ws))
-              (prefix d (bodies_of version_two c.grammar c.passes c.read t w))
-              ∙ ap (λ xs. (after_reading c p f copied old).read ++ xs) (sym (prefix_add d c.grammar c.passes c.read ts ws t w));
+              cc (
+                append_assoc (after_reading c p f copied old).read
+                    (prefix_all d (bodies_of_all version_two c.grammar c.passes c.read ts ws))
+                    (prefix d (bodies_of version_two c.grammar c.passes c.read t w)),
+                prefix_add d c.grammar c.passes c.read ts ws t w,
+              );
           put =
-              puts ∙ ap (λ xs. xs ++ postfix d bt) is_open.visits.put
-              ∙ append_assoc old.put (postfix_all d (bodies_of_all version_two c.grammar c.passes c.write ts ws))
-              (postfix d bt)
-              ∙ ap (λ xs. old.put ++ xs) (sym (postfix_add d c.grammar c.passes c.write ts ws t w));
+              cc (
+                append_assoc old.put (postfix_all d (bodies_of_all version_two c.grammar c.passes c.write ts ws)) (postfix d bt),
+                postfix_add d c.grammar c.passes c.write ts ws t w,
+              );
           deep = deepest_add d max_depth ts t level is_open.visits.deep gone.deep;
         };
         roots = roots_add d c.grammar (stored_items q.items) i ts ws w e within is_open.visits.fits is_open.roots gone.root;
@@ -304,16 +302,11 @@ module _ (c : Setting) (sound : IsSound c) where
       };
       number = refl;
       root = λ a. refl;
-      read =
-          is_open.visits.read ∙ append_assoc old.read
-          (node_body version_two c.grammar c.passes c.read p f before_copies ∷ []) below
-          ∙ ap (λ b. old.read ++ b ∷ below) body;
+      read = cc (append_assoc old.read (node_body version_two c.grammar c.passes c.read p f before_copies ∷ []) below, body);
       put = is_open.visits.put;
     },
     (let h = is_open.visits.deep in omega arith),
-    ap (body_of Node p)
-        (ap (λ ps. values_up_to c.write ps (e 0) ++ copies_of c.grammar c.passes c.write ts ws)
-        (ap (left_passes c.passes) is_open.there) ∙ ap (λ vs. values_up_to c.write (c.passes q.left) (e 0) ++ vs) written),
+    cc written,
   )
     where
       fits : FitsAll c.grammar (stored_items q.items) ts
@@ -338,8 +331,7 @@ module _ (c : Setting) (sound : IsSound c) where
       at_root : (b a : ℕ) → b < arity q → ws b [] a ≡ e (suc b) a
       at_root b a less =
           let z = left (pass_direction c) (arity q) in
-          let n : suc (leftmost (pass_direction c) (arity q) (arity q) + b) ≡ suc b = omega arith in
-          roots b a less ∙ ap (λ j. e j a) n
+          let n : suc (leftmost (pass_direction c) (arity q) (arity q) + b) ≡ suc b = omega arith in cc (roots b a less)
 
       -- Every child was visited.
       all_known : (b : ℕ) (y : Item) → slice_get (stored_items q.items) b ≡ Some y → IsReached c q i (suc b)
@@ -347,10 +339,8 @@ module _ (c : Setting) (sound : IsSound c) where
 
       read_copies : before_copies ≡ copies_of c.grammar c.passes c.read ts ws
       read_copies =
-          sym
-          (copies_are c (OfPass c.passes c.write) c.read (stored_items q.items) ts ws
-          (in_children e) fits is_open.visits.solved
-          (λ b a p y is of le. at_root b a (slice_get_within (stored_items q.items) b y is)))
+          cc (copies_are c (OfPass c.passes c.write) c.read (stored_items q.items) ts ws (in_children e) fits
+          is_open.visits.solved (λ b a p y is of le. at_root b a (slice_get_within (stored_items q.items) b y is)))
 
       written : copies_of c.grammar c.passes c.write ts ws ≡ copies c c.write (stored_items q.items) (in_children shows)
       written =
@@ -378,14 +368,14 @@ module _ (c : Setting) (sound : IsSound c) where
           (λ o arg. let z = h.available o arg in value o.place o.attr z.0 z.1) h.holds
 
       passes_are : left_passes c.passes (slice_get c.grammar.productions p) ≡ c.passes s
-      passes_are = ap (left_passes c.passes) is_open.there ∙ ap c.passes is_open.left
+      passes_are = cc
 
       body : node_body version_two c.grammar c.passes c.read p f before_copies ≡ node_body version_two c.grammar c.passes c.read p
           (e 0) (copies_of c.grammar c.passes c.read ts ws)
       body =
-          body_same c.read c.grammar c.passes p s f (e 0) before_copies passes_are
-          (λ a p is le.
-          sym
-          (is_open.entered a p is (let n = sound.next in omega arith)
-          (λ z. let n = sound.next in let w = z.0 in omega arith)))
-          ∙ ap (node_body version_two c.grammar c.passes c.read p (e 0)) read_copies
+          cc (
+            body_same c.read c.grammar c.passes p s f (e 0) before_copies passes_are
+                (λ a p is le. sym (is_open.entered a p is (let n = sound.next in omega arith)
+                (λ z. let n = sound.next in let w = z.0 in omega arith))),
+            read_copies,
+          )

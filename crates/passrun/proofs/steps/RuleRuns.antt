@@ -64,8 +64,10 @@ module _ (c : Setting) (sound : IsSound c) where
             subst (λ cs. Visited c q state.turn level ts ws (after_reading c p f cs old) new)
             (sym (copies_set c q e j a v sound.next passed_here)) is_open.visits;
         roots =
-            λ b m l. is_open.roots b m l ∙ sym
-            (set_other e j a v (suc (leftmost (pass_direction c) (arity q) state.turn + b)) m (λ z. not_open b l placed z.0));
+            λ b m l. cc (
+              is_open.roots b m l,
+              set_other e j a v (suc (leftmost (pass_direction c) (arity q) state.turn + b)) m (λ z. not_open b l placed z.0),
+            );
         held = held;
       }
     where
@@ -78,14 +80,14 @@ module _ (c : Setting) (sound : IsSound c) where
           elim o [
             | inl own ↦ omega arith
             | inr turn ↦ seen_differs (pass_direction c) (arity q) state.turn b l turn.within
-                (z ∙ turn.place)
+                (cc)
           ]
 
       target_place : g.rule.target.place ≡ j
-      target_place = ap (λ t. t.place) g.target
+      target_place = cc
 
       target_attr : g.rule.target.attr ≡ a
-      target_attr = ap (λ t. t.attr) g.target
+      target_attr = cc
 
       entered : Keeps c s f (set e j a v 0)
       entered b n at le other = set_other e j a v 0 b (λ z.
@@ -112,17 +114,18 @@ module _ (c : Setting) (sound : IsSound c) where
       argument : (r' : ℕ) (u : Rule) (o : Target) → slice_get q.rules r' ≡ Some u → IsArgument u o
           → e o.place o.attr ≡ set e j a v o.place o.attr
       argument r' u o num arg =
-          sym
-          (set_target e j a v o g.rule.target g.target
-          (λ z. no_argument c.grammar sound.accepted p q is_open.there r r' g.rule u o g.numbered num arg z))
+          cc (set_target e j a v o g.rule.target g.target (λ z. no_argument c.grammar sound.accepted p q is_open.there r r'
+          g.rule u o g.numbered num arg z))
 
       own : IsHeld c q (record state { done = r ∷ state.done }) (set e j a v) g.rule
       own = record {
         holds = λ env lends.
-            ap (λ j. set e j a v g.rule.target.place g.rule.target.attr) (sym target_place)
-            ∙ ap (λ a. set e g.rule.target.place a v g.rule.target.place g.rule.target.attr) (sym target_attr)
-            ∙ set_here e g.rule.target.place g.rule.target.attr v
-            ∙ is env (λ k o at. lends k o at ∙ sym (argument r g.rule o g.numbered (k, at)));
+            cc (
+              target_place,
+              target_attr,
+              set_here e g.rule.target.place g.rule.target.attr v,
+              is env (λ k o at. lends k o at ∙ sym (argument r g.rule o g.numbered (k, at))),
+            );
         passed = g.passed;
         target = subst (IsReached c q (read_count state.phase state.turn)) (sym target_place) (place_known c q state j placed);
         available = g.available;
@@ -135,10 +138,9 @@ module _ (c : Setting) (sound : IsSound c) where
           record {
             holds =
                 holds_same u e (set e j a v)
-                (sym
-                (set_target e j a v u.target g.rule.target g.target
-                (λ z. let w = one_rule c.grammar sound.accepted p q is_open.there r' r u g.rule num g.numbered z in
-                g.fresh (subst (Has state.done) w has)))) (λ o arg. argument r' u o num arg) h.holds;
+                (cc (set_target e j a v u.target g.rule.target g.target
+                (λ z. let w = one_rule c.grammar sound.accepted p q is_open.there r' r u g.rule num g.numbered z in g.fresh
+                (subst (Has state.done) w has)))) (λ o arg. argument r' u o num arg) h.holds;
             passed = h.passed;
             target = h.target;
             available = h.available;
@@ -147,7 +149,7 @@ module _ (c : Setting) (sound : IsSound c) where
       held : AreHeld c q (record state { done = r ∷ state.done }) (set e j a v)
       held r' u (zero, at) num =
           let z : r ≡ r' = cc in
-          let w : Some g.rule ≡ Some u = sym g.numbered ∙ ap (slice_get q.rules) z ∙ num in
+          let w : Some g.rule ≡ Some u = cc in
           let y : g.rule ≡ u = cc in
           subst (IsHeld c q (record state { done = r ∷ state.done }) (set e j a v)) y own
       held r' u (suc n, at) num = older r' u (n, at) num

@@ -1,5 +1,5 @@
 -- The target of a rule is not an argument of a rule, and no two rules have the same target.
-use Rattle.std.proofs.Common.{ℕ, zero, suc, ◌≡◌, Some, slice_get, ◌∙◌, sym, subst}
+use Rattle.std.proofs.Common.{ℕ, zero, suc, ◌≡◌, Some, slice_get, subst}
 use Rattle.ag_grammar.specs.declared.grammar.Production.{Production}
 use Rattle.ag_grammar.specs.declared.grammar.Rule.{Rule}
 use Rattle.ag_grammar.specs.declared.grammar.Target.{Target}
@@ -28,6 +28,6 @@ module _ (g : Grammar) (accepted : IsAccepted g) (p : ℕ) (q : Production) (the
       let k = target_kind r u is in
       let f = argument_kind r' u' o is' arg in
       let f2 : HasKind g q u.target (used_kind u.target.place) = subst (λ o. HasKind g q o (used_kind o.place)) e f in
-      let z : Some (defined_kind u.target.place) ≡ Some (used_kind u.target.place) = sym k ∙ f2 in
+      let z : Some (defined_kind u.target.place) ≡ Some (used_kind u.target.place) = cc in
       let y : defined_kind u.target.place ≡ used_kind u.target.place = cc in
       kinds_differ u.target.place y

@@ -1,6 +1,6 @@
 -- Running a rule: the values of its arguments, and the slot of its value.
 use Rattle.std.specs.Prelude.{cond}
-use Rattle.std.proofs.Common.{ℕ, zero, suc, ◌≡◌, ◌≢◌, ◌+◌, ◌-◌, ◌<◌, ◌⊎◌, inl, inr, true, Bool, List, [], ◌∷◌, ◌++◌, Option, Some}
+use Rattle.std.proofs.Common.{ℕ, zero, suc, ◌≡◌, ◌≢◌, ◌+◌, ◌-◌, ◌<◌, ◌⊎◌, inl, inr, true, Bool, List, ◌∷◌, ◌++◌, Option, Some}
 use Rattle.std.proofs.Common.{None, All, slice_get, slice_index, get_or, length, drop, set, refl, ap, ◌∙◌, sym, subst, arith}
 use Rattle.std.proofs.lemmas.List.{drop_at, set-append_left, set-append_right}
 use Rattle.std.proofs.lemmas.List.Elements.{All-set}
@@ -30,7 +30,7 @@ use Rattle.passcode.specs.Settings.{Setting, list_at}
 use Rattle.passcode.specs.Sound.{IsSound}
 use Rattle.pass_rows.specs.declared.layouts.building.RuleSlots.{RuleSlots}
 use Rattle.pass_rows.specs.declared.open_node.OpenNode.{OpenNode}
-use Rattle.passrun.specs.passing.Ahead.{pending, pending_of_child}
+use Rattle.passrun.specs.passing.Ahead.{pending}
 use Rattle.passrun.specs.passing.Change as change
 use Rattle.pass_rows.specs.layouts.Layouts.{AreSlotsOf}
 use Rattle.pass_rows.specs.Nodes.{after_step}
@@ -70,7 +70,7 @@ current_stays : (c : Setting) (q : Production) (ph : Phase) (i : ℕ) (done : Li
     → IsRowNow c q j a v row now
     → IsCurrent c q ph i level p e of_child row old new count
     → IsCurrent c q ph i level p (change.set e j a v) of_child now old new count
-current_stays c q Between i done level p e of_child row now j a v old new count next pass placed (inl k) h = (h.0, h.1, k.1 ∙ h.2)
+current_stays c q Between i done level p e of_child row now j a v old new count next pass placed (inl k) h = (h.0, h.1, cc)
 current_stays c q Between i done level p e of_child row now j a v old new count next pass placed (inr k) h =
     absurd (elim placed [ inl x ↦ k.0 x | inr x ↦ (let y = x.phase_is in let bad : ⊥ = cc in bad) ])
 current_stays c q Gone i done level p e of_child row now j a v old new count next pass placed (inr k) h =
@@ -90,7 +90,7 @@ current_stays c q Gone i done level p e of_child row now j a v old new count nex
     counted = g.counted;
     deep = g.deep;
   },
-  k.1 ∙ nothing,
+  cc,
 )
 current_stays c q Ended i done level p e of_child row now j a v old new count next pass placed now_is h = absurd h
 current_stays c q Got i done level p e of_child row now j a v old new count next pass placed now_is (g, none, is) = (
@@ -101,11 +101,13 @@ current_stays c q Got i done level p e of_child row now j a v old new count next
     there = g.there;
     left = g.left;
     transcript =
-        g.transcript ∙ ap (λ b. record { read = old.read ++ b ∷ []; put = old.put })
-        (body_same c.read c.grammar c.passes p g.symbol (e pl) (change.set e j a v pl)
-        (copies c c.read (stored_items g.production.items) (in_children of_child))
-        (ap (left_passes c.passes) g.there ∙ ap c.passes g.left)
-        (λ b n is le. sym (set_other e j a v pl b (λ both. let w = of_pass b n both.0 both.1 is in absurd (omega arith)))));
+        cc (
+          g.transcript,
+          body_same c.read c.grammar c.passes p g.symbol (e pl) (change.set e j a v pl)
+              (copies c c.read (stored_items g.production.items) (in_children of_child))
+              (ap (left_passes c.passes) g.there ∙ ap c.passes g.left)
+              (λ b n is le. sym (set_other e j a v pl b (λ both. let w = of_pass b n both.0 both.1 is in absurd (omega arith)))),
+        );
     deep = g.deep;
   },
   none,
@@ -116,29 +118,27 @@ current_stays c q Got i done level p e of_child row now j a v old new count next
     pl = place_of q c.write i
 
     there : item_passes c.passes (item_at q pl) ≡ c.passes g.symbol
-    there = ap (item_passes c.passes) g.occurs
+    there = cc g.occurs
 
     of_pass : (b n : ℕ) → pl ≡ j → b ≡ a → slice_get (c.passes g.symbol) b ≡ Some n → n ≡ c.write
     of_pass b n bj ba is' =
         let w : slice_get (item_passes c.passes (item_at q pl)) b ≡ Some c.write =
         subst (λ j. slice_get (item_passes c.passes (item_at q j)) b ≡ Some c.write) (sym bj)
         (subst (λ a. slice_get (item_passes c.passes (item_at q j)) a ≡ Some c.write) (sym ba) pass) in
-        let w3 : Some n ≡ Some c.write = sym is' ∙ ap (λ ps. slice_get ps b) (sym there) ∙ w in
+        let w3 : Some n ≡ Some c.write = cc there in
         cc
 
     row_is : IsRowNow c q j a v row now → now ≡ stored c g.production (change.set e j a v pl) of_child
     row_is (inl k) =
-        k.1 ∙ is ∙ stored_same c g.production (e pl) (change.set e j a v pl) of_child
-        (λ b. sym (set_other e j a v pl b (λ both. let x = both.0 in let y = k.0 in omega arith)))
+        cc (stored_same c g.production (e pl) (change.set e j a v pl) of_child
+        (λ b. sym (set_other e j a v pl b (λ both. let x = both.0 in let y = k.0 in omega arith))))
     row_is (inr k) =
         let here : j ≡ pl = elim placed [ inl x ↦ absurd (k.0 x) | inr x ↦ x.place ] in
-        let ps : place_passes c q j ≡ c.passes g.production.left =
-        ap (λ j. item_passes c.passes (item_at q j)) here ∙ there ∙ ap c.passes (sym g.left) in
-        let at : slice_get (c.passes g.production.left) a ≡ Some c.write = ap (λ ps. slice_get ps a) (sym ps) ∙ pass in
-        k.1 ∙ ap (λ ps. set row (rank c.write ps a) v) ps ∙ ap (λ vs. set vs (rank c.write (c.passes g.production.left) a) v) is
-        ∙ own_set c g.production (e pl) (change.set e j a v pl) of_child a c.write v at (omega arith)
+        let ps : place_passes c q j ≡ c.passes g.production.left = cc (there, g.left) in
+        let at : slice_get (c.passes g.production.left) a ≡ Some c.write = cc pass in
+        cc (own_set c g.production (e pl) (change.set e j a v pl) of_child a c.write v at (omega arith)
         (ap (λ j. change.set e j a v pl a) here ∙ set_here e pl a v)
-        (λ b apart. set_other e j a v pl b (λ both. apart both.1))
+        (λ b apart. set_other e j a v pl b (λ both. apart both.1)))
 
 module _ (c : Setting) (sound : IsSound c) where
   -- An argument is in its slot.
@@ -161,7 +161,7 @@ module _ (c : Setting) (sound : IsSound c) where
           child None is pass kind = absurd (let bad : ⊥ = cc in bad)
           child (Some x) is pass kind =
               let copy = has_copy c x o.attr n kind pass in
-              argument_at c q (e 0) s row b o.attr n x is copy le ∙ ap Some (shown b o.attr n x is copy le final)
+              cc (argument_at c q (e 0) s row b o.attr n x is copy le, shown b o.attr n x is copy le final)
 
   -- The values that are lent are those of the occurrences.
   lent_is : (p : ℕ) (q : Production) (state : State) (r : ℕ) (u : Rule) (e s : Table) (row : List Value) (slots : RuleSlots)
@@ -175,9 +175,11 @@ module _ (c : Setting) (sound : IsSound c) where
       let is : z.0 ≡ argument_slot c q o.place o.attr = are.args.each k o z.0 at z.1 in
       let index : slice_index slots.args k ≡ argument_slot c q o.place o.attr =
       get_or_from_slice_get slots.args k z.0 0 z.1 ∙ is in
-      ap (λ i. get_or (stored c q (e 0) s ++ row) i spare) index
-      ∙ get_or_from_slice_get (stored c q (e 0) s ++ row) (argument_slot c q o.place o.attr) (e o.place o.attr) spare
-      (argument_there p q state r u e s row there num shown o (k, at) (available o (k, at)))
+      cc (get_or_from_slice_get (stored c q (e 0) s ++ row) (argument_slot c q o.place o.attr) (e o.place o.attr) spare
+      (argument_there p q state r u e s row there num shown o (
+        k,
+        at,
+      ) (available o (k, at))))
 
   -- The slot of the value among a node's values.
   put_own : (q : Production) (e s : Table) (row : List Value) (a : ℕ) (v : Value)
@@ -192,11 +194,11 @@ module _ (c : Setting) (sound : IsSound c) where
       let n = length_row c.write (c.passes q.left) (e 0) in
       let m = length_stored c q (e 0) s in
       let slot : target_slot c q 0 a ≡ rank c.write (c.passes q.left) a = omega arith in
-      ap (λ n. set (stored c q (e 0) s ++ row) n v) slot
-      ∙ set-append_left (stored c q (e 0) s) row (rank c.write (c.passes q.left) a) v (omega arith)
-      ∙ ap (λ vs. vs ++ row)
-      (own_set c q (e 0) (change.set e 0 a v 0) s a c.write v at (omega arith) (set_here e 0 a v)
-      (λ b apart. set_other e 0 a v 0 b (λ both. apart both.1)))
+      cc (
+        set-append_left (stored c q (e 0) s) row (rank c.write (c.passes q.left) a) v (omega arith),
+        own_set c q (e 0) (change.set e 0 a v 0) s a c.write v at (omega arith) (set_here e 0 a v)
+            (λ b apart. set_other e 0 a v 0 b (λ both. apart both.1)),
+      )
 
   put_child_value : (q : Production) (e s : Table) (row : List Value) (b a : ℕ) (v : Value)
       → set (stored c q (e 0) s ++ row) (target_slot c q (suc b) a) v ≡ stored c q (change.set e (suc b) a v 0) s ++ set row
@@ -205,10 +207,10 @@ module _ (c : Setting) (sound : IsSound c) where
       let m = length_stored c q (e 0) s in
       let r = rank c.write (place_passes c q (suc b)) a in
       let minus : stored_width c q + r - stored_width c q ≡ r = omega arith in
-      set-append_right (stored c q (e 0) s) row (stored_width c q) (target_slot c q (suc b) a) v m (omega arith)
-      ∙ ap (λ i. stored c q (e 0) s ++ set row i v) minus
-      ∙ ap (λ vs. vs ++ set row r v)
-      (stored_same c q (e 0) (change.set e (suc b) a v 0) s (λ n. sym (set_other e (suc b) a v 0 n (λ both. omega arith))))
+      cc (
+        set-append_right (stored c q (e 0) s) row (stored_width c q) (target_slot c q (suc b) a) v m (omega arith),
+        stored_same c q (e 0) (change.set e (suc b) a v 0) s (λ n. sym (set_other e (suc b) a v 0 n (λ both. omega arith))),
+      )
 
   -- A rule was run at the innermost open node, which has these values.
   given_in : (s : ℕ) (f : ℕ → Value) (level : ℕ) (x : OpenNode) (under : List Value) (old : Transcript) (before : ℕ)
@@ -243,7 +245,7 @@ module _ (c : Setting) (sound : IsSound c) where
             current_stays c q ph o.i o.done level x.child e o.of_child o.row row_now j a v o.mid t o.count sound.next pass next.1
             (both j refl).1 o.current;
         counted = let n = o.counted in let l = rules_next c x z at in
-            let one : ◌≡◌ {A = ℕ} (cond (is_computation z) 1 0) 1 = ap (λ b. cond b 1 0) next.2 in omega arith;
+            let one : ◌≡◌ {A = ℕ} (cond (is_computation z) 1 0) 1 = cc next.2 in omega arith;
         values_are =
             written ∙ ap (λ vs. set vs (x.base + slots.target) v) o.values_are ∙ ap (λ i. set (under ++ prefix) i v) sum
             ∙ set-append_right under prefix (length under) (length under + target_slot c q j a) v refl (omega arith)
@@ -251,7 +253,7 @@ module _ (c : Setting) (sound : IsSound c) where
             (let minus : length under + target_slot c q j a - length under ≡ target_slot c q j a = omega arith in minus)
             ∙ ap (λ vs. under ++ vs) (both j refl).0;
         base = o.base;
-        todo_is = o.todo_is ∙ coming_same ph;
+        todo_is = cc (coming_same ph);
       }
     where
       q : Production
@@ -281,7 +283,7 @@ module _ (c : Setting) (sound : IsSound c) where
 
       rules_same : u0 ≡ g.rule
       rules_same =
-          let us : Some u0 ≡ Some g.rule = sym num0 ∙ ap (λ q. slice_get q.rules r) qs ∙ g.numbered in
+          let us : Some u0 ≡ Some g.rule = cc (qs, g.numbered) in
           cc
 
       are : AreSlotsOf c q g.rule slots
@@ -289,14 +291,14 @@ module _ (c : Setting) (sound : IsSound c) where
 
       sum : x.base + slots.target ≡ length under + target_slot c q j a
       sum =
-          let to : slots.target ≡ target_slot c q j a = are.target ∙ ap (λ t. target_slot c q t.place t.attr) g.target in
+          let to : slots.target ≡ target_slot c q j a = cc (are.target, g.target) in
           let b = o.base in
           omega arith
 
       value_is : (env : ℕ → Value) → Supplies g.rule e env → v ≡ value_of g.rule.expr.0 env
       value_is env lends =
           let lent : ℕ → Value = λ k. get_or prefix (slice_index slots.args k) spare in
-          let dropped : drop x.base values ≡ prefix = ap (drop x.base) o.values_are ∙ drop_at under prefix x.base (sym o.base) in
+          let dropped : drop x.base values ≡ prefix = cc (drop_at under prefix x.base (sym o.base)) in
           is0 ∙ ap (λ u. value_of u.expr.0 (λ k. get_or (drop x.base values) (slice_index slots.args k) spare)) rules_same
           ∙ ap (λ vs. value_of g.rule.expr.0 (λ k. get_or vs (slice_index slots.args k) spare)) dropped
           ∙ rule_has_one_value c.grammar q g.rule e lent env
@@ -315,16 +317,13 @@ module _ (c : Setting) (sound : IsSound c) where
       both : (n : ℕ) → n ≡ j → (set prefix (target_slot c q j a) v ≡ stored c q (change.set e j a v 0) o.copied ++ row_now)
           × IsRowNow c q j a v o.row row_now
       both zero is = (
-        ap (λ n. set prefix (target_slot c q n a) v) (sym is)
-            ∙ put_own q e o.copied o.row a v
-            (subst (λ n. HasPass c.passes q (record { place = n; attr = a }) c.write) (sym is) pass)
-            ∙ ap (λ n. stored c q (change.set e n a v 0) o.copied ++ row_of n) is,
-        inl (sym is, ap row_of (sym is)),
+        cc (put_own q e o.copied o.row a v (subst (λ n. HasPass c.passes q (record { place = n; attr = a }) c.write) (sym is)
+            pass)),
+        inl (sym is, cc),
       )
       both (suc b) is = (
-        ap (λ n. set prefix (target_slot c q n a) v) (sym is) ∙ put_child_value q e o.copied o.row b a v
-            ∙ ap (λ n. stored c q (change.set e n a v 0) o.copied ++ row_of n) is,
-        inr ((λ none. omega arith), ap row_of (sym is) ∙ ap (λ n. set o.row (rank c.write (place_passes c q n) a) v) is),
+        cc (put_child_value q e o.copied o.row b a v),
+        inr ((λ none. omega arith), cc),
       )
 
       fault_unless : IsPlaced c q (state_of ph o.i o.done) j → IsReached c q (run_count ph o.i) j → j ≡ 0
@@ -340,9 +339,7 @@ module _ (c : Setting) (sound : IsSound c) where
       coming_same : (ph : Phase) → pending c q ph o.i x.child e o.of_child (suc level) others ≡ pending c q ph o.i x.child
           (change.set e j a v) o.of_child (suc level) others
       coming_same Between = after_same c q e (change.set e j a v) o.i (suc level) others copied_same
-      coming_same Got =
-          ap (pending_of_child c (slice_get c.grammar.productions x.child) o.of_child (suc (suc level)))
-          (after_same c q e (change.set e j a v) (suc o.i) (suc level) others copied_same)
+      coming_same Got = cc (after_same c q e (change.set e j a v) (suc o.i) (suc level) others copied_same)
       coming_same Gone = after_same c q e (change.set e j a v) (suc o.i) (suc level) others copied_same
       coming_same Ended = refl
 

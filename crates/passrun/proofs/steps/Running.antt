@@ -70,8 +70,8 @@ module _ (c : Setting) (sound : IsSound c) where
         few = omega arith;
         put = r.put;
         written = r.written;
-        version = ap (λ g. g.version) h.progress ∙ r.version;
-        unbroken = ap (λ g. g.fault) h.progress ∙ r.unbroken;
+        version = cc;
+        unbroken = cc;
         whole = r.whole;
         well = well;
         readable = λ z. let w = sym same ∙ z in subst (IsReadable (source c)) (sym (leaves w)) (r.readable w);
@@ -108,7 +108,7 @@ module _ (c : Setting) (sound : IsSound c) where
       let on =
       step_leaf c sound root x xs values read r.transcript evals r.todo j d q h.body h.taken.1 at there occurs h.deep agreed
       r.invariant in
-      let number : d ≡ p = sym h.taken.0 in
+      let number : d ≡ p = cc in
       read_more root honest honest' to_honest content content' to state state' out values read values (x ∷ xs)
       (after_step x p ∷ xs) evals p (suc (length xs)) (item.Terminal (Class d)) on.0 h same leaves r.well r
       (subst
@@ -126,11 +126,13 @@ module _ (c : Setting) (sound : IsSound c) where
   put_more honest honest' to to' out out' kind number values put h same before z =
       let w = sym same ∙ z in
       let body = body_of kind number values in
-      h.there w ∙ ap (λ bytes. bytes ++ frame body) (before w)
-      ∙ append_assoc (header version_two c.write) (flat_map frame put) (frame body)
-      ∙ ap (λ bytes. header version_two c.write ++ bytes)
-      (ap (λ bytes. flat_map frame put ++ bytes) (sym (append-nil (frame body)))
-      ∙ sym (flat_map-append frame put (body ∷ [])))
+      cc (
+        h.there w,
+        before w,
+        append_assoc (header version_two c.write) (flat_map frame put) (frame body),
+        append-nil (frame body),
+        flat_map-append frame put (body ∷ []),
+      )
 
   -- A record was written, and the pass continues.
   put_on : (root : ℕ) (honest to_honest to_honest' : Bool) (content to to' : List ℕ) (state : BackState)
@@ -157,7 +159,7 @@ module _ (c : Setting) (sound : IsSound c) where
         written = omega arith;
         version = r.version;
         unbroken = r.unbroken;
-        whole = ap (λ w. w.is_broken) h.counted ∙ r.whole;
+        whole = cc;
         well = well;
         readable = r.readable;
         ahead = r.ahead;

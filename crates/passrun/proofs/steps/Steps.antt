@@ -58,15 +58,15 @@ use Rattle.passrun.proofs.places.Tables.{with_is, with_here, with_other, same_va
 
 -- The instruction at an index, and those after it.
 pub next_is : (xs : List Instr) (n : ℕ) (x : Instr) → slice_get xs n ≡ Some x → drop n xs ≡ x ∷ drop (n + 1) xs
-next_is xs n x at = let m : n + 1 ≡ suc n = omega arith in go xs n at ∙ ap (λ m. x ∷ drop m xs) (sym m)
+next_is xs n x at = let m : n + 1 ≡ suc n = omega arith in cc (go xs n at)
   where
     go : (xs : List Instr) (n : ℕ) → slice_get xs n ≡ Some x → drop n xs ≡ x ∷ drop (suc n) xs
     go [] n at = cc
-    go (y ∷ ys) zero at = let e : y ≡ x = cc in ap (λ z. z ∷ ys) e
+    go (y ∷ ys) zero at = let e : y ≡ x = cc in cc
     go (y ∷ ys) (suc n) at = go ys n at
 
 pub same_production : (c : Setting) (p : ℕ) (q r : Production) → IsProduction c.grammar p q → IsProduction c.grammar p r → q ≡ r
-same_production c p q r a b = let e : Some q ≡ Some r = sym a ∙ b in cc
+same_production c p q r a b = let e : Some q ≡ Some r = cc in cc
 
 abbrev pub IsGivingOf : ℕ → ℕ → ℕ → Instr → Type 0
 IsGivingOf j a r z = (z ≡ instr.Set j a r) ⊎ ((z ≡ instr.Def a r) × (j ≡ 0))
@@ -74,9 +74,7 @@ IsGivingOf j a r z = (z ≡ instr.Set j a r) ⊎ ((z ≡ instr.Def a r) × (j �
 -- A node's own values in its row are those at place 0.
 pub stored_same : (c : Setting) (q : Production) (f h : ℕ → Value) (s : Table) → ((a : ℕ) → f a ≡ h a)
     → stored c q f s ≡ stored c q h s
-stored_same c q f h s same =
-    ap (λ vs. vs ++ copies c c.write (stored_items q.items) (in_children s))
-    (same_values c.write (c.passes q.left) f h (λ a p is le. same a))
+stored_same c q f h s same = cc (same_values c.write (c.passes q.left) f h (λ a p is le. same a))
 
 -- If the row of a child at a place begins with these values, they agree with those that were read.
 abbrev pub HasAgreed : Setting → Production → OpenNode → ℕ → Item → List Value → (ℕ → Value) → Type 0
@@ -102,12 +100,11 @@ copies_there c q f s under row b base x is at =
     let r = share_at c q f s row b x at in
     let start = copy_start c q (suc b) in
     let sum : base + start ≡ length under + start = omega arith in
-    (r.0, ap (λ n. drop n (under ++ (stored c q f s ++ row))) sum ∙ beyond under (stored c q f s ++ row) start ∙ r.1)
+    (r.0, cc (beyond under (stored c q f s ++ row) start))
   where
     beyond : (xs ys : List Value) (n : ℕ) → drop (length xs + n) (xs ++ ys) ≡ drop n ys
-    beyond [] ys n = let z : 0 + n ≡ n = omega arith in ap (λ n. drop n ys) z
-    beyond (x ∷ xs) ys n = let z : suc (length xs) + n ≡ suc (length xs + n) = omega arith in
-        ap (λ n. drop n (x ∷ (xs ++ ys))) z ∙ beyond xs ys n
+    beyond [] ys n = let z : 0 + n ≡ n = omega arith in cc
+    beyond (x ∷ xs) ys n = let z : suc (length xs) + n ≡ suc (length xs + n) = omega arith in cc (beyond xs ys n)
 
 module _ (c : Setting) (x : OpenNode) (z : Instr) (at : slice_get (list_at c x.production) x.at ≡ Some z) where
   -- The rest of the list, which may run, is the instruction z followed by those after it.
@@ -121,8 +118,7 @@ module _ (c : Setting) (x : OpenNode) (z : Instr) (at : slice_get (list_at c x.p
   pub rules_next : rules_left c x ≡ cond (is_computation z) 1 0 + count_by is_computation
       (drop (x.at + 1) (list_at c x.production))
   rules_next =
-      ap (count_by is_computation) (next_is (list_at c x.production) x.at z at)
-      ∙ count_more is_computation z (drop (x.at + 1) (list_at c x.production))
+      cc (next_is (list_at c x.production) x.at z at, count_more is_computation z (drop (x.at + 1) (list_at c x.production)))
 
 -- The innermost open node is in the phase in which its next instruction may run.
 module _ {c : Setting} {s : ℕ} {f : ℕ → Value} {level : ℕ} {x : OpenNode} {under : List Value} {old : Transcript} {before : ℕ}
@@ -167,12 +163,12 @@ pub give_next : (c : Setting) (q : Production) (ph : Phase) (i : ℕ) (done : Li
     × Runs c.passes q c.write (state_of ph i (r ∷ done)) xs
 give_next c q ph i done j a r z xs giving runs = elim giving [
   | inl is ↦ let g = subst (λ z. Runs c.passes q c.write (state_of ph i done) (z ∷ xs)) is runs in
-      (g.0.1, inr g.0.0, ap is_computation is, g.1)
+      (g.0.1, inr g.0.0, cc, g.1)
   | inr is ↦ (
       let g = subst (λ z. Runs c.passes q c.write (state_of ph i done) (z ∷ xs)) is.0 runs in (
         subst (λ j. MayCompute c.passes q c.write (state_of ph i done) j a r) (sym is.1) g.0.1,
         inl is.1,
-        ap is_computation is.0,
+        cc,
         g.1,
       ))
 ]
@@ -217,43 +213,31 @@ module _ (c : Setting) (sound : IsSound c) where
       let e = with_row o.table pl h in
       let of_child = first_row h read.table in
       let same : q0 ≡ q = same_production c x.production q0 q there0 o.is_open.there in
-      let item_is : item_at q j ≡ Some (item.Symbol s') = ap (λ q. item_at q j) (sym same) ∙ occurs0 in
-      let occurs : item_at q pl ≡ Some (item.Symbol s') = ap (item_at q) (sym place) ∙ item_is in
+      let item_is : item_at q j ≡ Some (item.Symbol s') = cc in
+      let occurs : item_at q pl ≡ Some (item.Symbol s') = cc in
       let child_row = stored c read.production h of_child in
       let row : child_row ≡ values_up_to c.write (c.passes s') h ++ copies c c.write
-      (stored_items read.production.items) read.table =
-      ap (λ s. values_up_to c.write (c.passes s) h ++ copies c c.write (stored_items read.production.items) read.table)
-      read.left in
+      (stored_items read.production.items) read.table = cc in
       let whole : new ≡ under ++ (stored c q (o.table 0) o.copied ++ child_row) =
-      read.row
-      ∙ ap
-      (λ vs.
-      vs
-      ++ (values_up_to c.write (c.passes s') h ++ copies c c.write
-      (stored_items read.production.items) read.table))
-      (o.values_are ∙ ap (λ r. under ++ (stored c q (o.table 0) o.copied ++ r)) o.current.2
-      ∙ ap (λ vs. under ++ vs) (append-nil (stored c q (o.table 0) o.copied)))
-      ∙ ap (λ vs. (under ++ stored c q (o.table 0) o.copied) ++ vs) (sym row)
-      ∙ append_assoc under (stored c q (o.table 0) o.copied) child_row in
+      cc (append-nil (stored c q (o.table 0) o.copied), append_assoc under (stored c q (o.table 0) o.copied) child_row) in
       let found = copies_there c q (o.table 0) o.copied under child_row b x.base (item.Symbol s') o.base occurs in
-      let slot : copy_start c q0 j ≡ copy_start c q pl = ap (λ q. copy_start c q j) same ∙ ap (copy_start c q) place in
+      let slot : copy_start c q0 j ≡ copy_start c q pl = cc in
       let agree =
-      agreed (o.copied pl) found.0 (ap (λ n. drop (x.base + n) new) slot ∙ ap (drop (x.base + copy_start c q pl)) whole
-      ∙ found.1) in
+      agreed (o.copied pl) found.0 (cc whole) in
       let agree' = agree_table c q o.i o.table o.copied b (item.Symbol s') h occurs sound.next o.agreement agree in
       let copied = copies_row c q o.table b (item.Symbol s') h occurs agree' in
       let copy = values_up_to c.read (copied_passes c (item.Symbol s')) (o.table pl) in
       let rest = following c q o.table (suc o.i) (suc level) others in
       let ys : List Child = children_of c read.production of_child in
       let first : todo ≡ (suc level, (item.Symbol s', Some copy)) ∷ rest =
-      o.todo_is ∙ after_next c q o.table o.i (suc level) others (item.Symbol s') within occurs in
+      cc (after_next c q o.table o.i (suc level) others (item.Symbol s') within occurs) in
       let next_todo = before_others (other (direction_of c.read)) (suc (suc level)) ys rest in
       record {
         next = next_todo;
         records =
             λ here. leaves_on (source c) (other (direction_of c.read)) t.read body (suc level) (item.Symbol s', Some copy) ys
             (pending_root c.grammar) rest (subst (AreRecords (source c) t.read) first here) (omega arith)
-            (is_record c (item.Symbol s') p body values new read (Some copy) (sym agree'));
+            (is_record c (item.Symbol s') p body values new read (Some copy) (cc));
         opens = record {
           production = q;
           i = o.i;
@@ -283,29 +267,22 @@ module _ (c : Setting) (sound : IsSound c) where
               production = read.production;
               there = read.there;
               left = read.left;
-              transcript =
-                  ap (λ bs. record { read = t.read ++ bs ∷ []; put = t.put }) read.same
-                  ∙ ap (after_reading c p h (copies c c.read (stored_items read.production.items) read.table)) o.current.0
-                  ∙ sym
-                  (ap
-                  (λ f. after_reading c p f (copies c c.read (stored_items read.production.items) read.table)
-                  o.mid) (with_is o.table pl h));
+              transcript = cc (with_is o.table pl h);
               deep = deep;
             },
             refl,
-            ap (λ f. stored c read.production f of_child) (sym (with_is o.table pl h)),
+            cc (with_is o.table pl h),
           );
           counted = let n = o.counted in let m = o.current.1 in let l = rules_next c x (instr.Get j) at in omega arith;
           values_are =
-              whole ∙ ap (λ vs. under ++ (vs ++ child_row))
-              (stored_same c q (o.table 0) (e 0) o.copied (λ a. sym (with_other o.table pl h 0 a (λ z. omega arith))));
+              cc (whole, stored_same c q (o.table 0) (e 0) o.copied (λ a. sym (with_other o.table pl h 0 a (λ z. omega arith))));
           base = o.base;
           todo_is =
-              ap (before_others (other (direction_of c.read)) (suc (suc level)) ys)
-              (sym (after_same c q e o.table (suc o.i) (suc level) others copied))
-              ∙ sym
-              (of_node_is c sound p read.production of_child (suc (suc level))
-              (following c q e (suc o.i) (suc level) others) read.there);
+              cc (
+                after_same c q e o.table (suc o.i) (suc level) others copied,
+                of_node_is c sound p read.production of_child (suc (suc level)) (following c q e (suc o.i) (suc level) others)
+                    read.there,
+              );
         };
       }
 
@@ -330,30 +307,29 @@ module _ (c : Setting) (sound : IsSound c) where
       let h : ℕ → Value = λ a. Text read.text in
       let e = with_row o.table pl h in
       let same : q0 ≡ q = same_production c x.production q0 q there0 o.is_open.there in
-      let item_is : item_at q j ≡ Some x' = ap (λ q. item_at q j) (sym same) ∙ occurs0 in
-      let occurs : item_at q pl ≡ Some x' = ap (item_at q) (sym place) ∙ item_is in
+      let item_is : item_at q j ≡ Some x' = cc in
+      let occurs : item_at q pl ≡ Some x' = cc in
       let whole : new ≡ under ++ (stored c q (o.table 0) o.copied ++ Text read.text ∷ []) =
-      read.row ∙ ap (λ vs. vs ++ Text read.text ∷ [])
-      (o.values_are ∙ ap (λ r. under ++ (stored c q (o.table 0) o.copied ++ r)) o.current.2
-      ∙ ap (λ vs. under ++ vs) (append-nil (stored c q (o.table 0) o.copied)))
-      ∙ append_assoc under (stored c q (o.table 0) o.copied) (Text read.text ∷ []) in
+      cc (
+        append-nil (stored c q (o.table 0) o.copied),
+        append_assoc under (stored c q (o.table 0) o.copied) (Text read.text ∷ []),
+      ) in
       let found = copies_there c q (o.table 0) o.copied under (Text read.text ∷ []) b x.base x' o.base occurs in
-      let slot : copy_start c q0 j ≡ copy_start c q pl = ap (λ q. copy_start c q j) same ∙ ap (copy_start c q) place in
+      let slot : copy_start c q0 j ≡ copy_start c q pl = cc in
       let agree =
-      agreed (o.copied pl) found.0 (ap (λ n. drop (x.base + n) new) slot ∙ ap (drop (x.base + copy_start c q pl)) whole
-      ∙ found.1) in
+      agreed (o.copied pl) found.0 (cc whole) in
       let agree' = agree_table c q o.i o.table o.copied b x' h occurs sound.next o.agreement agree in
       let copied = copies_row c q o.table b x' h occurs agree' in
       let copy = values_up_to c.read (copied_passes c x') (o.table pl) in
       let rest = following c q o.table (suc o.i) (suc level) others in
       let first : todo ≡ (suc level, (x', Some copy)) ∷ rest =
-      o.todo_is ∙ after_next c q o.table o.i (suc level) others x' within occurs in
+      cc (after_next c q o.table o.i (suc level) others x' within occurs) in
       record {
         next = rest;
         records =
             λ here. leaves_on (source c) (other (direction_of c.read)) t.read body (suc level) (x', Some copy) []
             (pending_root c.grammar) rest (subst (AreRecords (source c) t.read) first here) (omega arith)
-            (is_record c x' d body values new (refl, read) (Some copy) (sym agree'));
+            (is_record c x' d body values new (refl, read) (Some copy) (cc));
         opens = record {
           production = q;
           i = o.i;
@@ -386,8 +362,8 @@ module _ (c : Setting) (sound : IsSound c) where
               evaluated = record { fits = (refl, read.fits); solved = refl; well = λ a p at le. read.well };
               number = refl;
               root = λ a. sym (with_here o.table pl h a);
-              read = ap (λ z. z.read ++ body ∷ []) o.current.0 ∙ ap (λ bs. o.mid.read ++ bs ∷ []) read.same;
-              put = ap (λ z. z.put) o.current.0 ∙ sym (append-nil o.mid.put);
+              read = cc;
+              put = cc (append-nil o.mid.put);
               counted = refl;
               deep = omega arith;
             },
@@ -395,9 +371,7 @@ module _ (c : Setting) (sound : IsSound c) where
           );
           counted = let n = o.counted in let m = o.current.1 in let l = rules_next c x (instr.Get j) at in omega arith;
           values_are =
-              o.values_are ∙ ap (λ r. under ++ (stored c q (o.table 0) o.copied ++ r)) o.current.2
-              ∙ ap (λ vs. under ++ (vs ++ []))
-              (stored_same c q (o.table 0) (e 0) o.copied (λ a. sym (with_other o.table pl h 0 a (λ z. omega arith))));
+              cc (stored_same c q (o.table 0) (e 0) o.copied (λ a. sym (with_other o.table pl h 0 a (λ z. omega arith))));
           base = o.base;
           todo_is = sym (after_same c q e o.table (suc o.i) (suc level) others copied);
         };
@@ -475,7 +449,7 @@ module _ (c : Setting) (sound : IsSound c) where
         agreement = λ j a p x at is le when. refl;
         current = (refl, refl, refl);
         counted = let n = rules_first p q there in omega arith;
-        values_are = ap (λ vs. under ++ vs) (sym (append-nil (stored c q f e)));
+        values_are = cc (append-nil (stored c q f e));
         base = is;
         todo_is = refl;
       }
@@ -496,9 +470,7 @@ module _ (c : Setting) (sound : IsSound c) where
       let level = suc (length xs) in
       let rest = under ++ stored c q (o.table 0) o.copied in
       let child_row = stored c g.production h o.of_child in
-      let vs : values ≡ rest ++ child_row =
-      o.values_are ∙ ap (λ r. under ++ (stored c q (o.table 0) o.copied ++ r)) o.current.2
-      ∙ sym (append_assoc under (stored c q (o.table 0) o.copied) child_row) in
+      let vs : values ≡ rest ++ child_row = cc (append_assoc under (stored c q (o.table 0) o.copied) child_row) in
       let base' : base ≡ length rest =
       let a = is g.production g.there in
       let d = length_stored c g.production h o.of_child in
@@ -555,7 +527,7 @@ module _ (c : Setting) (sound : IsSound c) where
             (first_at x.child base) rest o.mid now following_it Between values t now z) (sym same_todo)
             (subst
             (λ t. IsActive c g.symbol h (suc level) (first_at x.child base) rest o.mid now following_it Between values t now
-            (following c g.production o.of_child 0 (suc (suc level)) following_it)) (sym g.transcript)
+            (following c g.production o.of_child 0 (suc (suc level)) following_it)) (cc)
             (subst
             (λ vs. IsActive c g.symbol h (suc level) (first_at x.child base) rest o.mid now following_it Between vs
             (after_reading c x.child h (copies c c.read (stored_items g.production.items) (in_children o.of_child)) o.mid)
@@ -602,7 +574,7 @@ module _ (c : Setting) (sound : IsSound c) where
         current = (refl, refl, refl);
         counted = let n = o.counted in let m = g.counted in let k = rules_add (pass_direction c) c o.trees g.tree in
             let l = rules_next c x (instr.Put j) at in omega arith;
-        values_are = o.values_are ∙ ap (λ r. under ++ (stored c q (o.table 0) o.copied ++ r)) o.current.1;
+        values_are = cc;
         base = o.base;
         todo_is = o.todo_is;
       }
@@ -621,12 +593,10 @@ module _ (c : Setting) (sound : IsSound c) where
       let place = (runs_next c x (instr.Put j) at q Gone o.i o.done o.runs).0.place in
       let g = o.current.0 in
       let same : q0 ≡ q = same_production c x.production q0 q there0 o.is_open.there in
-      let items : Some g.item ≡ Some (item.Symbol s') =
-      sym (ap (item_at q) place ∙ g.occurs) ∙ ap (λ q. item_at q j) (sym same) ∙ occurs0 in
+      let items : Some g.item ≡ Some (item.Symbol s') = cc in
       let is : g.item ≡ item.Symbol s' = cc in
       left_in s f level x under old before others values t t now todo j at o refl
-      (g.put ∙ ap (λ xs. o.mid.put ++ xs)
-      (whole g.tree g.values (subst (λ x. IsEvaluatedTree c x g.tree g.values) is g.evaluated)))
+      (cc (whole g.tree g.values (subst (λ x. IsEvaluatedTree c x g.tree g.values) is g.evaluated)))
     where
       whole : (u : Tree) (w : Valuation) → IsEvaluatedTree c (item.Symbol s') u w
           → put_of (pass_direction c) u (bodies_of version_two c.grammar c.passes c.write u w) ≡ postfix (pass_direction c)
@@ -668,12 +638,11 @@ module _ (c : Setting) (sound : IsSound c) where
       let pl = place_of q c.write o.i in
       let x' = item.Terminal (Class d) in
       let same : q0 ≡ q = same_production c x.production q0 q there0 o.is_open.there in
-      let occurs : item_at q pl ≡ Some (item.Terminal (Class d)) =
-      ap (item_at q) (sym place) ∙ ap (λ q. item_at q j) (sym same) ∙ occurs0 in
-      let items : Some g.item ≡ Some (item.Terminal (Class d)) = sym g.occurs ∙ occurs in
+      let occurs : item_at q pl ≡ Some (item.Terminal (Class d)) = cc in
+      let items : Some g.item ≡ Some (item.Terminal (Class d)) = cc in
       let item_is : g.item ≡ item.Terminal (Class d) = cc in
       let found = copies_there c q (o.table 0) o.copied under o.row b x.base x' o.base occurs in
-      let slot : copy_start c q0 j ≡ copy_start c q pl = ap (λ q. copy_start c q j) same ∙ ap (copy_start c q) place in
+      let slot : copy_start c q0 j ≡ copy_start c q pl = cc in
       let first : text ≡ o.copied pl 0 ∷ [] =
       is ∙ ap (λ n. take 1 (drop (x.base + n) values)) slot
       ∙ ap (λ vs. take 1 (drop (x.base + copy_start c q pl) vs)) o.values_are ∙ ap (take 1) found.1
@@ -685,7 +654,7 @@ module _ (c : Setting) (sound : IsSound c) where
       left_in s f level x under old before others values t
       (record { read = t.read; put = t.put ++ body_of Token x.child text ∷ [] }) now todo j at o refl
       (put_all g.tree g.values (o.mid.put) t.put text evaluated g.number g.put
-      (first ∙ ap (λ v. v ∷ []) (shown ∙ sym (g.root 0))))
+      (cc (first, g.root 0)))
     where
       put_all : (u : Tree) (w : Valuation) (before_it put : List (List ℕ)) (text : List Value)
           → IsEvaluatedTree c (item.Terminal (Class d)) u w → root_number u ≡ x.child
@@ -694,10 +663,7 @@ module _ (c : Setting) (sound : IsSound c) where
           → put ++ body_of Token x.child text ∷ [] ≡ before_it ++ postfix (pass_direction c)
           (bodies_of version_two c.grammar c.passes c.write u w)
       put_all (node p ts) w before_it put text evaluated number is same = elim evaluated.fits [ ]
-      put_all (leaf e string) w before_it put text evaluated number is same =
-          ap (λ xs. xs ++ body_of Token x.child text ∷ []) (is ∙ append-nil before_it)
-          ∙ ap (λ n. before_it ++ body_of Token n text ∷ []) (sym number)
-          ∙ ap (λ vs. before_it ++ body_of Token e vs ∷ []) (same ∙ ap (λ v. v ∷ []) evaluated.solved)
+      put_all (leaf e string) w before_it put text evaluated number is same = cc (append-nil before_it)
 
   pub step_put_leaf : (root : ℕ) (x : OpenNode) (xs : List OpenNode) (values : List Value) (t : Transcript) (now : ℕ)
       (todo : Pending) (j d : ℕ) (q0 : Production) (text : List Value)
@@ -728,8 +694,7 @@ module _ (c : Setting) (sound : IsSound c) where
       let q = o.production in
       let next = (runs_next c x instr.End at q Between o.i o.done o.runs).0 in
       let row = stored c q (o.table 0) o.copied in
-      let whole : values ≡ under ++ row =
-      o.values_are ∙ ap (λ r. under ++ (row ++ r)) o.current.2 ∙ ap (λ vs. under ++ vs) (append-nil row) in
+      let whole : values ≡ under ++ row = cc (append-nil row) in
       let own = values_up_to c.write (c.passes q.left) (o.table 0) in
       let copied = copies c c.write (stored_items q.items) (in_children o.copied) in
       let own_well : All IsWell own =
@@ -750,7 +715,7 @@ module _ (c : Setting) (sound : IsSound c) where
             let l = rules_last x q o.is_open.there at in
             let k = ap (pass_rule_count c.passes c.write) o.is_open.there in
             omega arith;
-        todo_is = o.todo_is ∙ after_last c q o.table o.i (suc (suc level)) others next.1;
+        todo_is = cc (after_last c q o.table o.i (suc (suc level)) others next.1);
       }
 
   -- The root is done.
@@ -776,8 +741,8 @@ module _ (c : Setting) (sound : IsSound c) where
         deep = let d = done.deep in omega arith;
         few = let w = few_values c sound x.production q o.is_open.there in let n = length_stored c q (o.table 0) o.copied in
             let l = ap length single_value in omega arith;
-        record_is = done.record_is ∙ ap (body_of Node x.production) (sym single_value) ∙ ap (λ n. body_of Node n values) number;
-        nothing = done.todo_is ∙ none_left;
+        record_is = cc;
+        nothing = cc;
       }
 
   -- The values of a node's synthesized attributes were moved to their copies in the row of the parent,
@@ -798,14 +763,15 @@ module _ (c : Setting) (sound : IsSound c) where
       let share = values_up_to c.write ps h in
       let prefix = under ++ (own ++ r.0) in
       let joined : (vs : List Value) → under ++ (own ++ (r.0 ++ vs)) ≡ prefix ++ vs =
-      λ vs. ap (λ ws. under ++ ws) (sym (append_assoc own r.0 vs)) ∙ sym (append_assoc under (own ++ r.0) vs) in
+      λ vs. cc (append_assoc own r.0 vs, append_assoc under (own ++ r.0) vs) in
       let was : under ++ stored c q f s ≡ prefix ++ (old_share ++ r.1) =
-      ap (λ vs. under ++ (own ++ vs)) (r.3 (in_children s) (λ j a z. refl)) ∙ joined (old_share ++ r.1) in
+      cc (r.3 (in_children s) (λ j a z. refl), joined (old_share ++ r.1)) in
       let now : under ++ stored c q f (with_row s (suc b) h) ≡ prefix ++ (share ++ r.1) =
-      ap (λ vs. under ++ (own ++ vs))
-      (r.3 (in_children (with_row s (suc b) h)) (λ j a z. with_other s (suc b) h (suc j) a (λ y. z (omega arith))))
-      ∙ joined (values_up_to c.write ps (with_row s (suc b) h (suc b)) ++ r.1)
-      ∙ ap (λ g. prefix ++ (values_up_to c.write ps g ++ r.1)) (with_is s (suc b) h) in
+      cc (
+        r.3 (in_children (with_row s (suc b) h)) (λ j a z. with_other s (suc b) h (suc j) a (λ y. z (omega arith))),
+        joined (values_up_to c.write ps (with_row s (suc b) h (suc b)) ++ r.1),
+        with_is s (suc b) h,
+      ) in
       let n = length_row c.write (c.passes q.left) f in
       let m = r.2 in
       let l = length-append own r.0 in
@@ -815,17 +781,15 @@ module _ (c : Setting) (sound : IsSound c) where
       let z = length-append prefix old_share in
       let long : length prefix ≡ to = omega arith in
       let beginning : take to values ≡ prefix =
-      ap (take to) (values_are ∙ ap (λ vs. vs ++ row) was ∙ append_assoc prefix (old_share ++ r.1) row)
-      ∙ take_at prefix ((old_share ++ r.1) ++ row) to long in
+      cc (append_assoc prefix (old_share ++ r.1) row, take_at prefix ((old_share ++ r.1) ++ row) to long) in
       let middle : take count (drop from values) ≡ share =
-      ap (take count) (ap (drop from) values_are ∙ drop_at (under ++ stored c q f s) row from (sym from_is) ∙ row_is)
-      ∙ take_at share others count (omega arith) in
+      cc (drop_at (under ++ stored c q f s) row from (sym from_is), take_at share others count (omega arith)) in
       let end : drop (to + count) (take from values) ≡ r.1 =
-      ap (drop (to + count)) (ap (take from) values_are ∙ take_at (under ++ stored c q f s) row from (sym from_is) ∙ was
-      ∙ sym (append_assoc prefix old_share r.1)) ∙ drop_at (prefix ++ old_share) r.1 (to + count) (omega arith) in
-      ap (λ vs. vs ++ (take count (drop from values) ++ drop (to + count) (take from values))) beginning
-      ∙ ap (λ vs. prefix ++ (vs ++ drop (to + count) (take from values))) middle ∙ ap (λ vs. prefix ++ (share ++ vs)) end
-      ∙ sym now
+      cc (
+        take_at (under ++ stored c q f s) row from (sym from_is),
+        append_assoc prefix old_share r.1,
+        drop_at (prefix ++ old_share) r.1 (to + count) (omega arith),
+      ) in cc
 
   -- A node is done, and another one waits for it.
   pub step_end : (root : ℕ) (x y : OpenNode) (ys : List OpenNode) (values result : List Value) (t : Transcript) (now : ℕ)
@@ -846,17 +810,14 @@ module _ (c : Setting) (sound : IsSound c) where
       let pl = place_of q c.write z.i in
       let e = with_row z.table pl h in
       let tape : Transcript = record { read = t.read; put = t.put ++ body_of Node x.production (drop x.base values) ∷ [] } in
-      let at_place : item_at q y.place ≡ Some (item.Symbol s) = ap (item_at q) z.place_is ∙ z.occurs in
+      let at_place : item_at q y.place ≡ Some (item.Symbol s) = cc in
       let slot = slots q (item.Symbol s) z.is_open.there at_place in
       let begins = begins_with_copy c (item.Symbol s) h in
       let child_row = stored c o.production h o.copied in
       let copied_rest = copies c c.write (stored_items o.production.items) (in_children o.copied) in
       let share = values_up_to c.write (copied_passes c (item.Symbol s)) h in
-      let row : child_row ≡ share ++ (begins.0 ++ copied_rest) =
-      ap (λ ps. values_up_to c.write ps h ++ copied_rest) (ap c.passes o.is_open.left) ∙ ap (λ vs. vs ++ copied_rest) begins.1
-      ∙ append_assoc share begins.0 copied_rest in
-      let to_is : to ≡ length under' + copy_start c q pl =
-      slot.0 ∙ ap (λ j. y.base + copy_start c q j) z.place_is ∙ ap (λ n. n + copy_start c q pl) z.base in
+      let row : child_row ≡ share ++ (begins.0 ++ copied_rest) = cc (append_assoc share begins.0 copied_rest) in
+      let to_is : to ≡ length under' + copy_start c q pl = cc in
       let keeps' : Keeps c s (z.table pl) h = λ a n is le other. o.is_open.entered a n is le other ∙ sym (z.row_is a) in
       let agree = kept_copy c sound s (z.table pl) h keeps' in
       let record_is =
@@ -898,13 +859,15 @@ module _ (c : Setting) (sound : IsSound c) where
               tree = node x.production o.trees;
               values = graft h o.valuations;
               evaluated = done.ready.evaluated;
-              number = sym z.number;
+              number = cc;
               root = λ a. sym (with_here z.table pl h a);
               read = done.ready.read;
               put =
-                  ap (λ bs. t.put ++ bs ∷ []) record_is ∙ ap (λ bs. bs ++ root_body bt ∷ []) done.ready.put
-                  ∙ append_assoc old.put (below (pass_direction c) bt) (root_body bt ∷ [])
-                  ∙ ap (λ bs. old.put ++ bs) (whole (pass_direction c) bt);
+                  cc (
+                    record_is,
+                    append_assoc old.put (below (pass_direction c) bt) (root_body bt ∷ []),
+                    whole (pass_direction c) bt,
+                  );
               counted = refl;
               deep = let d = done.deep in omega arith;
             },
@@ -912,17 +875,17 @@ module _ (c : Setting) (sound : IsSound c) where
           );
           counted = let n = z.counted in let m = done.counted in omega arith;
           values_are =
-              result_is ∙ moved_copies q (z.table 0) z.copied under' child_row (begins.0 ++ copied_rest) b
-              (item.Symbol s) h to count x.base values z.occurs to_is slot.1 (o.base ∙ ap length z.under_is) row
-              (done.whole ∙ ap (λ vs. vs ++ child_row) z.under_is)
-              ∙ ap (λ vs. under' ++ vs)
-              (stored_same c q (z.table 0) (e 0) (with_row z.copied pl h)
-              (λ a. sym (with_other z.table pl h 0 a (λ y. omega arith))))
-              ∙ ap (λ vs. under' ++ vs) (sym (append-nil (stored c q (e 0) (with_row z.copied pl h))));
+              cc (
+                moved_copies q (z.table 0) z.copied under' child_row (begins.0 ++ copied_rest) b (item.Symbol s) h to count
+                    x.base values z.occurs to_is slot.1 (o.base ∙ ap length z.under_is) row
+                    (done.whole ∙ ap (λ vs. vs ++ child_row) z.under_is),
+                stored_same c q (z.table 0) (e 0) (with_row z.copied pl h)
+                    (λ a. sym (with_other z.table pl h 0 a (λ y. omega arith))),
+                append-nil (stored c q (e 0) (with_row z.copied pl h)),
+              );
           base = z.base;
           todo_is =
-              done.todo_is ∙ z.todo_is ∙ sym
-              (after_same c q e z.table (suc z.i) (suc (suc (length ys))) others'
+              cc (after_same c q e z.table (suc z.i) (suc (suc (length ys))) others'
               (copies_row c q z.table b (item.Symbol s) h z.occurs agree));
         },
       )
@@ -947,26 +910,21 @@ module _ (c : Setting) (sound : IsSound c) where
       let b = nth (pass_direction c) (arity q) o.i in
       let pl = place_of q c.write o.i in
       let same : q0 ≡ q = same_production c x.production q0 q there0 o.is_open.there in
-      let occurs : item_at q pl ≡ Some x' = ap (item_at q) (sym turn.place) ∙ ap (λ q. item_at q j) (sym same) ∙ occurs0 in
+      let occurs : item_at q pl ≡ Some x' = cc in
       let n = sound.next in
       let copies_same : values_up_to c.read (copied_passes c x') (o.table pl) ≡ values_up_to c.read (copied_passes c x')
       (o.copied pl) =
       same_values c.read (copied_passes c x') (o.table pl) (o.copied pl)
       (λ a p is le. sym (o.agreement b a p x' occurs is (omega arith) (inl (omega arith)))) in
-      let slot : copy_start c q0 j ≡ copy_start c q pl = ap (λ q. copy_start c q j) same ∙ ap (copy_start c q) turn.place in
-      let kept : values ≡ under ++ stored c q (o.table 0) o.copied =
-      o.values_are ∙ ap (λ r. under ++ (stored c q (o.table 0) o.copied ++ r)) o.current.2
-      ∙ ap (λ vs. under ++ vs) (append-nil (stored c q (o.table 0) o.copied)) in (
+      let slot : copy_start c q0 j ≡ copy_start c q pl = cc in
+      let kept : values ≡ under ++ stored c q (o.table 0) o.copied = cc (append-nil (stored c q (o.table 0) o.copied)) in (
         o.copied pl,
         following c q o.table (suc o.i) level others,
-        o.todo_is ∙ after_next c q o.table o.i level others x' turn.within occurs
-            ∙ ap (λ vs. first level vs (following c q o.table (suc o.i) level others)) copies_same,
+        cc (after_next c q o.table o.i level others x' turn.within occurs),
         (λ row.
             let found = copies_there c q (o.table 0) o.copied under row b x.base x' o.base occurs in (
               found.0,
-              ap (λ n. drop (x.base + n) (values ++ row)) slot ∙ ap (λ vs. drop (x.base + copy_start c q pl) (vs ++ row)) kept
-                  ∙ ap (drop (x.base + copy_start c q pl)) (append_assoc under (stored c q (o.table 0) o.copied) row)
-                  ∙ found.1,
+              cc (append_assoc under (stored c q (o.table 0) o.copied) row),
             )),
       )
     where

@@ -1,4 +1,4 @@
-use Rattle.std.proofs.Common.{◌-◌, ◌<◌, arith, List, ℕ, ap, length, sym, subst, ◌∙◌}
+use Rattle.std.proofs.Common.{◌-◌, ◌<◌, arith, List, ℕ, sym, subst}
 use Rattle.std.proofs.lemmas.Result.{err_from_is_err_and}
 use Rattle.backreader.specs.BackState.{IsOver}
 use Rattle.pass_rows.specs.layouts.Contexts.{setting}
@@ -7,7 +7,7 @@ use Rattle.passrun.specs.Damage.{IsReadable, source}
 use Rattle.passrun.proofs.Damage.{other_pass, readable, decidable}
 use Rattle.passrun.proofs.Refusing.{not_started, root_unfetched}
 use Rattle.passrun.proofs.course.Ending.{begun_runs}
-use Rattle.std.proofs.Common.{Err, Ok, inr, refl}
+use Rattle.std.proofs.Common.{Ok, inr, refl}
 use Rattle.treefile.proofs.framing.Beginning.{frames_begin, none_added, not_begun}
 use Rattle.pass_rows.specs.declared.run_fault.RunFault.{RunFault}
 use Rattle.passrun.proofs.passing.ends.begin.Goals as goal
@@ -27,10 +27,10 @@ returns-clause-runs g c =
     subst (IsReadable (source (setting c.args.context.now))) (sym (start.content z))
     (readable (source (setting c.args.context.now)) (decidable (setting c.args.context.now) c.requires.context.sound)
     (g.D.Device.content c.args.from.now) c.in_ok-back.back.progress.pass (start.exact z)
-    (sym c.pass.ensures ∙ c.if-pass-file_pass.false ∙ c.file_pass.ensures)))
+    (cc)))
     (λ w. let z = root.persists.honest w in
     subst (λ (bytes : List ℕ). IsOver bytes c.in_ok-back.back) (sym (start.content z)) (start.started.over z))
-    (λ w. let z = root.persists.honest w in start.started.end z ∙ ap (λ (bytes : List ℕ). length bytes) (sym (start.content z)))
+    (λ w. let z = root.persists.honest w in cc (start.started.end z, start.content z))
     start.started.fresh start.started.version start.started.unbroken (λ w. begin.header w) begin.fresh c.requires.meter
 
 pub returns-in_err-back-clause-refused : goal.returns-in_err-back-clause-refused
@@ -55,8 +55,8 @@ returns-in_err-root-clause-refused g c =
     (subst (IsReadable (source context)) (sym same)
     (readable (source context) (decidable context c.requires.context.sound)
     (g.D.Device.content c.args.from.now) c.in_ok-back.back.progress.pass (start.exact z)
-    (sym c.pass.ensures ∙ c.if-pass-file_pass.false ∙ c.file_pass.ensures)))
-    (start.started.end z ∙ ap (λ (bytes : List ℕ). length bytes) (sym same)) start.started.fresh
+    (cc)))
+    (cc (start.started.end z)) start.started.fresh
     (c.in_err-root.ensures.refused honest)))
 
 pub returns-then-pass-file_pass-clause-refused : goal.returns-then-pass-file_pass-clause-refused
@@ -64,7 +64,7 @@ returns-then-pass-file_pass-clause-refused g c = λ honest.
     let small : c.args.context.now.setting.pass - 1 < 65536 = omega (arith, c.file_pass.ensures, c.file_pass.type_inv) in
     other_pass (source (setting c.args.context.now)) (decidable (setting c.args.context.now) c.requires.context.sound)
     (g.D.Device.content c.args.from.now) c.in_ok-back.back.progress.pass small (c.in_ok-back.ensures.exact honest)
-    (λ same. c.if-pass-file_pass.true (c.pass.ensures ∙ same ∙ sym c.file_pass.ensures))
+    (λ same. c.if-pass-file_pass.true (cc))
 
 pub returns-in_err-writer-clause-left : goal.returns-in_err-writer-clause-left
 returns-in_err-writer-clause-left g c =
@@ -72,8 +72,8 @@ returns-in_err-writer-clause-left g c =
     rw p.1
     (λ h. not_begun c.args.context.now.setting.pass (g.E.Device.content c.args.to.now)
     (g.E.Device.content c.begin.new.device) c.in_err-writer.field-0.0
-    (λ failed. c.in_err-writer.ensures.device (ap Err failed) h)
-    (λ resource. c.in_err-writer.ensures.memory (ap Err resource) h))
+    (λ failed. c.in_err-writer.ensures.device (cc) h)
+    (λ resource. c.in_err-writer.ensures.memory (cc) h))
 
 pub returns-in_err-root-clause-left : goal.returns-in_err-root-clause-left
 returns-in_err-root-clause-left g c =

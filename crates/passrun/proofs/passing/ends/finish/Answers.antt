@@ -42,7 +42,7 @@ returns-clause-passed g c = λ meter r is to_is.
     let to' = g.E.Device.content c.put_record.new.to in
     let end : next_before version_two (g.D.Device.content c.args.from.now) c.args.machine.now.back.progress.at ≡ Ok None =
     (rw r.running.version at (c.in_ok-back.ensures.exact r.running.unbroken is))
-    ∙ ap Ok (none_lent c.in_ok-back.field-0 (sym c.is_some.ensures ∙ c.if-is_some.false)) in
+    ∙ ap Ok (none_lent c.in_ok-back.field-0 (cc)) in
     passed context c.requires.context.sound (g.D.Device.is_honest c.back.new.device) (g.D.Device.content c.args.from.now)
     (g.E.Device.is_honest c.put_record.new.to)
     (g.E.Device.content c.args.to.now) to' c.args.machine.now c.put_record.new.writer c.as_slice-values.result.now meter
@@ -53,8 +53,7 @@ returns-clause-passed g c = λ meter r is to_is.
     (g.E.Device.content c.args.to.now) meter c.args.machine.now None
     c.in_ok-back.ensures.persists.honest c.in_ok-put_record.ensures.persists.honest r) is to_is
     c.as_slice-values.ensures.value c.in_ok-put_record.ensures.put end
-    (c.records.ensures ∙ ap (λ p. p.records)
-    (reader_kept _ _ c.args.machine.now.back c.back.follows.lender-at-none c.back.result c.in_ok-back.field-0
+    (cc (reader_kept _ _ c.args.machine.now.back c.back.follows.lender-at-none c.back.result c.in_ok-back.field-0
     c.back.follows.holds-at-none c.in_ok-back.was (sym c.is_some.ensures ∙ c.if-is_some.false)))
 
 pub returns-clause-counts : goal.returns-clause-counts
@@ -66,11 +65,10 @@ returns-clause-counts g c =
     let a = n.0 in
     let p = c.back.follows.lender-at-none.progress.records in
     let same : p ≡ c.args.machine.now.back.progress.records =
-    ap (λ p. p.records)
-    (reader_kept _ _ c.args.machine.now.back c.back.follows.lender-at-none c.back.result c.in_ok-back.field-0
+    cc (reader_kept _ _ c.args.machine.now.back c.back.follows.lender-at-none c.back.result c.in_ok-back.field-0
     c.back.follows.holds-at-none c.in_ok-back.was (sym c.is_some.ensures ∙ c.if-is_some.false)) in
     let w = ap (λ w. w.written) c.in_ok-put_record.ensures.put.counted in
-    (c.records-2.ensures ∙ sym c.records.ensures, omega arith)
+    (cc, omega arith)
 
 pub returns-clause-few : goal.returns-clause-few
 returns-clause-few g c =
@@ -82,7 +80,7 @@ returns-clause-few g c =
     let same =
     ap (λ p. p.records)
     (reader_kept _ _ c.args.machine.now.back c.back.follows.lender-at-none c.back.result c.in_ok-back.field-0
-    c.back.follows.holds-at-none c.in_ok-back.was (sym c.is_some.ensures ∙ c.if-is_some.false)) in
+    c.back.follows.holds-at-none c.in_ok-back.was (cc)) in
     let read = c.records.ensures in
     omega arith
 
@@ -112,7 +110,7 @@ returns-then-is_some-clause-refused g c = λ is.
     let to_honest = g.E.Device.is_honest c.args.to.now in
     let to = g.E.Device.content c.args.to.now in
     let m = c.args.machine.now in
-    let some = some_lent c.in_ok-back.field-0 (sym c.is_some.ensures ∙ c.if-is_some.true) in
+    let some = some_lent c.in_ok-back.field-0 (cc) in
     let come =
     end_come context c.requires.context.sound honest content to_honest to m c.requires.runs
     (c.in_ok-back.ensures.persists.honest is) in

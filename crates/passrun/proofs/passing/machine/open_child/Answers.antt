@@ -1,4 +1,4 @@
-use Rattle.std.proofs.Common.{[], ◌∷◌, ◌++◌, ◌∙◌, ap, reverse, subst, sym, arith}
+use Rattle.std.proofs.Common.{◌∷◌, reverse, subst, sym, arith}
 use Rattle.std.proofs.lemmas.Option.{slice_get_within}
 use Rattle.pass_rows.specs.declared.open_node.OpenNode.{OpenNode}
 use Rattle.pass_rows.specs.layouts.Contexts.{setting}
@@ -30,4 +30,4 @@ returns-clause-goes c =
     (child ∷ reverse c.push.new.self.items) c.args.values.now) (sym c.begun.ensures)
     (goes (setting c.args.context.now) c.requires.context.sound c.args.node c.args.waiting.now.items c.push.new.self.items
     c.args.values.now c.args.place c.width-width.result c.requires.next c.width-width.ensures
-    (c.in_ok-push.ensures.items ∙ ap (λ (x : OpenNode). c.args.waiting.now.items ++ x ∷ []) c.left_at.ensures))
+    (cc (c.in_ok-push.ensures.items, c.left_at.ensures)))

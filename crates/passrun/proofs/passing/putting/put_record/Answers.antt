@@ -1,4 +1,3 @@
-use Rattle.std.proofs.Common.{Err, ap}
 use Rattle.std.proofs.lemmas.Result.{err_from_is_err_and}
 use Rattle.treefile.specs.records.TreeFile.{body_of, version_two}
 use Rattle.treefile.proofs.framing.Beginning.{one_added, one_refused}
@@ -13,8 +12,8 @@ returns-in_err-put_carried-clause-left g c =
     rw p.1
     (λ h. one_refused RunFault (g.E.Device.content c.args.to.now) (g.E.Device.content c.put_carried.new.device)
     (body_of c.args.kind c.args.number c.args.values.now) c.in_err-put_carried.field-0.0 p.0 sound
-    (λ failed. c.in_err-put_carried.ensures.device (ap Err failed) h)
-    (λ resource. c.in_err-put_carried.ensures.memory (ap Err resource) h))
+    (λ failed. c.in_err-put_carried.ensures.device (cc) h)
+    (λ resource. c.in_err-put_carried.ensures.memory (cc) h))
 
 pub returns-clause-added : goal.returns-clause-added
 returns-clause-added g c = λ h.

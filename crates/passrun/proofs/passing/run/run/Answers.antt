@@ -26,7 +26,7 @@ loop-next-preserved g c =
           λ h. added RunFault (g.E.Device.content c.args.to.now) (g.E.Device.content c.loop-next.to)
           (g.E.Device.content c.step.new.to) (Ok tt) (old.added (next.devices.second.honest h)) (next.added h);
       meter = omega arith;
-      begun = next.begun ∙ old.begun;
+      begun = cc;
       content = λ h. next.content h ∙ old.content (next.devices.first.honest h);
       from_persists = persists_on _ _ _ _ _ _ old.from_persists next.devices.first;
       to_persists = persists_on _ _ _ _ _ _ old.to_persists next.devices.second;

@@ -35,7 +35,7 @@ put_record-requires-clause-well g c =
     let w =
     (whole_of (setting c.args.context.now) c.requires.context.sound c.args.self.now (Some c.args.node) c.requires.runs).1 in
     All-same IsWell c.following-values.result.now (drop c.args.node.base c.args.self.now.values.items)
-    (c.following-values.ensures ∙ ap (drop c.args.node.base) c.as_slice.ensures.value)
+    (cc)
     (All-drop IsWell c.args.node.base c.args.self.now.values.items w)
 
 pub put_record-requires-clause-room : goal.put_record-requires-clause-room
@@ -87,7 +87,7 @@ returns-clause-runs g c =
     (g.E.Device.content c.put_record.new.to) c.args.node c.in-Some.outer c.place-row.result
     c.following-values.result.now (c.in-Some.outer.base + c.place-row.result.start)
     c.requires.runs c.requires.next c.in-Some.ensures.items c.place-row.ensures refl
-    (c.following-values.ensures ∙ ap (drop c.args.node.base) c.as_slice.ensures.value) c.in_ok-put_record.ensures.put refl
+    (cc) c.in_ok-put_record.ensures.put refl
     c.move_copies.ensures)
 
 pub returns-clause-less : goal.returns-clause-less

@@ -3,7 +3,6 @@ use Rattle.std.proofs.lemmas.List.{take_at}
 use Rattle.std.proofs.lemmas.Result.{err_from_is_err_and}
 use Rattle.passrun.specs.Damage.{IsDamaged, source}
 use Rattle.pass_rows.specs.layouts.Contexts.{setting}
-use Rattle.pass_rows.specs.Places.{kept_values}
 use Rattle.passrun.proofs.Refusing.{get_differs, get_refused, read_row}
 use Rattle.passrun.proofs.steps.Supposed.{from_supposed, leads_from}
 use Rattle.passrun.proofs.steps.MachineSteps.{got_place, got_leads, has_agreed, item_within}
@@ -83,8 +82,8 @@ returns-then-not-matches_copy-clause-refused g c = λ honest.
     (from_supposed context (g.D.Device.is_honest c.args.from.now) (g.D.Device.is_honest c.fetch.new.from) content m
     (Some c.args.node) c.in_ok-number.ensures.persists.honest c.requires.runs) c.requires.next c.place-row.ensures
     (omega (arith, m.waiting.ok.0)) c.in_ok-number.ensures.fetched c.matches_copy.ensures
-    (λ yes. let z = sym c.if-not-matches_copy.true ∙ yes in cc) (ap (drop copied) c.as_slice.ensures.value)
-    (ap (drop c.len-start.result) c.as_slice.ensures.value) refl start honest)
+    (λ yes. let z = sym c.if-not-matches_copy.true ∙ yes in cc) (cc)
+    (cc) refl start honest)
 
 pub returns-clause-runs : goal.returns-clause-runs
 returns-clause-runs g c =
@@ -98,7 +97,7 @@ returns-clause-runs g c =
     let start : c.len-start.result ≡ length m.values.items = omega (arith, m.values.ok.0) in
     let more = read_row context row.item c.in_ok-number.number h.body m.values.items read h.taken in
     let old : take c.len-start.result read ≡ m.values.items =
-    ap (take c.len-start.result) more.1 ∙ take_at m.values.items more.0 c.len-start.result (sym start) in
+    cc (take_at m.values.items more.0 c.len-start.result (sym start)) in
     leads_from context (g.D.Device.is_honest c.args.from.now) (g.D.Device.is_honest c.fetch.new.from)
     (g.D.Device.content c.args.from.now) (g.D.Device.content c.fetch.new.from) m _
     (Some c.args.node) _ c.in_ok-number.ensures.persists.honest
@@ -110,9 +109,9 @@ returns-clause-runs g c =
     (λ q there begins. has_agreed context q c.args.node c.args.place row.item c.in_ok-number.number h.body m.values.items read
     (drop copied vs) (drop c.len-start.result vs) copied c.len-start.result c.matches_copy.result h.taken
     c.matches_copy.ensures c.if-not-matches_copy.false
-    (ap (drop copied) c.as_slice.ensures.value) (ap (drop c.len-start.result) c.as_slice.ensures.value)
-    (ap (λ n. c.args.node.base + n) begins) start)
-    (c.truncate_row.ensures ∙ ap (λ vs. kept_values row.item vs read) old) refl c.in_ok-number.ensures.content
+    (cc) (cc)
+    (cc) start)
+    (cc) refl c.in_ok-number.ensures.content
     c.after_step.ensures)
 
 pub returns-clause-less : goal.returns-clause-less

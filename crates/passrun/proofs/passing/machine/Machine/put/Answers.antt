@@ -1,4 +1,4 @@
-use Rattle.std.proofs.Common.{ap, refl, ◌∙◌, ◌+◌, drop, take, length, arith}
+use Rattle.std.proofs.Common.{ap, refl, ◌+◌, drop, take, length, arith}
 use Rattle.std.proofs.lemmas.List.Elements.{All-drop, All-take, All-same}
 use Rattle.ag_value.specs.Well.{IsWell}
 use Rattle.pass_rows.specs.layouts.Contexts.{setting}
@@ -39,7 +39,7 @@ put_record-requires-clause-well g c =
     (whole_of (setting c.args.context.now) c.requires.context.sound c.args.self.now (Some c.args.node) c.requires.runs).1 in
     let text = c.args.node.base + c.place-row.result.start in
     All-same IsWell c.single_value-values.result.now (take 1 (drop text c.args.self.now.values.items))
-    (c.single_value-values.ensures ∙ ap (λ vs. take 1 (drop text vs)) c.as_slice.ensures.value)
+    (cc)
     (All-take IsWell 1 (drop text c.args.self.now.values.items) (All-drop IsWell text c.args.self.now.values.items w))
 
 pub put_record-requires-clause-room : goal.put_record-requires-clause-room
@@ -57,7 +57,7 @@ returns-clause-runs g c =
     (g.E.Device.content c.put_record.new.to) c.args.node c.after_step-2.result c.args.place c.place-row.result
     c.in-Terminal.field-0 c.single_value-values.result.now
     c.requires.runs c.requires.next c.place-row.ensures c.in-Terminal.is
-    (c.single_value-values.ensures ∙ ap (λ vs. take 1 (drop text vs)) c.as_slice.ensures.value) c.in_ok-put_record.ensures.put
+    (cc) c.in_ok-put_record.ensures.put
     refl c.after_step-2.ensures)
 
 pub returns-clause-less : goal.returns-clause-less

@@ -1,4 +1,4 @@
-use Rattle.std.proofs.Common.{Some, drop, get_or, slice_index, pos, ◌∙◌, refl, sym, arith}
+use Rattle.std.proofs.Common.{Some, drop, get_or, slice_index, pos, refl, arith}
 use Rattle.ag_grammar.specs.expressions.Evaluation.{value_of}
 use Rattle.ag_value.specs.declared.value.Value.{Num}
 use Rattle.pass_rows.specs.layouts.Contexts.{setting}
@@ -35,8 +35,7 @@ put_rule_value-requires-clause-slots c =
     slots_found context c.args.node.production c.args.rule c.index-productions-node.result c.index-as_slice-rule.result
     c.row-layout.result.now c.as_slice-2.result.now c.index-as_slice-rule-2.result
     (c.row-layout.ensures c.index-productions-node.result h.there) h.numbered c.as_slice-2.ensures
-    c.index-as_slice-rule-2.is in
-    sym are.args.equally_long ∙ sym h.occurrences
+    c.index-as_slice-rule-2.is in cc
 
 pub put_rule_value-requires-clause-well : goal.put_rule_value-requires-clause-well
 put_rule_value-requires-clause-well c =

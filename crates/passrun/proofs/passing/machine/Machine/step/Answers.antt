@@ -1,4 +1,4 @@
-use Rattle.std.proofs.Common.{Some, refl, inl, inr, ap, ◌∙◌}
+use Rattle.std.proofs.Common.{refl, inl, inr}
 use Rattle.passcode.specs.declared.instr.Instr.TheVariants as instr
 use Rattle.std.proofs.Common.{Err}
 use Rattle.std.proofs.lemmas.Result.{err_from_is_err_and}
@@ -11,8 +11,8 @@ pub run_rule-requires-clause-next : goal.run_rule-requires-clause-next
 run_rule-requires-clause-next g c =
     let there = c.instruction.ensures.there in
     elim c.in-Set.is [
-      | inl set ↦ (set.0, set.1, instr.Set set.0 set.1 c.in-Set.rule, inl refl, there ∙ ap Some set.2)
-      | inr def ↦ (0, def.0, instr.Def def.0 c.in-Set.rule, inr (refl, refl), there ∙ ap Some def.1)
+      | inl set ↦ (set.0, set.1, instr.Set set.0 set.1 c.in-Set.rule, inl refl, cc)
+      | inr def ↦ (0, def.0, instr.Def def.0 c.in-Set.rule, inr (refl, refl), cc)
     ]
 
 pub returns-in-Put-clause-runs : goal.returns-in-Put-clause-runs
