@@ -37,25 +37,26 @@ leaves_on s d (first ∷ bodies) body level x ys [] left h le is = elim h [ ]
 leaves_on s d (first ∷ bodies) body level x ys (y ∷ todo) left h le is =
     (h.0, h.1, h.2, leaves_on s d bodies body level x ys (before_others d (suc y.0) h.0 todo) left h.3 le is)
 
--- The children still to be read after some bodies are those of reading up to that offset.
-continues_on : (s : Source) (content : List ℕ) (bodies : List (List ℕ)) (at count start : ℕ) (todo left : Pending)
-    → IsNumbered s.grammar → ReadSoFar s.version s.grammar s.passes s.pass content at count todo
-    → ReadsTo s.version content at bodies start
-    → Leaves s (other (direction_of s.pass)) todo bodies left
-    → ReadSoFar s.version s.grammar s.passes s.pass content start (count + length bodies) left
-continues_on s content [] at count start todo left few arrival read h =
-    let same : count ≡ count + length {A = List ℕ} [] = omega arith in
-    subst (λ (t : Pending). ReadSoFar s.version s.grammar s.passes s.pass content start (count + 0) t) h
-    (subst (λ a. ReadSoFar s.version s.grammar s.passes s.pass content a (count + 0) todo) read
-    (subst (λ n. ReadSoFar s.version s.grammar s.passes s.pass content at n todo) same arrival))
-continues_on s content (body ∷ bodies) at count start [] left few arrival read h = elim h [ ]
-continues_on s content (body ∷ bodies) at count start ((level, x) ∷ todo) left few arrival read h =
-    let on =
-    reading_continues s.version s.grammar s.passes s.pass content body at count level x h.0 todo few arrival read.0 h.2 in
-    let sum : suc count + length bodies ≡ count + suc (length bodies) = omega arith in
-    subst (λ n. ReadSoFar s.version s.grammar s.passes s.pass content start n left) sum
-    (continues_on s content bodies (before_frame at body) (suc count) start
-    (before_others (other (direction_of s.pass)) (suc level) h.0 todo) left few on read.1 h.3)
+-- The content was read from its end to the offset `at`, for `count` bodies, with the children `todo` still to be read.
+abbrev HasReadFar : Source → List ℕ → (at count : ℕ) → Pending → Type 0
+HasReadFar s content at count todo = ReadSoFar s.version s.grammar s.passes s.pass content at count todo
+
+module _ (s : Source) (content : List ℕ) (few : IsNumbered s.grammar) {start : ℕ} (left : Pending) where
+  -- The children still to be read after some bodies are those of reading up to that offset.
+  continues_on : (bodies : List (List ℕ)) (at count : ℕ) (todo : Pending) → HasReadFar s content at count todo
+      → ReadsTo s.version content at bodies start → Leaves s (other (direction_of s.pass)) todo bodies left
+      → HasReadFar s content start (count + length bodies) left
+  continues_on [] at count todo arrival read h =
+      let same : count + 0 ≡ count = omega arith in
+      rw same (subst (HasReadFar s content start count) h (subst (λ a. HasReadFar s content a count todo) read arrival))
+  continues_on (body ∷ bodies) at count [] arrival read h = elim h [ ]
+  continues_on (body ∷ bodies) at count ((level, x) ∷ todo) arrival read h =
+      let on =
+      reading_continues s.version s.grammar s.passes s.pass content body at count level x h.0 todo few arrival read.0 h.2 in
+      let sum : count + suc (length bodies) ≡ suc count + length bodies = omega arith in
+      rw sum
+      (continues_on bodies (before_frame at body) (suc count)
+      (before_others (other (direction_of s.pass)) (suc level) h.0 todo) on read.1 h.3)
 
 -- Reading stops for a fault (the last argument) at the offset `at`, after `count` bodies, with the children `todo` still to be
 -- read: it finds damage there, or a limit is exceeded.
@@ -106,50 +107,43 @@ never_stops s content body at count level x ys todo fault.Device le less found i
 never_stops s content body at count level x ys todo fault.NoMemory le less found is stops = stops
 
 -- Reading from one offset stops for at most one fault, wherever it stops.
-one_stop : (s : Source) (content : List ℕ) (bodies others : List (List ℕ)) (from at there count : ℕ) (todo left rest : Pending)
-    (e f : RunFault) → IsNumbered s.grammar → ReadsTo s.version content from bodies at
-    → ReadsTo s.version content from others there
-    → Leaves s (other (direction_of s.pass)) todo bodies left → Leaves s (other (direction_of s.pass)) todo others rest
-    → count + length bodies ≤ s.nodes → count + length others ≤ s.nodes
-    → Stops s content at (count + length bodies) left e → Stops s content there (count + length others) rest f → e ≡ f
-one_stop s content [] [] from at there count todo left rest e f few read read' h h' most most' stops stops' =
-    same_stop s content at (count + 0) left e f stops
-    (subst (λ n. Stops s content n (count + 0) left f) (sym read' ∙ read)
-    (subst (λ (t : Pending). Stops s content there (count + 0) t f) (cc) stops'))
-one_stop s content (body ∷ bodies) others from at there count [] left rest e f few read read' h h' most most' stops stops' =
-    elim h [ ]
-one_stop s content [] (another ∷ others) from at there count [] left rest e f few read read' h h' most most' stops stops' =
-    elim h' [ ]
-one_stop s content [] (another ∷ others) from at there count
-    ((level, x) ∷ todo) left rest e f few read read' h h' most most' stops stops' =
-    let here : Stops s content from (count + 0) ((level, x) ∷ todo) e =
-    subst (λ n. Stops s content n (count + 0) ((level, x) ∷ todo) e) (sym read)
-    (subst (λ (t : Pending). Stops s content at (count + 0) t e) (sym h) stops) in
-    absurd (never_stops s content another from (count + 0) level x h'.0 todo e h'.1 (omega arith) read'.0 h'.2 here)
-one_stop s content (body ∷ bodies) [] from at there count
-    ((level, x) ∷ todo) left rest e f few read read' h h' most most' stops stops' =
-    let here : Stops s content from (count + 0) ((level, x) ∷ todo) f =
-    subst (λ n. Stops s content n (count + 0) ((level, x) ∷ todo) f) (sym read')
-    (subst (λ (t : Pending). Stops s content there (count + 0) t f) (sym h') stops') in
-    absurd (never_stops s content body from (count + 0) level x h.0 todo f h.1 (omega arith) read.0 h.2 here)
-one_stop s content (body ∷ bodies) (another ∷ others) from at there count
-    ((level, x) ∷ todo) left rest e f few read read' h h' most most' stops stops' =
-    let next = before_others (other (direction_of s.pass)) (suc level) h.0 todo in
-    let found : Ok (Some another) ≡ Ok (Some body) = sym read'.0 ∙ read.0 in
-    let same : another ≡ body = cc in
-    let items : h'.0 ≡ h.0 =
-    one_record s.version s.grammar s.passes s.pass x body h'.0 h.0 few
-    (subst (λ (b : List ℕ). IsRecordOf s.version s.grammar s.passes s.pass x b h'.0) same h'.2) h.2 in
-    let sum : count + suc (length bodies) ≡ suc count + length bodies = omega arith in
-    let sum' : count + suc (length others) ≡ suc count + length others = omega arith in
-    one_stop s content bodies others (before_frame from body) at there (suc count) next left rest e f few read.1
-    (subst (λ (b : List ℕ). ReadsTo s.version content (before_frame from b) others there) same read'.1)
-    h.3
-    (subst
-    (λ (ys : List Child). Leaves s (other (direction_of s.pass))
-    (before_others (other (direction_of s.pass)) (suc level) ys todo) others rest) items h'.3) (omega arith)
-    (omega arith)
-    (subst (λ n. Stops s content at n left e) sum stops) (subst (λ n. Stops s content there n rest f) sum' stops')
+module _ (s : Source) (content : List ℕ) (few : IsNumbered s.grammar) (at there : ℕ) (left rest : Pending) {e f : RunFault} where
+  one_stop : (bodies others : List (List ℕ)) (from count : ℕ) (todo : Pending) → ReadsTo s.version content from bodies at
+      → ReadsTo s.version content from others there
+      → Leaves s (other (direction_of s.pass)) todo bodies left → Leaves s (other (direction_of s.pass)) todo others rest
+      → count + length bodies ≤ s.nodes → count + length others ≤ s.nodes
+      → Stops s content at (count + length bodies) left e → Stops s content there (count + length others) rest f → e ≡ f
+  one_stop [] [] from count todo read read' h h' most most' stops stops' =
+      same_stop s content at (count + 0) left e f stops
+      (subst (λ n. Stops s content n (count + 0) left f) (sym read' ∙ read)
+      (subst (λ (t : Pending). Stops s content there (count + 0) t f) (cc) stops'))
+  one_stop (body ∷ bodies) others from count [] read read' h h' most most' stops stops' = elim h [ ]
+  one_stop [] (another ∷ others) from count [] read read' h h' most most' stops stops' = elim h' [ ]
+  one_stop [] (another ∷ others) from count ((level, x) ∷ todo) read read' h h' most most' stops stops' =
+      let here : Stops s content from (count + 0) ((level, x) ∷ todo) e =
+      subst (λ n. Stops s content n (count + 0) ((level, x) ∷ todo) e) (sym read)
+      (subst (λ (t : Pending). Stops s content at (count + 0) t e) (sym h) stops) in
+      absurd (never_stops s content another from (count + 0) level x h'.0 todo e h'.1 (omega arith) read'.0 h'.2 here)
+  one_stop (body ∷ bodies) [] from count ((level, x) ∷ todo) read read' h h' most most' stops stops' =
+      let here : Stops s content from (count + 0) ((level, x) ∷ todo) f =
+      subst (λ n. Stops s content n (count + 0) ((level, x) ∷ todo) f) (sym read')
+      (subst (λ (t : Pending). Stops s content there (count + 0) t f) (sym h') stops') in
+      absurd (never_stops s content body from (count + 0) level x h.0 todo f h.1 (omega arith) read.0 h.2 here)
+  one_stop (body ∷ bodies) (another ∷ others) from count ((level, x) ∷ todo) read read' h h' most most' stops stops' =
+      let found : Ok (Some another) ≡ Ok (Some body) = sym read'.0 ∙ read.0 in
+      let same : another ≡ body = cc in
+      let items : h'.0 ≡ h.0 =
+      one_record s.version s.grammar s.passes s.pass x body h'.0 h.0 few
+      (subst (λ (b : List ℕ). IsRecordOf s.version s.grammar s.passes s.pass x b h'.0) same h'.2) h.2 in
+      let sum : count + suc (length bodies) ≡ suc count + length bodies = omega arith in
+      let sum' : count + suc (length others) ≡ suc count + length others = omega arith in
+      one_stop bodies others (before_frame from body) (suc count)
+      (before_others (other (direction_of s.pass)) (suc level) h.0 todo) read.1
+      (subst (λ (b : List ℕ). ReadsTo s.version content (before_frame from b) others there) same read'.1) h.3
+      (subst
+      (λ (ys : List Child). Leaves s (other (direction_of s.pass))
+      (before_others (other (direction_of s.pass)) (suc level) ys todo) others rest) items h'.3) (omega arith)
+      (omega arith) (subst (λ n. Stops s content at n left e) sum stops) (subst (λ n. Stops s content there n rest f) sum' stops')
 
 -- If reading the header fails, the content does not begin as a tree file.
 no_file : (is : Bool) (pass : ℕ) (f : FrameFault) → (if is then Ok pass else Err frame_fault.NotATreeFile) ≡ Err f
@@ -157,9 +151,9 @@ no_file : (is : Bool) (pass : ℕ) (f : FrameFault) → (if is then Ok pass else
 no_file true pass f e = absurd cc
 no_file false pass f e = (refl, cc)
 
-is_file : (is : Bool) (pass n : ℕ) → (if is then Ok pass else Err frame_fault.NotATreeFile) ≡ Ok n → (is ≡ true) × (pass ≡ n)
-is_file true pass n e = (refl, cc)
-is_file false pass n e = absurd cc
+is_file : (is : Bool) {pass n : ℕ} → (if is then Ok pass else Err frame_fault.NotATreeFile) ≡ Ok n → (is ≡ true) × (pass ≡ n)
+is_file true e = (refl, cc)
+is_file false e = absurd cc
 
 -- A source is usable: a record has room for the number of each production, files of the version can be read, and no
 -- record has more values than the version allows.
@@ -169,25 +163,24 @@ pub record IsDecidable (s : Source) : Type 0 where
   pub fits : FitsVersion s.version s.grammar s.passes
 
 -- The source of a pass is usable.
-pub decidable : (c : Setting) → IsSound c → IsDecidable (source c)
-decidable c sound =
+pub decidable : {c : Setting} → IsSound c → IsDecidable (source c)
+decidable {c} sound =
     let fits = fits_version_two c.grammar c.passes sound.accepted sound.legal in
     record { few = fits.0; usable = version_two_usable; fits = fits.1 }
 
 module _ (s : Source) (sound : IsDecidable s) where
   -- If reading arrives at an offset (`ArrivesAt`), it has read so far in the words of treefile (`ReadSoFar`).
-  pub way_to : (content : List ℕ) (at : ℕ) (todo : Pending) (h : ArrivesAt s content at todo)
-      → ReadSoFar s.version s.grammar s.passes s.pass content at (length h.bodies) todo
-  way_to content at todo h =
+  pub way_to : {content : List ℕ} {at : ℕ} {todo : Pending} (h : ArrivesAt s content at todo)
+      → HasReadFar s content at (length h.bodies) todo
+  way_to {content} {at} {todo} h =
       let begins = reading_begins s.version s.grammar s.passes s.pass content sound.usable sound.fits in
-      let sum : 0 + length h.bodies ≡ length h.bodies = omega arith in
-      subst (λ n. ReadSoFar s.version s.grammar s.passes s.pass content at n todo) sum
-      (continues_on s content h.bodies (length content) 0 at (pending_root s.grammar) todo sound.few begins h.read h.records)
+      let sum : length h.bodies ≡ 0 + length h.bodies = omega arith in
+      rw sum (continues_on s content sound.few todo h.bodies (length content) 0 (pending_root s.grammar) begins h.read h.records)
 
   -- The content is the file of no tree if reading meets damage.
   pub broken : (content : List ℕ) (at : ℕ) → IsReadable s content → BreaksAt s content at → IsDamaged s content at
   broken content at readable h = record {
-    none = way_breaks s.version s.grammar s.passes s.pass content at (length h.1.bodies) h.0 (way_to content at h.0 h.1) h.3;
+    none = way_breaks s.version s.grammar s.passes s.pass content at (length h.1.bodies) h.0 (way_to h.1) h.3;
     shown = inr (inr (readable, h));
   }
 
@@ -196,8 +189,7 @@ module _ (s : Source) (sound : IsDecidable s) where
   too_deep content h = record {
     none =
         λ nodes. reading_is_too_long s.version s.grammar s.passes s.pass content h.at
-        (length h.arrival.bodies) h.level s.depth nodes h.next h.others
-        (way_to content h.at ((h.level, h.next) ∷ h.others) h.arrival) (inl h.deep);
+        (length h.arrival.bodies) h.level s.depth nodes h.next h.others (way_to h.arrival) (inl h.deep);
     shown = h;
   }
 
@@ -207,8 +199,7 @@ module _ (s : Source) (sound : IsDecidable s) where
       record {
         none =
             λ depth. reading_is_too_long s.version s.grammar s.passes s.pass content h.at
-            (length h.arrival.bodies) h.level depth s.nodes h.next h.others
-            (way_to content h.at ((h.level, h.next) ∷ h.others) h.arrival) (inr (omega arith));
+            (length h.arrival.bodies) h.level depth s.nodes h.next h.others (way_to h.arrival) (inr (omega arith));
         shown = h;
       }
 
@@ -221,8 +212,8 @@ module _ (s : Source) (sound : IsDecidable s) where
         record {
           none = λ t v tree file.
               let begun : is_tree_file s.version content ≡ true =
-              cc (begins s.version s.pass (flat_map frame (postfix (direction_of s.pass) (bodies_of s.version s.grammar s.passes
-              s.pass t v))) sound.usable) in
+              cc (begins s.version s.pass (flat_map frame (postfix (direction_of s.pass)
+              (bodies_of s.version s.grammar s.passes s.pass t v))) sound.usable) in
               let not_true : false ≡ true = cc in
               cc;
           shown = inl (is.0, refl);
@@ -233,7 +224,7 @@ module _ (s : Source) (sound : IsDecidable s) where
   pub other_pass : (content : List ℕ) (pass : ℕ) → s.pass < 2 ^ 16 → pass_in s.version content ≡ Ok pass → pass ≢ s.pass
       → IsDamaged s content 4
   other_pass content pass small exact not =
-      let is = is_file (is_tree_file s.version content) (pass_of content) pass exact in
+      let is = is_file (is_tree_file s.version content) exact in
       let otherwise : pass_of content ≢ s.pass = λ same. not (cc) in
       record {
         none = no_file_has_no_tree s.version s.grammar s.passes s.pass content sound.usable small (λ both. otherwise both.1);
@@ -243,7 +234,7 @@ module _ (s : Source) (sound : IsDecidable s) where
   -- The content can be read if it is a tree file of the source's pass.
   pub readable : (content : List ℕ) (pass : ℕ) → pass_in s.version content ≡ Ok pass → pass ≡ s.pass → IsReadable s content
   readable content pass exact same =
-      let is = is_file (is_tree_file s.version content) (pass_of content) pass exact in
+      let is = is_file (is_tree_file s.version content) exact in
       record { begins = is.0; number = cc }
 
 -- ---- at most one fault shows
@@ -291,6 +282,7 @@ shows_once s content e f accepted one another = go (somewhere s content e one) (
         let most' = second.few in
         let sum : length first.bodies ≡ 0 + length first.bodies = omega arith in
         let sum' : length second.bodies ≡ 0 + length second.bodies = omega arith in
-        one_stop s content first.bodies second.bodies (length content) a.1.1 b.1.1 0 (pending_root s.grammar) a.1.0 b.1.0 e f
-        (numbered s.grammar accepted) first.read second.read first.records second.records (omega arith) (omega arith)
+        one_stop s content (numbered s.grammar accepted) a.1.1 b.1.1 a.1.0 b.1.0 first.bodies second.bodies (length content) 0
+        (pending_root s.grammar)
+        first.read second.read first.records second.records (omega arith) (omega arith)
         (subst (λ n. Stops s content a.1.1 n a.1.0 e) sum a.1.3) (subst (λ n. Stops s content b.1.1 n b.1.0 f) sum' b.1.3)

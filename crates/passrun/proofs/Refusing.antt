@@ -2,7 +2,7 @@
 use Rattle.std.specs.Option.{option_map}
 use Rattle.std.specs.Prelude.{IsTrue}
 use Rattle.std.proofs.Common.{ℕ, suc, ◌≡◌, ◌+◌, ◌-◌, Bool, true, List, [], ◌∷◌, ◌++◌, Option, Some, None, Ok, Err, is_some, Bor}
-use Rattle.std.proofs.Common.{slice_get, length, drop, reverse, refl, ap, ◌∙◌, sym, subst, arith}
+use Rattle.std.proofs.Common.{length, drop, reverse, refl, ap, ◌∙◌, sym, subst, arith}
 use Rattle.std.proofs.lemmas.List.{length-reverse}
 use Rattle.ag_grammar.specs.declared.grammar.Item.{Item}
 use Rattle.ag_grammar.specs.declared.grammar.Item.TheVariants as item
@@ -20,7 +20,7 @@ use Rattle.treefile.specs.records.Records.{values_up_to}
 use Rattle.treefile.proofs.framing.Backward.{damage_is_there, never_no_file}
 use Rattle.backreader.specs.BackState.{BackState}
 use Rattle.passcode.specs.declared.instr.Instr.TheVariants as instr
-use Rattle.passcode.specs.Settings.{Setting, list_at}
+use Rattle.passcode.specs.Settings.{Setting}
 use Rattle.passcode.specs.Sound.{IsSound}
 use Rattle.pass_rows.specs.declared.layouts.building.PlaceRow.{PlaceRow}
 use Rattle.passrun.specs.declared.passing.machine.Machine.{Machine}
@@ -36,7 +36,7 @@ use Rattle.pass_rows.specs.reading.Reading.{Agrees, IsRead, read_values}
 use Rattle.passrun.specs.passing.Running.{RunsFrom}
 use Rattle.passrun.proofs.course.Ahead.{disagreed, unfetched}
 use Rattle.passrun.proofs.Damage.{broken, decidable, unstarted}
-use Rattle.passrun.proofs.steps.Steps.{get_first}
+use Rattle.passrun.proofs.steps.Steps.{IsNext, get_first}
 use Rattle.passrun.proofs.steps.MachineSteps.{Answers, begins_so, got_place}
 
 -- If a returned option is `Some`, it has a body.
@@ -68,17 +68,15 @@ read_row c (item.Symbol s) p body old new h =
 read_row c (item.Terminal (Class d)) p body old new h = (Text h.1.text ∷ [], h.1.row)
 read_row c (item.Terminal (Literal l)) p body old new h = elim h [ ]
 
-module _ (c : Setting) (sound : IsSound c) where
+module _ {c : Setting} (sound : IsSound c) where
   -- At a `Get`, the child is the first to be read (`FirstCome`).
-  first_come : (honest : Bool) (content : List ℕ) (m : Machine) (x : OpenNode) (j : ℕ) (row : PlaceRow)
-      → RunsFrom c honest content m (Some x) → slice_get (list_at c x.production) x.at ≡ Some (instr.Get j)
+  first_come : {honest : Bool} {content : List ℕ} {m : Machine} {x : OpenNode} {j : ℕ} {row : PlaceRow}
+      → RunsFrom c honest content m (Some x) → IsNext c x (instr.Get j)
       → Answers c x j (Some row) → honest ≡ true → FirstCome c content m x j row
-  first_come honest content m x j row (to_honest, to, meter, r) at is w =
+  first_come {m} {x} {row} (to_honest, to, meter, r) at is w =
       let xs = reverse m.waiting.items in
-      let i = got_place c sound honest content m x j row (to_honest, to, meter, r) at is in
-      let first =
-      get_first c sound m.root x xs m.values.items r.running.transcript
-      (meter - m.begun) r.running.todo j i.production row.item at i.there i.occurs r.running.invariant in
+      let i = got_place (to_honest, to, meter, r) at is in
+      let first = get_first sound m.root xs (record { next = at; there = i.there; occurs = i.occurs }) r.running.invariant in
       let l = length-reverse m.waiting.items in
       let level : suc (suc (length xs)) ≡ suc (length m.waiting.items + 1) = omega arith in
       record {
@@ -98,28 +96,28 @@ module _ (c : Setting) (sound : IsSound c) where
         found = λ more. let z = first.3 more in (z.0, cc);
       }
 
-  pub get_refused : (honest : Bool) (content : List ℕ) (m : Machine) (x : OpenNode) (j n : ℕ) (row : PlaceRow) (f : RunFault)
-      → RunsFrom c honest content m (Some x) → slice_get (list_at c x.production) x.at ≡ Some (instr.Get j)
+  pub get_refused : {honest : Bool} {content : List ℕ} {m : Machine} {x : OpenNode} {j n : ℕ} {row : PlaceRow} (f : RunFault)
+      → RunsFrom c honest content m (Some x) → IsNext c x (instr.Get j)
       → Answers c x j (Some row) → n ≡ length m.waiting.items + 1
       → WhenHonest honest (IsUnfetched c row.item n content m.back f) → WhenHonest honest (IsRunFault c content f)
-  get_refused honest content m x j n row f runs at is count h w =
-      let z = first_come honest content m x j row runs at is w in
-      unfetched c sound row.item (Some (values_up_to c.read (copied_passes c row.item) z.values))
-      (length m.waiting.items + 1) content m.back z.left f z.readable z.here z.count
+  get_refused {content} {m} {n} {row} f runs at is count h w =
+      let z = first_come runs at is w in
+      unfetched sound (Some (values_up_to c.read (copied_passes c row.item) z.values))
+      (length m.waiting.items + 1) m.back z.left f z.readable z.here z.count
       (subst (λ n. IsUnfetched c row.item n content m.back f) count (h w))
 
   -- If the record of a child does not agree with the child's copy, the content is damaged.
-  pub get_differs : (honest : Bool) (content : List ℕ) (m : Machine) (x : OpenNode) (j p n : ℕ) (row : PlaceRow)
-      (back : BackState) (read ours theirs : List Value) (from start : ℕ) (answer : Bool) → RunsFrom c honest content m (Some x)
-      → slice_get (list_at c x.production) x.at ≡ Some (instr.Get j) → Answers c x j (Some row)
+  pub get_differs : {honest : Bool} {content : List ℕ} {m : Machine} {x : OpenNode} {j p n : ℕ} {row : PlaceRow}
+      {back : BackState} {read ours theirs : List Value} {from start : ℕ} (answer : Bool) → RunsFrom c honest content m (Some x)
+      → IsNext c x (instr.Get j) → Answers c x j (Some row)
       → n ≡ length m.waiting.items + 1
       → HasFetched c row.item p n honest content m.back back m.values.items read → Agrees c row.item ours theirs answer
       → (IsTrue answer → ⊥) → ours ≡ drop from read → theirs ≡ drop start read → from ≡ x.base + row.start
       → start ≡ length m.values.items
       → WhenHonest honest (IsDamaged (source c) content m.back.progress.at)
-  get_differs honest content m x j p n row back read ours theirs from start answer runs at is level h agrees not_true ours_are
+  get_differs {m} {x} {p} {n} {row} {read} {start} answer runs at is level h agrees not_true ours_are
       theirs_are from_is start_is w =
-      let z = first_come honest content m x j row runs at is w in
+      let z = first_come runs at is w in
       let back_row = begins_so c row.item p h.body m.values.items read h.taken in
       let more = read_row c row.item p h.body m.values.items read h.taken in
       let found = z.found more.0 in
@@ -130,33 +128,32 @@ module _ (c : Setting) (sound : IsSound c) where
       let other =
       agrees z.values (read_values c row.item p h.body m.values.items read h.taken) found.0 back_row.0 prefix
       (cc) in
-      disagreed c sound row.item p (suc (length m.waiting.items + 1)) content h.body m.back.progress.at z.left m.values.items read
+      disagreed sound p m.values.items read
       h.taken z.values (λ same. not_true (other.1 same)) z.readable z.here (omega arith) (omega arith) (h.found w)
 
   -- If reading the header fails, the fault is true of the content: it does not begin as a tree file.
   pub not_started : (content : List ℕ) (view : BackState → ℕ) (f : FrameFault)
       → ReadsAs view (Err f) (pass_in version_two content) → IsRunFault c content (run_fault_of_frame f)
   not_started content view frame_fault.NotATreeFile exact =
-      (unstarted (source c) (decidable c sound) content frame_fault.NotATreeFile exact).1
+      (unstarted (source c) (decidable sound) content frame_fault.NotATreeFile exact).1
   not_started content view (frame_fault.Damaged at) exact =
-      absurd (let z = (unstarted (source c) (decidable c sound) content (frame_fault.Damaged at) exact).0 in cc)
+      absurd (let z = (unstarted (source c) (decidable sound) content (frame_fault.Damaged at) exact).0 in cc)
   not_started content view frame_fault.Device exact = tt
   not_started content view frame_fault.NoMemory exact = tt
 
-  pub root_unfetched : (start : ℕ) (content : List ℕ) (state : BackState) (f : RunFault) → start ≡ c.grammar.start
+  pub root_unfetched : {start : ℕ} {content : List ℕ} (state : BackState) (f : RunFault) → start ≡ c.grammar.start
       → IsReadable (source c) content → state.progress.at ≡ length content → state.progress.records ≡ 0
       → IsUnfetched c (item.Symbol start) 0 content state f → IsRunFault c content f
-  root_unfetched start content state f is readable end fresh h =
+  root_unfetched {start} {content} state f is readable end fresh h =
       let here : ArrivesAt (source c) content state.progress.at ((1, (item.Symbol c.grammar.start, None)) ∷ []) =
       record { bodies = []; read = sym end; records = refl; few = omega arith } in
-      unfetched c sound (item.Symbol c.grammar.start) None 0 content state [] f readable here fresh
-      (subst (λ s. IsUnfetched c (item.Symbol s) 0 content state f) is h)
+      unfetched sound None 0 state [] f readable here fresh (subst (λ s. IsUnfetched c (item.Symbol s) 0 content state f) is h)
 
   -- If no child is to be read and a frame is left, the content is damaged.
-  pub left_over : (content : List ℕ) (at : ℕ) (body : List ℕ) → IsReadable (source c) content → ArrivesAt (source c) content at []
+  pub left_over : {content : List ℕ} {at : ℕ} {body : List ℕ} → IsReadable (source c) content → ArrivesAt (source c) content at []
       → next_before version_two content at ≡ Ok (Some body) → IsDamaged (source c) content at
-  left_over content at body readable here found =
-      broken (source c) (decidable c sound) content at readable
+  left_over {content} {at} readable here found =
+      broken (source c) (decidable sound) content at readable
       ([], here, tt, subst (Breaks version_two c.grammar c.passes c.read []) (sym found) tt)
 
   pub end_refused : (content : List ℕ) (at : ℕ) (view : Option (Bor (List ℕ)) → Option (List ℕ)) (f : FrameFault)
@@ -165,16 +162,16 @@ module _ (c : Setting) (sound : IsSound c) where
   end_refused content at view frame_fault.NotATreeFile readable here exact = absurd (never_no_file version_two content at exact)
   end_refused content at view (frame_fault.Damaged b) readable here exact =
       subst (IsDamaged (source c) content) (sym (damage_is_there version_two content at b exact))
-      (broken (source c) (decidable c sound) content at readable
+      (broken (source c) (decidable sound) content at readable
       ([], here, tt, subst (Breaks version_two c.grammar c.passes c.read []) (sym exact) tt))
   end_refused content at view frame_fault.Device readable here exact = tt
   end_refused content at view frame_fault.NoMemory readable here exact = tt
 
   -- When the root is done, no child is to be read.
-  pub end_come : (honest : Bool) (content : List ℕ) (to_honest : Bool) (to : List ℕ) (m : Machine)
+  pub end_come : {honest : Bool} {content : List ℕ} {to_honest : Bool} {to : List ℕ} {m : Machine}
       → RunsBetween c honest content to_honest to m None
       → WhenHonest honest (IsReadable (source c) content × ArrivesAt (source c) content m.back.progress.at [])
-  end_come honest content to_honest to m (meter, r) w = (
+  end_come (meter, r) w = (
     r.running.readable w,
     record {
       bodies = r.running.transcript.read;
@@ -184,10 +181,10 @@ module _ (c : Setting) (sound : IsSound c) where
     },
   )
 
-  pub end_version : (honest : Bool) (content : List ℕ) (to_honest : Bool) (to : List ℕ) (m : Machine)
+  pub end_version : {honest : Bool} {content : List ℕ} {to_honest : Bool} {to : List ℕ} {m : Machine}
       → RunsBetween c honest content to_honest to m None → m.back.progress.version ≡ version_two
-  end_version honest content to_honest to m (meter, r) = r.running.version
+  end_version (meter, r) = r.running.version
 
-  pub end_unbroken : (honest : Bool) (content : List ℕ) (to_honest : Bool) (to : List ℕ) (m : Machine)
+  pub end_unbroken : {honest : Bool} {content : List ℕ} {to_honest : Bool} {to : List ℕ} {m : Machine}
       → RunsBetween c honest content to_honest to m None → m.back.progress.fault ≡ None
-  end_unbroken honest content to_honest to m (meter, r) = r.running.unbroken
+  end_unbroken (meter, r) = r.running.unbroken

@@ -24,11 +24,11 @@ values_are_the_solution g m last start which a b evals sum accepted legal is h t
     run_is_the_solution g m t u run.values last accepted legal is tree run.ran
 
 -- From pass 1 on, the last file has the solution.
-pub solutions_left : (g : Grammar) (m : Passes) (k last : ℕ) (start : List ℕ) (which : Last) (a b : List ℕ) (evals : ℕ)
-    (sum : Passed)
+pub solutions_left : {g : Grammar} {m : Passes} {k last : ℕ} {start : List ℕ} {which : Last} {a b : List ℕ} {evals : ℕ}
+    {sum : Passed}
     → IsAccepted g → IsLegal g m → IsLastPass last m → k ≡ 0 → HasRunAll g m k last start which a b evals sum
     → LeavesSolutions g m last start (last_content which a b) (other_content which a b)
-solutions_left g m k last start which a b evals sum accepted legal is first ran t u tree file =
+solutions_left {g} {m} {last} {start} {which} {a} {b} {evals} {sum} accepted legal is first ran t u tree file =
     let all : HasRunAll g m 0 last start which a b evals sum =
     subst (λ n. HasRunAll g m n last start which a b evals sum) first ran in
     let run = all.runs t u tree file in (
@@ -42,7 +42,7 @@ solutions_left g m k last start which a b evals sum accepted legal is first ran 
 
 -- No attribute of a symbol has a later pass than the greatest number of the rows.
 row_within : (last : ℕ) (rows : List (List ℕ)) (s : ℕ) → AreAtMost last rows → Each (λ k. k ≤ last) (passes_of rows s)
-row_within last [] s most i k at = absurd (let none : None ≡ Some k = at in let bad : ⊥ = cc in bad)
+row_within last [] s most i k at = absurd (let none : None ≡ Some k = at in cc)
 row_within last (row ∷ rows) zero most i k at = most 0 row refl i k at
 row_within last (row ∷ rows) (suc s) most i k at = row_within last rows s (λ n r e. most (suc n) r e) i k at
 

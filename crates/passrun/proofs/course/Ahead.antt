@@ -92,11 +92,11 @@ no_record c (item.Terminal (Class d)) body copy none ys (text, fits, is, same, m
 no_record c (item.Terminal (Literal l)) body copy none ys h = elim h [ ]
 
 -- The children still to be read at a node, one after the other.
-pub after_next : (c : Setting) (q : Production) (e : Table) (i level : ℕ) (others : Pending) (x : Item) → i < arity q
+pub after_next : (c : Setting) (q : Production) (e : Table) (i level : ℕ) (others : Pending) {x : Item} → i < arity q
     → item_at q (place_of q c.write i) ≡ Some x
     → following c q e i level others ≡ (level, (x, Some (values_up_to c.read (copied_passes c x) (e (place_of q c.write i)))))
     ∷ following c q e (suc i) level others
-after_next c q e i level others x within occurs =
+after_next c q e i level others {x} within occurs =
     let long = copies_length c c.read (stored_items q.items) (copies c c.read (stored_items q.items) (in_children e)) in
     let copy = values_up_to c.read (copied_passes c x) (e (place_of q c.write i)) in
     let child = copies_at c c.read (stored_items q.items) (in_children e) (nth (pass_direction c) (arity q) i) x occurs in
@@ -115,7 +115,7 @@ pub after_same : (c : Setting) (q : Production) (e h : Table) (i level : ℕ) (o
     → following c q e i level others ≡ following c q h i level others
 after_same c q e h i level others same = cc
 
-module _ (c : Setting) (sound : IsSound c) where
+module _ {c : Setting} (sound : IsSound c) where
   dir : pass_direction c ≡ other (direction_of c.read)
   dir = cc
 
@@ -162,21 +162,21 @@ module _ (c : Setting) (sound : IsSound c) where
   missing_breaks x copy level todo (Ok None) h = tt
   missing_breaks x copy level todo (Ok (Some body)) h = no_record c x body copy h
 
-  pub unfetched : (x : Item) (copy : Option (List Value)) (open_count : ℕ) (content : List ℕ) (state : BackState) (todo : Pending)
+  pub unfetched : {x : Item} (copy : Option (List Value)) (open_count : ℕ) {content : List ℕ} (state : BackState) (todo : Pending)
       (f : RunFault) → IsReadable (source c) content
       → (h : ArrivesAt (source c) content state.progress.at ((suc open_count, (x, copy)) ∷ todo))
       → state.progress.records ≡ length h.bodies
       → IsUnfetched c x open_count content state f → IsRunFault c content f
-  unfetched x copy n content state todo (fault.Damaged at) readable h count (same, missing, deep, few) =
+  unfetched {x} copy n {content} state todo (fault.Damaged at) readable h count (same, missing, deep, few) =
       subst (IsDamaged (source c) content) (sym same)
-      (broken (source c) (decidable c sound) content state.progress.at readable (
+      (broken (source c) (decidable sound) content state.progress.at readable (
         (suc n, (x, copy)) ∷ todo,
         h,
         (omega arith, omega arith),
         missing_breaks x copy (suc n) todo (next_before version_two content state.progress.at) missing,
       ))
-  unfetched x copy n content state todo fault.TooDeep readable h count deep =
-      too_deep (source c) (decidable c sound) content
+  unfetched {x} copy n {content} state todo fault.TooDeep readable h count deep =
+      too_deep (source c) (decidable sound) content
       (record {
         readable = readable;
         at = state.progress.at;
@@ -186,9 +186,9 @@ module _ (c : Setting) (sound : IsSound c) where
         arrival = h;
         deep = omega arith;
       })
-  unfetched x copy n content state todo fault.TooManyNodes readable h count (many, deep) =
+  unfetched {x} copy n {content} state todo fault.TooManyNodes readable h count (many, deep) =
       let most = h.few in
-      too_many (source c) (decidable c sound) content
+      too_many (source c) (decidable sound) content
       (record {
         readable = readable;
         at = state.progress.at;
@@ -199,19 +199,19 @@ module _ (c : Setting) (sound : IsSound c) where
         within = omega arith;
         full = omega arith;
       })
-  unfetched x copy n content state todo fault.Device readable h count u = tt
-  unfetched x copy n content state todo fault.NoMemory readable h count u = tt
+  unfetched copy n state todo fault.Device readable h count u = tt
+  unfetched copy n state todo fault.NoMemory readable h count u = tt
 
   -- A record that was read and does not agree is damage.
-  pub disagreed : (x : Item) (p level : ℕ) (content body : List ℕ) (at : ℕ) (todo : Pending) (old new : List Value)
+  pub disagreed : {x : Item} (p : ℕ) {level : ℕ} {content body : List ℕ} {at : ℕ} {todo : Pending} (old new : List Value)
       (h : IsRead c x p body old new) (f : ℕ → Value) → (AgreeAt c x f (read_values c x p body old new h) → ⊥)
       → IsReadable (source c) content
       → (here : ArrivesAt (source c) content at ((level, (x, Some (values_up_to c.read (copied_passes c x) f))) ∷ todo))
       → level ≤ max_depth → length here.bodies < max_nodes → next_before version_two content at ≡ Ok (Some body)
       → IsDamaged (source c) content at
-  disagreed x p level content body at todo old new h f apart readable here deep few found =
+  disagreed {x} p {level} {content} {body} {at} {todo} old new h f apart readable here deep few found =
       let first : Pending = (level, (x, Some (values_up_to c.read (copied_passes c x) f))) ∷ todo in
-      broken (source c) (decidable c sound) content at readable (
+      broken (source c) (decidable sound) content at readable (
         first,
         here,
         (deep, few),

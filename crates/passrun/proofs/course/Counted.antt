@@ -23,7 +23,7 @@ use Rattle.passcode.specs.Sound.{IsSound}
 use Rattle.passassign.proofs.slots.Few.{few_rules}
 use Rattle.pass_rows.specs.declared.open_node.OpenNode.{OpenNode}
 use Rattle.passrun.specs.passing.RunInvariant.{Transcript, Expects, IsCurrent, RunInvariant, IsRootReady, IsOpenNode, below}
-use Rattle.passrun.specs.passing.RunInvariant.{after_reading, put_of, rules_at, state_of}
+use Rattle.passrun.specs.passing.RunInvariant.{after_reading, put_of, rules_at}
 use Rattle.pass_rows.specs.Places.{Table, copies, in_children}
 use Rattle.treefile.proofs.records.Orders.{length-postfix, length-postfix_all, length-prefix_all}
 use Rattle.treefile.proofs.records.Records.{bodies_count, bodies_counts}
@@ -48,7 +48,7 @@ below_count : (d : Direction) (g : Grammar) (m : Passes) (k : ℕ) (t : Tree) (v
 below_count d g m k (leaf c x) v = refl
 below_count d g m k (node p ts) v = ap suc (post_of_all d g m k ts (children v))
 
-module _ (c : Setting) (sound : IsSound c) where
+module _ {c : Setting} (sound : IsSound c) where
   few_of : (p : ℕ) (o : Option Production) → slice_get c.grammar.productions p ≡ o
       → pass_rule_count c.passes c.write o ≤ max_rules
   few_of p None e = omega arith
@@ -71,12 +71,12 @@ module _ (c : Setting) (sound : IsSound c) where
         omega arith
 
   -- The counts after the visited children of a node whose record was read.
-  stays_counted : (s : ℕ) (f : ℕ → Value) (level p : ℕ) (q : Production) (state : State) (e : Table) (ts : Forest)
-      (ws : ℕ → Valuation) (old new : Transcript) (before opened : ℕ)
+  stays_counted : {s : ℕ} {f : ℕ → Value} {level p : ℕ} {q : Production} {state : State} {e : Table} {ts : Forest}
+      {ws : ℕ → Valuation} {old new : Transcript} (before opened : ℕ)
       → IsOpenNode c s f level p q state e ts ws old new
       → length old.put + opened ≡ length old.read → before ≤ 65536 * length old.read
       → (length new.put + suc opened ≡ length new.read) × (before + rules_at c q ts ≤ 65536 * length new.read)
-  stays_counted s f level p q state e ts ws old new before opened is_open balanced few =
+  stays_counted {f} {p} {q} {e} {ts} {ws} {old} before opened is_open balanced few =
       let pre = count_of_all (pass_direction c) c.grammar c.passes c.read ts ws in
       let post = post_of_all (pass_direction c) c.grammar c.passes c.write ts ws in
       let a = ap length is_open.visits.read in
@@ -104,9 +104,7 @@ module _ (c : Setting) (sound : IsSound c) where
       (omega arith, omega arith)
   waits_counted root (x ∷ xs) s p f under old before others (s', f', under', old', before', others', waits, z) =
       let h = waits_counted root xs s' x.production f' under' old' before' others' waits in
-      let k =
-      stays_counted s' f' (suc (length xs)) x.production z.production
-      (state_of Got z.i z.done) z.table z.trees z.values old' old before' (length xs) z.is_open h.0 h.1 in
+      let k = stays_counted before' (length xs) z.is_open h.0 h.1 in
       let n = z.counted in
       let m = k.1 in
       (k.0, omega arith)
@@ -150,14 +148,12 @@ module _ (c : Setting) (sound : IsSound c) where
 
   -- While nodes are open, fewer bodies were written than read, and no more rules were run than the bodies
   -- that were read allow.
-  pub passing_counted : (root : ℕ) (x : OpenNode) (xs : List OpenNode) (values : List Value) (t : Transcript) (now : ℕ)
-      (todo : Pending) → RunInvariant c root (x ∷ xs) values t now todo
+  pub passing_counted : (root : ℕ) {x : OpenNode} (xs : List OpenNode) {values : List Value} {t : Transcript} {now : ℕ}
+      {todo : Pending} → RunInvariant c root (x ∷ xs) values t now todo
       → (length t.put < length t.read) × (now ≤ 65536 * length t.read)
-  passing_counted root x xs values t now todo (s, f, under, old, before, others, waits, ph, o) =
+  passing_counted root {x} xs {t} (s, f, under, old, before, others, waits, ph, o) =
       let h = waits_counted root xs s x.production f under old before others waits in
-      let m =
-      stays_counted s f (suc (length xs)) x.production o.production
-      (state_of ph o.i o.done) o.table o.trees o.valuations old o.mid before (length xs) o.is_open h.0 h.1 in
+      let m = stays_counted before (length xs) o.is_open h.0 h.1 in
       let k = current_counted o.production ph o.i (suc (length xs)) x.child o.table o.of_child o.row o.mid t o.count o.current in
       let n = o.counted in
       let a = m.0 in
@@ -166,9 +162,9 @@ module _ (c : Setting) (sound : IsSound c) where
       let e = k.1 in
       (omega arith, omega arith)
 
-  pub ready_counted : (root : ℕ) (values : List Value) (t : Transcript) (now : ℕ) (todo : Pending)
+  pub ready_counted : {root : ℕ} {values : List Value} {t : Transcript} {now : ℕ} {todo : Pending}
       → IsRootReady c root values t now todo → suc (length t.put) ≡ length t.read
-  ready_counted root values t now todo h =
+  ready_counted h =
       let a = ap length h.ready.read in
       let b = count_of (pass_direction c) c.grammar c.passes c.read h.tree h.valuation in
       let d = ap length h.ready.put in

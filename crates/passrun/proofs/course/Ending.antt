@@ -53,14 +53,14 @@ none_lent (Some body) e = absurd cc
 none_lent None e = refl
 
 -- If the reader returned no body, its progress did not change.
-pub reader_kept : (honest : Bool) (content : List ℕ) (old now : BackState) (answer : Result (Option (Bor (List ℕ))) FrameFault)
-    (found : Option (Bor (List ℕ))) → HasRead honest content old (lent_body (λ (b : Bor (List ℕ)). b.now) answer) now
+pub reader_kept : {honest : Bool} {content : List ℕ} {old now : BackState} {answer : Result (Option (Bor (List ℕ))) FrameFault}
+    {found : Option (Bor (List ℕ))} → HasRead honest content old (lent_body (λ (b : Bor (List ℕ)). b.now) answer) now
     → answer ≡ Ok found → is_some found ≡ false → now.progress ≡ old.progress
-reader_kept honest content old now answer found h was none = cc (none_lent found none)
+reader_kept {old} {now} {found} h was none = cc (none_lent found none)
 
-module _ (c : Setting) (sound : IsSound c) where
-  pub begun_runs : (p meter began start : ℕ) (honest honest' to_honest : Bool) (content content' to : List ℕ)
-      (state back : BackState) (out : writing.Progress) (old values : Vec Value) (waiting : Vec OpenNode)
+module _ {c : Setting} (sound : IsSound c) where
+  pub begun_runs : {p meter began start : ℕ} {honest honest' to_honest : Bool} {content content' to : List ℕ}
+      {state back : BackState} {out : writing.Progress} (old : Vec Value) {values : Vec Value} {waiting : Vec OpenNode}
       → old.items ≡ [] → waiting.items ≡ [] → start ≡ c.grammar.start → began ≡ meter
       → HasFetched c (item.Symbol start) p 0 honest content state back old.items values.items → honest' ≡ honest
       → LeavesContent honest content content'
@@ -69,10 +69,9 @@ module _ (c : Setting) (sound : IsSound c) where
       → state.progress.version ≡ version_two → state.progress.fault ≡ None
       → WhenHonest to_honest (to ≡ header version_two c.write) → out ≡ record { written = 0; is_broken = false } → meter ≤ 2 ^ 63
       → Runs c honest' content' to_honest to meter
-      (record { back = back; writer = out; values = values; waiting = waiting; root = p; begun = began })
-      (Some (first_at p 0))
-  begun_runs p meter began first honest honest' to_honest content content' to state back out old values waiting none single_value
-      is_start is_meter h' same leaves readable over end fresh version unbroken head begun low =
+      (record { back = back; writer = out; values = values; waiting = waiting; root = p; begun = began }) (Some (first_at p 0))
+  begun_runs {p} {meter} {began} {honest} {honest'} {to_honest} {content} {content'} {to} {state} {back} {out} old {values} none
+      single_value is_start is_meter h' same leaves readable over end fresh version unbroken head begun low =
       let h = subst (λ s. HasFetched c (item.Symbol s) p 0 honest content state back old.items values.items) is_start h' in
       let t = h.taken in
       let f = t.values in
@@ -84,7 +83,7 @@ module _ (c : Setting) (sound : IsSound c) where
       let kept = copies c c.write (stored_items q.items) t.table in
       let row : values.items ≡ stored c q f e = cc in
       let todo = following c q e 0 2 [] in
-      let node = opened c sound p start q f e 1 0 [] empty 0 [] t.there t.left (omega arith) refl in
+      let node = opened sound p f e 1 [] empty 0 [] t.there t.left (omega arith) refl in
       let passing : RunInvariant c p (first_at p 0 ∷ []) (stored c q f e) (after_reading c p f cs empty) 0 todo =
       (start, f, [], empty, 0, [], (refl, refl, refl, refl, refl, refl), Between, node) in
       let tape : after_reading c p f cs empty ≡ record { read = [] ++ h.body ∷ []; put = [] } = cc in
@@ -93,7 +92,7 @@ module _ (c : Setting) (sound : IsSound c) where
       (subst (λ vs. RunInvariant c p (first_at p 0 ∷ []) vs (after_reading c p f cs empty) 0 todo) (sym row) passing) in
       let children = children_of c q e in
       let come : todo ≡ before_others (other (direction_of c.read)) 2 children [] =
-      ap (λ o. pending_of_child c o e 2 []) (sym t.there) ∙ of_node_is c sound p q e 2 [] t.there in
+      ap (λ o. pending_of_child c o e 2 []) (sym t.there) ∙ of_node_is sound p q e 2 [] t.there in
       let zero' : 0 ≡ meter - began = omega arith in
       let at = ap (λ g. g.at) h.progress in
       let records = ap (λ g. g.records) h.progress in
@@ -133,42 +132,39 @@ module _ (c : Setting) (sound : IsSound c) where
         low = omega arith;
       }
 
-  pub ready_of : (honest : Bool) (content : List ℕ) (to_honest : Bool) (to : List ℕ) (m : Machine)
+  pub ready_of : {honest : Bool} {content : List ℕ} {to_honest : Bool} {to : List ℕ} {m : Machine}
       → RunsBetween c honest content to_honest to m None
       → (length m.values.items ≤ version_two.max_values) × (All IsWell m.values.items) × (m.writer.written < 2 ^ 64 - 1)
       × (m.writer.is_broken ≡ false)
-  ready_of honest content to_honest to m (meter, r) =
+  ready_of (meter, r) =
       let h = r.running.invariant in
-      let k = ready_counted c sound m.root m.values.items r.running.transcript (meter - m.begun) r.running.todo h in
+      let k = ready_counted sound h in
       let few = r.running.few in
       let w = r.running.written in
       (h.few, r.running.well, omega arith, r.running.whole)
 
   -- When the root is done, one more record was read than written: the root's is still to be written.
-  pub as_many : (honest : Bool) (content : List ℕ) (to_honest : Bool) (to : List ℕ) (m : Machine)
+  pub as_many : {honest : Bool} {content : List ℕ} {to_honest : Bool} {to : List ℕ} {m : Machine}
       → RunsBetween c honest content to_honest to m None
       → (m.writer.written + 1 ≡ m.back.progress.records) × (m.back.progress.records ≤ max_nodes)
-  as_many honest content to_honest to m (meter, r) =
-      let k =
-      ready_counted c sound m.root m.values.items r.running.transcript (meter - m.begun) r.running.todo r.running.invariant in
+  as_many (meter, r) =
+      let k = ready_counted sound r.running.invariant in
       let few = r.running.few in
       let w = r.running.written in
       let n = r.running.records in
       (omega arith, omega arith)
 
-  pub passed : (honest : Bool) (content : List ℕ) (to_honest : Bool) (to to' : List ℕ) (m : Machine) (out : writing.Progress)
-      (values : List Value) (meter count : ℕ)
+  pub passed : {honest : Bool} {content : List ℕ} {to_honest : Bool} {to to' : List ℕ} {m : Machine} {out : writing.Progress}
+      {values : List Value} {meter count : ℕ}
       → Runs c honest content to_honest to meter m None → honest ≡ true → to_honest ≡ true → values ≡ m.values.items
       → HasPut Node m.root values to_honest to to' m.writer out → next_before version_two content m.back.progress.at ≡ Ok None
       → count ≡ m.back.progress.records
       → IsPassed c content to' count (meter - m.begun)
-  passed honest content to_honest to to' m out values meter count r is to_is vs put end counted =
+  passed {content} {to_honest} {to} {to'} {m} {out} {values} {meter} {count} r is to_is vs put end counted =
       let run = r.running in
       let h = run.invariant in
       let put' = subst (λ vs. HasPut Node m.root vs to_honest to to' m.writer out) vs put in
-      let bytes =
-      put_more c sound to_honest to_honest to to' m.writer out Node m.root m.values.items run.transcript.put put' refl run.put
-      to_is in
+      let bytes = put_more c run.transcript.put put' refl run.put to_is in
       let file = run.readable is in
       let bytes' = all_bytes content m.back (run.over is) (none_at_header version_two content m.back.progress.at end) in
       finished c sound m.root content to' m.values.items run.transcript m.back.progress.at count (meter - m.begun)

@@ -44,59 +44,12 @@ abbrev pub add_values : Direction → Forest → (ℕ → Valuation) → Valuati
 add_values LeftToRight ts ws w = snoc_values ts ws w
 add_values RightToLeft ts ws w = cons_values w ws
 
-prefix_snoc : (g : Grammar) (m : Passes) (k : ℕ) (ts : Forest) (ws : ℕ → Valuation) (t : Tree) (w : Valuation)
-    → prefix_all LeftToRight (bodies_of_all version_two g m k (snoc ts t) (snoc_values ts ws w)) ≡ prefix_all LeftToRight
-    (bodies_of_all version_two g m k ts ws) ++ prefix LeftToRight (bodies_of version_two g m k t w)
-prefix_snoc g m k none ws t w = append-nil (prefix LeftToRight (bodies_of version_two g m k t w))
-prefix_snoc g m k (more s ts) ws t w =
-    cc (
-      prefix_snoc g m k ts (rest ws) t w,
-      append_assoc (prefix LeftToRight (bodies_of version_two g m k s (ws 0)))
-          (prefix_all LeftToRight (bodies_of_all version_two g m k ts (rest ws)))
-          (prefix LeftToRight (bodies_of version_two g m k t w)),
-    )
-
-postfix_snoc : (g : Grammar) (m : Passes) (k : ℕ) (ts : Forest) (ws : ℕ → Valuation) (t : Tree) (w : Valuation)
-    → postfix_all LeftToRight (bodies_of_all version_two g m k (snoc ts t) (snoc_values ts ws w)) ≡ postfix_all LeftToRight
-    (bodies_of_all version_two g m k ts ws) ++ postfix LeftToRight (bodies_of version_two g m k t w)
-postfix_snoc g m k none ws t w = append-nil (postfix LeftToRight (bodies_of version_two g m k t w))
-postfix_snoc g m k (more s ts) ws t w =
-    cc (
-      postfix_snoc g m k ts (rest ws) t w,
-      append_assoc (postfix LeftToRight (bodies_of version_two g m k s (ws 0)))
-          (postfix_all LeftToRight (bodies_of_all version_two g m k ts (rest ws)))
-          (postfix LeftToRight (bodies_of version_two g m k t w)),
-    )
-
 fits_snoc : (g : Grammar) (xs : List Item) (ts : Forest) (x : Item) (t : Tree) → FitsAll g xs ts → Fits g x t
     → FitsAll g (xs ++ x ∷ []) (snoc ts t)
 fits_snoc g [] none x t f h = (h, tt)
 fits_snoc g (y ∷ xs) none x t f h = elim f [ ]
 fits_snoc g [] (more s ts) x t f h = elim f [ ]
 fits_snoc g (y ∷ xs) (more s ts) x t f h = (f.0, fits_snoc g xs ts x t f.1 h)
-
-solves_snoc : (W : Production → Rule → Type 0) (g : Grammar) (ts : Forest) (ws : ℕ → Valuation) (t : Tree) (w : Valuation)
-    → SolvesAll W g ts ws → Solves W g t w → SolvesAll W g (snoc ts t) (snoc_values ts ws w)
-solves_snoc W g none ws t w s h = (h, tt)
-solves_snoc W g (more y ts) ws t w s h = (s.0, solves_snoc W g ts (rest ws) t w s.1 h)
-
-each_snoc : (R : List ℕ → (ℕ → Value) → (ℕ → Value) → Type 0) (g : Grammar) (m : Passes) (ts : Forest) (ws : ℕ → Valuation)
-    (t : Tree) (w : Valuation) → AtEachNodeOf R g m ts ws ws → AtEachNode R g m t w w
-    → AtEachNodeOf R g m (snoc ts t) (snoc_values ts ws w) (snoc_values ts ws w)
-each_snoc R g m none ws t w s h = (h, tt)
-each_snoc R g m (more y ts) ws t w s h = (s.0, each_snoc R g m ts (rest ws) t w s.1 h)
-
-deepest_snoc : (n : ℕ) (ts : Forest) (t : Tree) (level : ℕ) → deepest ts + level ≤ n → depth_of t + level ≤ n
-    → deepest (snoc ts t) + level ≤ n
-deepest_snoc n none t level a b = omega arith
-deepest_snoc n (more s ts) t level a b =
-    let r = deepest_snoc n ts t level (omega arith) b in omega arith
-
-rules_snoc : (c : Setting) (ts : Forest) (t : Tree)
-    → totals (pass_rule_count c.passes c.write) c.grammar (snoc ts t) ≡ totals (pass_rule_count c.passes c.write) c.grammar ts
-    + rules_of_pass c.passes c.write c.grammar t
-rules_snoc c none t = omega arith
-rules_snoc c (more s ts) t = let r = rules_snoc c ts t in omega arith
 
 drop_less : {X : Type 0} (xs : List X) (i : ℕ) (d : X) → i < length xs → drop i xs ≡ get_or xs i d ∷ drop (suc i) xs
 drop_less [] i d h = absurd (omega arith)
@@ -106,13 +59,27 @@ drop_less (x ∷ xs) (suc i) d h = drop_less xs i d (omega arith)
 pub prefix_add : (d : Direction) (g : Grammar) (m : Passes) (k : ℕ) (ts : Forest) (ws : ℕ → Valuation) (t : Tree) (w : Valuation)
     → prefix_all d (bodies_of_all version_two g m k (add_tree d ts t) (add_values d ts ws w)) ≡ prefix_all d
     (bodies_of_all version_two g m k ts ws) ++ prefix d (bodies_of version_two g m k t w)
-prefix_add LeftToRight g m k ts ws t w = prefix_snoc g m k ts ws t w
+prefix_add LeftToRight g m k none ws t w = append-nil (prefix LeftToRight (bodies_of version_two g m k t w))
+prefix_add LeftToRight g m k (more s ts) ws t w =
+    cc (
+      prefix_add LeftToRight g m k ts (rest ws) t w,
+      append_assoc (prefix LeftToRight (bodies_of version_two g m k s (ws 0)))
+          (prefix_all LeftToRight (bodies_of_all version_two g m k ts (rest ws)))
+          (prefix LeftToRight (bodies_of version_two g m k t w)),
+    )
 prefix_add RightToLeft g m k ts ws t w = refl
 
 pub postfix_add : (d : Direction) (g : Grammar) (m : Passes) (k : ℕ) (ts : Forest) (ws : ℕ → Valuation) (t : Tree) (w : Valuation)
     → postfix_all d (bodies_of_all version_two g m k (add_tree d ts t) (add_values d ts ws w)) ≡ postfix_all d
     (bodies_of_all version_two g m k ts ws) ++ postfix d (bodies_of version_two g m k t w)
-postfix_add LeftToRight g m k ts ws t w = postfix_snoc g m k ts ws t w
+postfix_add LeftToRight g m k none ws t w = append-nil (postfix LeftToRight (bodies_of version_two g m k t w))
+postfix_add LeftToRight g m k (more s ts) ws t w =
+    cc (
+      postfix_add LeftToRight g m k ts (rest ws) t w,
+      append_assoc (postfix LeftToRight (bodies_of version_two g m k s (ws 0)))
+          (postfix_all LeftToRight (bodies_of_all version_two g m k ts (rest ws)))
+          (postfix LeftToRight (bodies_of version_two g m k t w)),
+    )
 postfix_add RightToLeft g m k ts ws t w = refl
 
 pub fits_add : (d : Direction) (g : Grammar) (xs : List Item) (i : ℕ) (ts : Forest) (x : Item) (t : Tree)
@@ -132,24 +99,28 @@ fits_add RightToLeft g xs i ts x t at h f one =
 
 pub solves_add : (d : Direction) (W : Production → Rule → Type 0) (g : Grammar) (ts : Forest) (ws : ℕ → Valuation) (t : Tree)
     (w : Valuation) → SolvesAll W g ts ws → Solves W g t w → SolvesAll W g (add_tree d ts t) (add_values d ts ws w)
-solves_add LeftToRight W g ts ws t w s h = solves_snoc W g ts ws t w s h
+solves_add LeftToRight W g none ws t w s h = (h, tt)
+solves_add LeftToRight W g (more y ts) ws t w s h = (s.0, solves_add LeftToRight W g ts (rest ws) t w s.1 h)
 solves_add RightToLeft W g ts ws t w s h = (h, s)
 
 pub each_add : (d : Direction) (R : List ℕ → (ℕ → Value) → (ℕ → Value) → Type 0) (g : Grammar) (m : Passes) (ts : Forest)
     (ws : ℕ → Valuation) (t : Tree) (w : Valuation) → AtEachNodeOf R g m ts ws ws → AtEachNode R g m t w w
     → AtEachNodeOf R g m (add_tree d ts t) (add_values d ts ws w) (add_values d ts ws w)
-each_add LeftToRight R g m ts ws t w s h = each_snoc R g m ts ws t w s h
+each_add LeftToRight R g m none ws t w s h = (h, tt)
+each_add LeftToRight R g m (more y ts) ws t w s h = (s.0, each_add LeftToRight R g m ts (rest ws) t w s.1 h)
 each_add RightToLeft R g m ts ws t w s h = (h, s)
 
 pub deepest_add : (d : Direction) (n : ℕ) (ts : Forest) (t : Tree) (level : ℕ) → deepest ts + level ≤ n → depth_of t + level ≤ n
     → deepest (add_tree d ts t) + level ≤ n
-deepest_add LeftToRight n ts t level a b = deepest_snoc n ts t level a b
+deepest_add LeftToRight n none t level a b = omega arith
+deepest_add LeftToRight n (more s ts) t level a b = let r = deepest_add LeftToRight n ts t level (omega arith) b in omega arith
 deepest_add RightToLeft n ts t level a b = omega arith
 
 pub rules_add : (d : Direction) (c : Setting) (ts : Forest) (t : Tree)
     → totals (pass_rule_count c.passes c.write) c.grammar (add_tree d ts t) ≡ totals
     (pass_rule_count c.passes c.write) c.grammar ts + rules_of_pass c.passes c.write c.grammar t
-rules_add LeftToRight c ts t = rules_snoc c ts t
+rules_add LeftToRight c none t = omega arith
+rules_add LeftToRight c (more s ts) t = let r = rules_add LeftToRight c ts t in omega arith
 rules_add RightToLeft c ts t = omega arith
 
 abbrev size : Forest → ℕ

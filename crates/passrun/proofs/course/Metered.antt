@@ -10,14 +10,14 @@ use Rattle.passrun.specs.passing.Running.{Runs}
 use Rattle.passrun.proofs.course.Counted.{rules_bound}
 use Rattle.passrun.proofs.course.Finish.{count_of}
 
-pub meter_few : (c : Setting) → IsSound c
+pub meter_few : {c : Setting} → IsSound c
     → (honest : Bool) (content : List ℕ) (to_honest : Bool) (to : List ℕ) (meter : ℕ) (m : Machine)
     → Runs c honest content to_honest to meter m None → (m.begun ≤ meter) × (meter ≤ m.begun + 2 ^ 36)
-meter_few c sound honest content to_honest to meter m r =
+meter_few {c} sound honest content to_honest to meter m r =
     let h = r.running.invariant in
     let read = ap length h.ready.read in
     let nodes = count_of (pass_direction c) c.grammar c.passes c.read h.tree h.valuation in
-    let rules = rules_bound c sound h.tree in
+    let rules = rules_bound sound h.tree in
     let counted = h.counted in
     let few = r.running.few in
     let begun = r.begun in

@@ -30,35 +30,29 @@ use Rattle.passrun.proofs.RecordedPasses.{passes_are_recorded, refused_back}
 -- A pass from the first device to the second, or from the second to the first, is one from the device with the last file to the
 -- other.
 module _ (c : Setting) (a b : List ℕ) where
-  pub passed_from_a : (a_new b_new : List ℕ) (evals : ℕ) (last : Last) → last ≡ A → (result : Result Passed RunFault)
+  pub passed_from_a : {a_new : List ℕ} (b_new : List ℕ) (evals : ℕ) {last : Last} → last ≡ A → (result : Result Passed RunFault)
       → IfOk result (λ p. IsPassed c a b_new p.nodes evals) → a_new ≡ a
       → IfOk result (λ p. IsPassedOn c last a b a_new b_new p.nodes evals)
-  passed_from_a a_new b_new evals last is (Ok p) passed kept =
-      let at_a : IsPassedOn c A a b a_new b_new p.nodes evals = record { passed = passed; kept = kept } in
-      subst (λ (l : Last). IsPassedOn c l a b a_new b_new p.nodes evals) (sym is) at_a
-  passed_from_a a_new b_new evals last is (Err f) passed kept = tt
+  passed_from_a b_new evals is (Ok p) passed kept = rw is (record { passed = passed; kept = kept })
+  passed_from_a b_new evals is (Err f) passed kept = tt
 
-  pub passed_from_b : (a_new b_new : List ℕ) (evals : ℕ) (last : Last) → last ≡ B → (result : Result Passed RunFault)
+  pub passed_from_b : (a_new : List ℕ) {b_new : List ℕ} (evals : ℕ) {last : Last} → last ≡ B → (result : Result Passed RunFault)
       → IfOk result (λ p. IsPassed c b a_new p.nodes evals) → b_new ≡ b
       → IfOk result (λ p. IsPassedOn c last a b a_new b_new p.nodes evals)
-  passed_from_b a_new b_new evals last is (Ok p) passed kept =
-      let at_b : IsPassedOn c B a b a_new b_new p.nodes evals = record { passed = passed; kept = kept } in
-      subst (λ (l : Last). IsPassedOn c l a b a_new b_new p.nodes evals) (sym is) at_b
-  passed_from_b a_new b_new evals last is (Err f) passed kept = tt
+  passed_from_b a_new evals is (Ok p) passed kept = rw is (record { passed = passed; kept = kept })
+  passed_from_b a_new evals is (Err f) passed kept = tt
 
   pub refused_from_a : (honest other : Bool) (last : Last) → last ≡ A → (result : Result Passed RunFault)
       → IfErr result (λ f. WhenHonest honest (IsRunFault c a f))
       → IfErr result (λ f. WhenHonest honest (WhenHonest other (IsRunFault c (last_content last a b) f)))
   refused_from_a honest other last is (Ok p) refused = tt
-  refused_from_a honest other last is (Err f) refused =
-      λ h o. subst (λ (l : Last). IsRunFault c (last_content l a b) f) (sym is) (refused h)
+  refused_from_a honest other last is (Err f) refused = λ h o. rw is (refused h)
 
   pub refused_from_b : (honest other : Bool) (last : Last) → last ≡ B → (result : Result Passed RunFault)
       → IfErr result (λ f. WhenHonest honest (IsRunFault c b f))
       → IfErr result (λ f. WhenHonest other (WhenHonest honest (IsRunFault c (last_content last a b) f)))
   refused_from_b honest other last is (Ok p) refused = tt
-  refused_from_b honest other last is (Err f) refused =
-      λ o h. subst (λ (l : Last). IsRunFault c (last_content l a b) f) (sym is) (refused h)
+  refused_from_b honest other last is (Err f) refused = λ o h. rw is (refused h)
 
 -- After the pass, the other device has the last file.
 turned_last : (which : Last) (a b : List ℕ) → last_content (other_last which) a b ≡ other_content which a b
@@ -101,57 +95,46 @@ counts_go_on g m k count evals more start now before sum passed runs counts exac
       written = omega arith;
     }
 
-pub all_starts : (g : Grammar) (m : Passes) (k n : ℕ) (a b : List ℕ) (evals : ℕ) → n ≡ k → evals ≡ 0
+pub all_starts : {g : Grammar} {m : Passes} {k n : ℕ} {a b : List ℕ} {evals : ℕ} → n ≡ k → evals ≡ 0
     → HasRunAll g m k n a A a b evals (record { nodes = 0; read = 0; written = 0 })
-all_starts g m k n a b evals same fresh =
-    let none : 0 ≡ k - k = omega arith in
-    let whole : HasRunAll g m k k a A a b 0 (record { nodes = 0; read = 0; written = 0 }) = record {
+all_starts {g} {m} {k} {a} {b} same fresh =
+    let none : k - k ≡ 0 = omega arith in
+    rw (same, fresh) (record {
       runs = starts_run version_two g m k a b;
-      counts = subst (λ n. CountsPasses g m k n a 0 (record { nodes = 0; read = 0; written = 0 })) none (counts_start g m k a);
+      counts = rw none (counts_start g m k a);
       held = λ less. absurd (omega arith);
       fresh = λ e. refl;
       nothing = λ e. (refl, refl, refl);
-    } in
-    subst (λ e. HasRunAll g m k n a A a b e (record { nodes = 0; read = 0; written = 0 })) (sym fresh)
-    (subst (λ n. HasRunAll g m k n a A a b 0 (record { nodes = 0; read = 0; written = 0 })) (cc) whole)
+    })
 
 -- After pass `last` one more pass ran, pass n, from the device with the last file to the other.
-module _ (g : Grammar) (plan : List (List ℕ) × Lists) (k last n : ℕ) (start a b a_new b_new : List ℕ) (which : Last)
-    (evals more : ℕ) (sum passed : Passed) (accepted : IsAccepted g) (legal : IsLegal g (passes_of plan.0)) (le : k ≤ last)
-    (is : n ≡ suc last) (before : HasRunAll g (passes_of plan.0) k last start which a b evals sum)
+module _ {g : Grammar} (plan : List (List ℕ) × Lists) {k last n : ℕ} {start a b a_new b_new : List ℕ} {which : Last}
+    {evals more : ℕ} {sum : Passed} (passed : Passed) (accepted : IsAccepted g) (legal : IsLegal g (passes_of plan.0))
+    (le : k ≤ last) (is : n ≡ suc last) (before : HasRunAll g (passes_of plan.0) k last start which a b evals sum)
     (step : IsPassedOn (setting_of g plan n) which a b a_new b_new passed.nodes more) (read : passed.read ≡ passed.nodes)
     (written : passed.written ≡ passed.nodes) where
   exact : RunsPass version_two g (passes_of plan.0) last (last_content which a b) (other_content which a_new b_new)
       × CountsPass g (passes_of plan.0) last (last_content which a b) passed.nodes more
   exact =
       let here : n - 1 ≡ last = omega arith in
-      subst (λ j. RunsPass version_two g (passes_of plan.0) j (last_content which a b) (other_content which a_new b_new)
-      × CountsPass g (passes_of plan.0) j (last_content which a b) passed.nodes more) here
+      rw (← here)
       (passes_are_recorded g plan n (last_content which a b) (other_content which a_new b_new) passed.nodes more accepted legal
       (omega arith) step.passed)
 
   runs_on : RunsPasses version_two g (passes_of plan.0) k (suc last) start (last_content (other_last which) a_new b_new)
       (other_content (other_last which) a_new b_new)
   runs_on =
-      let runs : RunsPasses version_two g (passes_of plan.0) k (suc last) start (other_content which a_new b_new)
-      (last_content which a b) =
-      goes_on_run version_two g (passes_of plan.0) k last start (last_content which a b) (other_content which a b)
-      (other_content which a_new b_new) legal le before.runs exact.0 in
-      let back : last_content which a b ≡ other_content (other_last which) a_new b_new = cc (turned_other which a_new b_new) in
-      subst (RunsPasses version_two g (passes_of plan.0) k (suc last) start (last_content (other_last which) a_new b_new)) back
-      (subst (λ (c : List ℕ). RunsPasses version_two g (passes_of plan.0) k (suc last) start c (last_content which a b))
-      (sym (turned_last which a_new b_new)) runs)
+      rw (turned_last, turned_other, step.kept)
+      (goes_on_run version_two g (passes_of plan.0) k last start (last_content which a b) (other_content which a b)
+      (other_content which a_new b_new) legal le before.runs exact.0)
 
   counts_on : CountsPasses g (passes_of plan.0) k (suc last - k) start (evals + more) (one_more sum passed)
   counts_on =
       let here : k + (last - k) ≡ last = omega arith in
-      let there : suc (last - k) ≡ suc last - k = omega arith in
-      subst (λ n. CountsPasses g (passes_of plan.0) k n start (evals + more) (one_more sum passed)) there
+      let there : suc last - k ≡ suc (last - k) = omega arith in
+      rw there
       (counts_go_on g (passes_of plan.0) k (last - k) evals more start (last_content which a b)
-      (other_content which a b) sum passed
-      (subst (λ n. RunsPasses version_two g (passes_of plan.0) k n start (last_content which a b) (other_content which a b))
-      (sym here) before.runs) before.counts
-      (subst (λ n. CountsPass g (passes_of plan.0) n (last_content which a b) passed.nodes more) (sym here) exact.1) read written)
+      (other_content which a b) sum passed (rw here before.runs) before.counts (rw here exact.1) read written)
 
   held_on : k < suc last → HoldsTree g (passes_of plan.0) k start
   held_on less = elim (cases_lt k last) [
@@ -160,53 +143,37 @@ module _ (g : Grammar) (plan : List (List ℕ) × Lists) (k last n : ℕ) (start
         let same : last ≡ k = omega arith in
         let here : n - 1 ≡ k = omega arith in
         let one = step.passed in
-        let from : HoldsTree g (passes_of plan.0) (n - 1) (last_content which a b) =
-        record { tree = one.tree; values = one.values; is_tree = one.fits; within = one.limits; file = one.from } in
-        subst (HoldsTree g (passes_of plan.0) k) (before.fresh same)
-        (subst (λ n. HoldsTree g (passes_of plan.0) n (last_content which a b)) here from))
+        rw (← before.fresh same, ← here)
+        (record { tree = one.tree; values = one.values; is_tree = one.fits; within = one.limits; file = one.from }))
   ]
 
-  pub all_goes_on : (total : ℕ) (which_now : Last) (sum_now : Passed) → total ≡ evals + more → which_now ≡ other_last which
+  pub all_goes_on : {total : ℕ} {which_now : Last} {sum_now : Passed} → total ≡ evals + more → which_now ≡ other_last which
       → sum_now ≡ one_more sum passed → HasRunAll g (passes_of plan.0) k n start which_now a_new b_new total sum_now
-  all_goes_on total which_now sum_now f h i =
-      let m = passes_of plan.0 in
-      let whole : HasRunAll g m k (suc last) start (other_last which) a_new b_new (evals + more) (one_more sum passed) =
-      record {
-        runs = runs_on;
-        counts = counts_on;
-        held = held_on;
-        fresh = λ e. absurd (omega arith);
-        nothing = λ e. absurd (omega arith);
-      } in
-      let one : HasRunAll g m k n start (other_last which) a_new b_new (evals + more) (one_more sum passed) =
-      subst (λ n. HasRunAll g m k n start (other_last which) a_new b_new (evals + more) (one_more sum passed))
-      (sym is) whole in
-      let two : HasRunAll g m k n start (other_last which) a_new b_new total (one_more sum passed) =
-      subst (λ e. HasRunAll g m k n start (other_last which) a_new b_new e (one_more sum passed)) (sym f) one in
-      let three : HasRunAll g m k n start which_now a_new b_new total (one_more sum passed) =
-      subst (λ (w : Last). HasRunAll g m k n start w a_new b_new total (one_more sum passed)) (sym h) two in
-      subst (HasRunAll g m k n start which_now a_new b_new total) (sym i) three
+  all_goes_on f h i = rw (is, f, h, i) (record {
+    runs = runs_on;
+    counts = counts_on;
+    held = held_on;
+    fresh = λ e. absurd (omega arith);
+    nothing = λ e. absurd (omega arith);
+  })
 
-pub all_refused : (g : Grammar) (plan : List (List ℕ) × Lists) (first last n : ℕ) (start a b : List ℕ) (which : Last) (evals : ℕ)
-    (sum : Passed) → n ≡ suc last → 1 ≤ first → first - 1 ≤ last
+pub all_refused : {g : Grammar} (plan : List (List ℕ) × Lists) (first : ℕ) {last n : ℕ} {start a b : List ℕ} {which : Last}
+    {evals : ℕ} {sum : Passed} → n ≡ suc last → 1 ≤ first → first - 1 ≤ last
     → HasRunAll g (passes_of plan.0) (first - 1) last start which a b evals sum → (f : RunFault)
     → IsRunFault (setting_of g plan n) (last_content which a b) f → IsRunFault (setting_of g plan first) start f
-all_refused g plan first last n start a b which evals sum is positive le h f fault = elim (cases_lt (first - 1) last) [
+all_refused {g} plan first {last} {n} {start} {a} {b} {which} is positive le h f fault = elim (cases_lt (first - 1) last) [
   | inl some ↦ (
       let here : last ≡ n - 1 = omega arith in
       refused_back g plan first n start (last_content which a b) (other_content which a b)
-      (subst
-      (λ j. RunsPasses version_two g (passes_of plan.0) (first - 1) j start (last_content which a b)
-      (other_content which a b)) here h.runs) (h.held some) f fault)
+      (rw (← here) h.runs) (h.held some) f fault)
   | inr none ↦ (
       let same : last ≡ first - 1 = omega arith in
       let here : n ≡ first = omega arith in
-      subst (λ (bytes : List ℕ). IsRunFault (setting_of g plan first) bytes f) (h.fresh same)
-      (subst (λ k. IsRunFault (setting_of g plan k) (last_content which a b) f) here fault))
+      rw (← h.fresh same, ← here) fault)
 ]
 
-pub greatest_most : (rows : List (List ℕ)) (a b : ℕ) → IsGreatest a rows → IsGreatest b rows → a ≤ b
-greatest_most rows a b f h = elim f.there [
+pub greatest_most : {rows : List (List ℕ)} {a b : ℕ} → IsGreatest a rows → IsGreatest b rows → a ≤ b
+greatest_most {a} f h = elim f.there [
   | inl none ↦ omega arith
   | inr at ↦ h.most at.1.0 at.0 at.1.1 at.2.0 a at.2.1
 ]
@@ -215,8 +182,8 @@ greatest_most rows a b f h = elim f.there [
 pub persists_still : (honest : Bool) (failures : ℕ) → Persists honest honest failures failures ⊥
 persists_still honest failures = record { honest = λ h. h; kept = omega arith; bounded = λ few. few; cause = λ f. absurd f }
 
-pub persists_on : (h0 h1 h2 : Bool) (f0 f1 f2 : ℕ) → Persists h0 h1 f0 f1 ⊥ → Persists h1 h2 f1 f2 ⊥ → Persists h0 h2 f0 f2 ⊥
-persists_on h0 h1 h2 f0 f1 f2 old new =
+pub persists_on : {h0 h1 h2 : Bool} {f0 f1 f2 : ℕ} → Persists h0 h1 f0 f1 ⊥ → Persists h1 h2 f1 f2 ⊥ → Persists h0 h2 f0 f2 ⊥
+persists_on old new =
     let a = old.kept in
     let b = new.kept in
     record {
@@ -227,11 +194,11 @@ persists_on h0 h1 h2 f0 f1 f2 old new =
     }
 
 -- A pass leaves its file, a prefix of it, or the old content.
-pub some_left : (pass : ℕ) (honest : Bool) (old new : List ℕ) (r : Result Passed RunFault)
+pub some_left : (pass : ℕ) (honest : Bool) (old : List ℕ) {new : List ℕ} (r : Result Passed RunFault)
     → OnOk r (WhenHonest honest (BeginsFile pass new)) → OnErr r (WhenHonest honest (LeavesBeginning pass old new))
     → WhenHonest honest (LeavesSomeFile old new)
-some_left pass honest old new (Ok p) begun left h = (pass, inr (begun h))
-some_left pass honest old new (Err f) begun left h = (pass, left h)
+some_left pass honest old (Ok p) begun left h = (pass, inr (begun h))
+some_left pass honest old (Err f) begun left h = (pass, left h)
 
 -- Two passes in sequence leave on a device what one pass may leave: the old content, or a prefix of a tree file.
 pub left_again : (old between new : List ℕ) → LeavesSomeFile old between → LeavesSomeFile between new → LeavesSomeFile old new

@@ -3,7 +3,7 @@ use Rattle.std.specs.Global.{Vec}
 use Rattle.std.specs.Option.{option_to_list}
 use Rattle.std.specs.Prelude.{slice_index_or}
 use Rattle.std.proofs.Common.{ℕ, zero, suc, ◌≡◌, ◌+◌, ◌*◌, ◌-◌, ◌<◌, ◌≤◌, ◌⊎◌, inl, inr, Bool, true, false, if◌then◌else◌, List}
-use Rattle.std.proofs.Common.{[], ◌∷◌, ◌++◌, Option, Some, None, slice_get, drop, length, reverse, refl, ap, arith}
+use Rattle.std.proofs.Common.{[], ◌∷◌, ◌++◌, Option, Some, None, drop, length, reverse, refl, ap, arith}
 use Rattle.std.proofs.lemmas.List.{reverse-append}
 use Rattle.ag_value.specs.declared.value.Value.{Value}
 use Rattle.ag_grammar.specs.declared.grammar.Item.{Item}
@@ -27,7 +27,7 @@ use Rattle.passrun.proofs.steps.Going.{child_of}
 use Rattle.passcode.specs.Course.{start}
 use Rattle.passrun.proofs.steps.EntersNone.{goes_nowhere}
 use Rattle.pass_rows.specs.Nodes.{left_at, after_step}
-use Rattle.passrun.proofs.steps.Steps.{next_is}
+use Rattle.passrun.proofs.steps.Steps.{IsNext, next_is}
 use Rattle.passrun.proofs.steps.MachineSteps.{popped}
 
 -- No list is longer than all lists together.
@@ -40,9 +40,9 @@ list_within (row ∷ rows) zero k = omega arith
 list_within (row ∷ rows) (suc p) k = let h = list_within rows p k in omega arith
 
 -- One instruction fewer remains.
-fewer : (c : Setting) (x : OpenNode) (z : Instr) → slice_get (list_at c x.production) x.at ≡ Some z
+fewer : (c : Setting) (x : OpenNode) {z : Instr} → IsNext c x z
     → length (rest_of c x) ≡ suc (length (drop (x.at + 1) (list_at c x.production)))
-fewer c x z at = cc (next_is (list_at c x.production) x.at z at)
+fewer c x {z} at = cc (next_is (list_at c x.production) x.at z at)
 
 going_most : (c : Setting) (next : Option OpenNode) → reserved_work c next ≤ node_cost c
 going_most c None = omega arith
@@ -61,18 +61,16 @@ one_less b n h = let e : n ≡ suc (n - 1) = omega arith in cc (mul_suc b (n - 1
     mul_suc : (b n : ℕ) → b * suc n ≡ b * n + b
     mul_suc b n = omega arith
 
-module _ (c : Setting) (sound : IsSound c) where
-  pub got_less : (m : Machine) (back : BackState) (values : Vec Value) (read : List Value) (honest : Bool) (content : List ℕ)
-      (x next : OpenNode) (j p n : ℕ) (x' : Item)
-      → slice_get (list_at c x.production) x.at ≡ Some (instr.Get j)
+module _ {c : Setting} (sound : IsSound c) where
+  pub got_less : (m : Machine) {back : BackState} (values : Vec Value) {read : List Value} {honest : Bool} {content : List ℕ}
+      (x : OpenNode) {next : OpenNode} {j p n : ℕ} {x' : Item}
+      → IsNext c x (instr.Get j)
       → HasFetched c x' p n honest content m.back back m.values.items read → next ≡ after_step x p
-      → measure c
-      (record { back = back; writer = m.writer; values = values; waiting = m.waiting; root = m.root; begun = m.begun })
-      (Some next) < measure c m (Some x)
-  got_less m back values read honest content x next j p n x' at h on =
+      → measure c (record m { back = back; values = values }) (Some next) < measure c m (Some x)
+  got_less m {back} values x {next} {n = n} at h on =
       let r = ap (λ g. g.records) h.progress in
       let few = h.few in
-      let l = fewer c x (instr.Get j) at in
+      let l = fewer c x at in
       let k = ap (λ next. length (rest_of c next)) on in
       let g = going_most c (Some next) in
       let b = one_less (node_cost c) (max_nodes - m.back.progress.records) (omega arith) in
@@ -80,25 +78,21 @@ module _ (c : Setting) (sound : IsSound c) where
       let d = ap (λ n. node_cost c * n) e in
       omega arith
 
-  pub put_less : (m : Machine) (out : writing.Progress) (x next : OpenNode) (j : ℕ) → RunsSomehow c m (Some x)
-      → slice_get (list_at c x.production) x.at ≡ Some (instr.Put j) → next ≡ after_step x x.child
-      → measure c (record { back = m.back; writer = out; values = m.values; waiting = m.waiting; root = m.root; begun = m.begun })
-      (Some next) < measure c m (Some x)
-  put_less m out x next j (honest, content, to_honest, to, meter, r) at on =
-      let l = fewer c x (instr.Put j) at in
+  pub put_less : {m : Machine} (out : writing.Progress) {x next : OpenNode} {j : ℕ} → RunsSomehow c m (Some x)
+      → IsNext c x (instr.Put j) → next ≡ after_step x x.child
+      → measure c (record m { writer = out }) (Some next) < measure c m (Some x)
+  put_less {m} out {x} {next} (honest, content, to_honest, to, meter, r) at on =
+      let l = fewer c x at in
       let k = ap (λ next. length (rest_of c next)) on in
       let g =
-      going_none c next (cc (put_stays c sound m.root x (reverse m.waiting.items) m.values.items r.running.transcript
-      (meter - m.begun) r.running.todo j at r.running.invariant)) in
+      going_none c next (cc (put_stays m.root (reverse m.waiting.items) at r.running.invariant)) in
       omega arith
 
-  pub given_less : (m : Machine) (values : Vec Value) (x next : OpenNode) (rule : ℕ) → RunsRuleNext c x rule
+  pub given_less : (m : Machine) (values : Vec Value) (x : OpenNode) {next : OpenNode} (rule : ℕ) → RunsRuleNext c x rule
       → next ≡ after_step x x.child
-      → measure c
-      (record { back = m.back; writer = m.writer; values = values; waiting = m.waiting; root = m.root; begun = m.begun })
-      (Some next) < measure c m (Some x)
-  given_less m values x next rule (j, a, z, giving, at) on =
-      let l = fewer c x z at in
+      → measure c (record m { values = values }) (Some next) < measure c m (Some x)
+  given_less m values x {next} rule (j, a, z, giving, at) on =
+      let l = fewer c x at in
       let k = ap (λ next. length (rest_of c next)) on in
       let same : goes_next (drop (x.at + 1) (list_at c x.production)) ≡ goes_next (rest_of c x) =
       cc (go z giving, next_is (list_at c x.production) x.at z at) in
@@ -110,35 +104,32 @@ module _ (c : Setting) (sound : IsSound c) where
       go z (inl e) = cc
       go z (inr e) = cc
 
-  pub entered_less : (m : Machine) (waiting : Vec OpenNode) (x child : OpenNode) (j : ℕ) → RunsSomehow c m (Some x)
-      → slice_get (list_at c x.production) x.at ≡ Some (instr.Go j)
+  pub entered_less : {m : Machine} (waiting : Vec OpenNode) {x : OpenNode} (child : OpenNode) {j : ℕ} → RunsSomehow c m (Some x)
+      → IsNext c x (instr.Go j)
       → child.production ≡ x.child → child.at ≡ 0 → waiting.items ≡ m.waiting.items ++ left_at x j ∷ []
-      → measure c
-      (record { back = m.back; writer = m.writer; values = m.values; waiting = waiting; root = m.root; begun = m.begun })
-      (Some child) < measure c m (Some x)
-  entered_less m waiting x child j (honest, content, to_honest, to, meter, r) at is first pushed =
-      let l = fewer c x (instr.Go j) at in
+      → measure c (record m { waiting = waiting }) (Some child) < measure c m (Some x)
+  entered_less {m} waiting {x} child {j} (honest, content, to_honest, to, meter, r) at is first pushed =
+      let l = fewer c x at in
       let stack : reverse waiting.items ≡ left_at x j ∷ reverse m.waiting.items =
       cc (reverse-append m.waiting.items (left_at x j ∷ [])) in
       let n = ap (remaining_work c) stack in
       let here : reserved_work c (Some x) ≡ node_cost c = cc (next_is (list_at c x.production) x.at (instr.Go j) at) in
       let h =
-      child_of c sound x (reverse m.waiting.items) m.values.items j at
+      child_of (reverse m.waiting.items) at
       (m.root, r.running.transcript, meter - m.begun, r.running.todo, r.running.invariant) in
       let rest : rest_of c child ≡ list_at c x.child = cc in
       let g =
-      going_none c child (cc (goes_nowhere c h.production start (list_at c x.child) (λ e. let bad : ⊥ = cc in bad)
+      going_none c child (cc (goes_nowhere c h.production start (list_at c x.child) (λ e. cc)
       (sound.course x.child h.production h.there))) in
       let w = list_within c.code x.child c.read in
       let k = ap length rest in
       omega arith
 
-  pub ended_less : (m : Machine) (values : Vec Value) (waiting : Vec OpenNode) (out : writing.Progress) (x : OpenNode)
+  pub ended_less : {m : Machine} (values : Vec Value) (waiting : Vec OpenNode) (out : writing.Progress) {x : OpenNode}
       (result : Option OpenNode) → RunsSomehow c m (Some x)
       → m.waiting.items ≡ waiting.items ++ option_to_list result → (result ≡ None → length m.waiting.items ≡ 0)
-      → measure c (record { back = m.back; writer = out; values = values; waiting = waiting; root = m.root; begun = m.begun })
-      result < measure c m (Some x)
-  ended_less m values waiting out x result (honest, content, to_honest, to, meter, r) popped_is none =
+      → measure c (record m { writer = out; values = values; waiting = waiting }) result < measure c m (Some x)
+  ended_less {m} values waiting out result (honest, content, to_honest, to, meter, r) popped_is none =
       let stack = popped result m.waiting.items waiting.items popped_is none in
       let n = ap (remaining_work c) stack in
       let g = is_open result stack in
@@ -147,6 +138,4 @@ module _ (c : Setting) (sound : IsSound c) where
       is_open : (result : Option OpenNode) → reverse m.waiting.items ≡ stack_of result waiting.items → reserved_work c result ≡ 0
       is_open None e = refl
       is_open (Some y) e =
-          going_none c y
-          (waits_stay c sound m.root x (reverse m.waiting.items) m.values.items r.running.transcript
-          (meter - m.begun) r.running.todo y (reverse waiting.items) e r.running.invariant)
+          going_none c y (waits_stay m.root (reverse m.waiting.items) e r.running.invariant)

@@ -93,11 +93,11 @@ copies_set c q e j a v next pass =
     omega arith))
 
 -- Other values at a child that agree with its copy do not change the copies.
-pub copies_row : (c : Setting) (q : Production) (e : Table) (j : ℕ) (x : Item) (h : ℕ → Value)
+pub copies_row : (c : Setting) (q : Production) (e : Table) (j : ℕ) {x : Item} (h : ℕ → Value)
     → slice_get (stored_items q.items) j ≡ Some x → AgreeAt c x (e (suc j)) h
     → copies c c.read (stored_items q.items) (in_children (with_row e (suc j) h)) ≡ copies c c.read (stored_items q.items)
     (in_children e)
-copies_row c q e j x h at agree =
+copies_row c q e j {x} h at agree =
     copies_same c c.read (stored_items q.items) (in_children (with_row e (suc j) h)) (in_children e) same
   where
     same : (b n p : ℕ) (y : Item) → slice_get (stored_items q.items) b ≡ Some y → slice_get (copied_passes c y) n ≡ Some p
@@ -117,12 +117,15 @@ pub shown_set : (c : Setting) (q : Production) (n : ℕ) (e s : Table) (j a : �
     → HasPass c.passes q (record { place = j; attr = a }) c.write → (IsReached c q n j → j ≡ 0) → AgreesSoFar c q n e s
     → AgreesSoFar c q n (set e j a v) s
 shown_set c q n e s j a v pass fault_unless shown b m p x at is le when =
-    shown b m p x at is le when ∙ sym (set_other e j a v (suc b) m (λ both.
-    let w = written_there c q b m p j a x pass at is both.0 both.1 in
-    elim when [
-      | inl less ↦ omega arith
-      | inr known ↦ (let z = fault_unless (subst (IsReached c q n) both.0 known) in let bj = both.0 in omega arith)
-    ]))
+    cc (
+      shown b m p x at is le when,
+      set_other e j a v (suc b) m (λ both. let w = written_there c q b m p j a x pass at is both.0 both.1 in
+          elim when [
+            | inl less ↦ omega arith
+            | inr known ↦ (let z = fault_unless (subst (IsReached c q n) both.0 known) in
+                let bj = both.0 in omega arith)
+          ]),
+    )
 
 -- The copies also agree so far if the table gets the values of a child's record that agree with the copies.
 pub shown_row : (c : Setting) (q : Production) (n n' : ℕ) (e s : Table) (j : ℕ) (x : Item) (h : ℕ → Value)

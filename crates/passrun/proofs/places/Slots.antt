@@ -89,7 +89,7 @@ get_taken (suc n) (q ∷ ps) (suc a) p less is = get_taken n ps a p (omega arith
 -- An attribute among the first n has the same rank there.
 pub rank_taken : (k n : ℕ) (ps : List ℕ) (a p : ℕ) → slice_get (take n ps) a ≡ Some p → rank k ps a ≡ rank k (take n ps) a
 rank_taken k zero [] a p is = refl
-rank_taken k zero (q ∷ ps) a p is = absurd (let bad : ⊥ = cc in bad)
+rank_taken k zero (q ∷ ps) a p is = absurd cc
 rank_taken k (suc n) [] a p is = refl
 rank_taken k (suc n) (q ∷ ps) zero p is = refl
 rank_taken k (suc n) (q ∷ ps) (suc a) p is = cc (rank_taken k n ps a p is)
@@ -150,7 +150,7 @@ pub shares : (c : Setting) (xs : List Item) (b : ℕ) (x : Item) → slice_get x
     → (before : List Value) × (after : List Value) × (length before ≡ copied_before c xs b)
     × ((h : Table) → ((j a : ℕ) → j ≢ b → h j a ≡ e j a)
     → copies c c.write xs h ≡ before ++ (values_up_to c.write (copied_passes c x) (h b) ++ after))
-shares c [] b x at e = absurd (let bad : ⊥ = cc in bad)
+shares c [] b x at e = absurd cc
 shares c (y ∷ xs) zero x at e =
     let same : y ≡ x = cc in (
       [],
@@ -257,8 +257,8 @@ syn_below : (syn inh : List (List ℕ)) (a : ℕ)
 syn_below [] inh a is = absurd (no_synthesized inh a is)
   where
     no_synthesized : (inh : List (List ℕ)) (a : ℕ) → slice_get (map (λ (n : List ℕ). Inherited) inh) a ≡ Some Synthesized → ⊥
-    no_synthesized [] a is = let bad : ⊥ = cc in bad
-    no_synthesized (n ∷ inh) zero is = let bad : ⊥ = cc in bad
+    no_synthesized [] a is = cc
+    no_synthesized (n ∷ inh) zero is = cc
     no_synthesized (n ∷ inh) (suc a) is = no_synthesized inh a is
 syn_below (n ∷ syn) inh zero is = omega arith
 syn_below (n ∷ syn) inh (suc a) is = let less = syn_below syn inh a is in omega arith
@@ -270,10 +270,10 @@ has_copy c (item.Symbol s) a p kind pass =
     (below (slice_get c.grammar.symbols s) kind) pass
   where
     below : (o : Option Symbol) → slice_get (symbol_kinds o) a ≡ Some Synthesized → a < synthesized_count o
-    below None kind = absurd (let bad : ⊥ = cc in bad)
+    below None kind = absurd cc
     below (Some y) kind = syn_below y.syn y.inh a kind
 has_copy c (item.Terminal (Class d)) a p kind pass = pass
-has_copy c (item.Terminal (Literal l)) a p kind pass = absurd (let bad : ⊥ = cc in bad)
+has_copy c (item.Terminal (Literal l)) a p kind pass = absurd cc
 
 -- An attribute has the same pass among those that are copied as among all attributes of the item.
 pub copied_is : (c : Setting) (x : Item) (a p : ℕ) → slice_get (copied_passes c x) a ≡ Some p
@@ -282,7 +282,7 @@ copied_is c (item.Symbol s) a p is = get_take (synthesized_count (slice_get c.gr
   where
     get_take : (n : ℕ) (ps : List ℕ) (a p : ℕ) → slice_get (take n ps) a ≡ Some p → slice_get ps a ≡ Some p
     get_take zero [] a p is = is
-    get_take zero (q ∷ ps) a p is = absurd (let bad : ⊥ = cc in bad)
+    get_take zero (q ∷ ps) a p is = absurd cc
     get_take (suc n) [] a p is = is
     get_take (suc n) (q ∷ ps) zero p is = is
     get_take (suc n) (q ∷ ps) (suc a) p is = get_take n ps a p is

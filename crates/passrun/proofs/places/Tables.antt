@@ -27,16 +27,16 @@ set_other e j a v i b h = go (nat_eq i j) refl
     go false z = refl
     go true z = second (nat_eq b a) z refl
 
-pub set_target : (e : Table) (j a : ℕ) (v : Value) (o t : Target) → t ≡ record { place = j; attr = a } → (o ≡ t → ⊥)
+pub set_target : (e : Table) (j a : ℕ) (v : Value) (o : Target) {t : Target} → t ≡ record { place = j; attr = a } → (o ≡ t → ⊥)
     → set e j a v o.place o.attr ≡ e o.place o.attr
-set_target e j a v o t is h = set_other e j a v o.place o.attr (λ both.
+set_target e j a v o is h = set_other e j a v o.place o.attr (λ both.
     let x = both.0 in
     let y = both.1 in
     h (ap (λ j. record { place = j; attr = o.attr }) x ∙ ap (λ b. record { place = j; attr = b }) y ∙ sym is))
 
-value_same : (p k : ℕ) (x y : Value) (xs ys : List Value) → (p ≤ k → x ≡ y) → xs ≡ ys
+value_same : (p k : ℕ) (x y : Value) {xs ys : List Value} → (p ≤ k → x ≡ y) → xs ≡ ys
     → (if nat_le p k then x ∷ [] else []) ++ xs ≡ (if nat_le p k then y ∷ [] else []) ++ ys
-value_same p k x y xs ys h e = go (nat_le p k) refl
+value_same p k x y {xs} {ys} h e = go (nat_le p k) refl
   where
     go : (b : Bool) → nat_le p k ≡ b → (if b then x ∷ [] else []) ++ xs ≡ (if b then y ∷ [] else []) ++ ys
     go false z = e
@@ -47,8 +47,7 @@ pub same_values : (k : ℕ) (ps : List ℕ) (f h : ℕ → Value) → ((a p : �
     → values_up_to k ps f ≡ values_up_to k ps h
 same_values k [] f h e = refl
 same_values k (p ∷ ps) f h e =
-    value_same p k (f 0) (h 0) (values_up_to k ps (λ a. f (suc a))) (values_up_to k ps (λ a. h (suc a))) (e 0 p refl)
-    (same_values k ps (λ a. f (suc a)) (λ a. h (suc a)) (λ a. e (suc a)))
+    value_same p k (f 0) (h 0) (e 0 p refl) (same_values k ps (λ a. f (suc a)) (λ a. h (suc a)) (λ a. e (suc a)))
 
 -- The table with the values at one place replaced.
 pub with_is : (e : Table) (j : ℕ) (f : ℕ → Value) → with_row e j f j ≡ f
@@ -70,7 +69,7 @@ value_has : (P : Value → Type 0) (p k : ℕ) (x : Value) (xs : List Value) →
 value_has P p k x xs h = go (nat_le p k) refl h
   where
     go : (b : Bool) → nat_le p k ≡ b → All P ((if b then x ∷ [] else []) ++ xs) → (p ≤ k → P x) × All P xs
-    go false z h = ((λ l. let y = le-leb p k l in absurd (cc)), h)
+    go false z h = ((λ l. let y = le-leb p k l in absurd cc), h)
     go true z h = ((λ l. All-head P x xs h), All-tail P x xs h)
 
 pub in_row : (P : Value → Type 0) (k : ℕ) (ps : List ℕ) (f : ℕ → Value) → All P (values_up_to k ps f) → (a p : ℕ)

@@ -32,7 +32,7 @@ use Rattle.passrun.proofs.places.Slots.{begins_with_copy, length_row, length_sto
 use Rattle.passrun.proofs.steps.RuleRuns.{IsPlaced}
 use Rattle.passrun.proofs.steps.Ruled.{argument_there}
 use Rattle.passrun.proofs.steps.EntersNone.{goes_nowhere}
-use Rattle.passrun.proofs.steps.Steps.{IsGivingOf, at_end, at_get, at_put, give_next, runs_next}
+use Rattle.passrun.proofs.steps.Steps.{IsGivingOf, IsNext, at_end, at_get, at_put, give_next, runs_next}
 
 -- An open node has a next instruction.
 pub record IsHere (c : Setting) (x : OpenNode) : Type 0 where
@@ -78,7 +78,7 @@ pub record HasRule (c : Setting) (x : OpenNode) (j a r : ℕ) (values : List Val
 -- The copies for a child are in the row of its node.
 copies_within : (c : Setting) (xs : List Item) (b : ℕ) (x : Item) → slice_get xs b ≡ Some x
     → copied_before c xs b + copied_width c x ≤ copied_all c xs
-copies_within c [] b x at = absurd (let bad : ⊥ = cc in bad)
+copies_within c [] b x at = absurd cc
 copies_within c (y ∷ xs) zero x at = let same : y ≡ x = cc in let n = ap (copied_width c) same in omega arith
 copies_within c (y ∷ xs) (suc b) x at = let n = copies_within c xs b x at in omega arith
 
@@ -86,79 +86,68 @@ row_within : (c : Setting) (q : Production) (b : ℕ) (x : Item) → slice_get (
     → copy_start c q (suc b) + copied_width c x ≤ stored_width c q
 row_within c q b x at = let n = copies_within c (stored_items q.items) b x at in omega arith
 
-module _ (c : Setting) (sound : IsSound c) where
-  pub here : (root : ℕ) (x : OpenNode) (xs : List OpenNode) (values : List Value) (t : Transcript) (now : ℕ) (todo : Pending)
-      → RunInvariant c root (x ∷ xs) values t now todo → IsHere c x
-  here root x xs values t now todo (s, f, under, old, before, others, waits, ph, o) =
+-- The copies for the child at the next place are among the values.
+copies_in : (c : Setting) (x : OpenNode) (q : Production) (i : ℕ) (f : ℕ → Value) (e : Table) {x' : Item}
+    (under row : List Value) {values : List Value} → item_at q (place_of q c.write i) ≡ Some x' → x.base ≡ length under
+    → values ≡ under ++ (stored c q f e ++ row)
+    → x.base + (copy_start c q (place_of q c.write i) + copied_width c x') ≤ length values
+copies_in c x q i f e {x'} under row occurs base is =
+    let n = row_within c q (nth (pass_direction c) (arity q) i) x' occurs in
+    let m = length_stored c q f e in
+    let a = length-append under (stored c q f e ++ row) in
+    let b = length-append (stored c q f e) row in
+    let d = ap length is in
+    omega arith
+
+module _ {c : Setting} (root : ℕ) {x : OpenNode} (xs : List OpenNode) {values : List Value} {t : Transcript} {now : ℕ}
+    {todo : Pending} where
+  pub here : RunInvariant c root (x ∷ xs) values t now todo → IsHere c x
+  here (s, f, under, old, before, others, waits, ph, o) =
       let some = some_left ph (rest_of c x) o.runs o.current in
       let n = length-drop x.at (list_at c x.production) in
       record { production = o.production; there = o.is_open.there; next = omega arith }
     where
       some_left : (ph : Phase) (zs : List Instr) → Runs c.passes o.production c.write (state_of ph o.i o.done) zs
           → IsCurrent c o.production ph o.i (suc (length xs)) x.child o.table o.of_child o.row o.mid t o.count → 0 < length zs
-      some_left ph [] ended current =
-          elim
-          (subst (λ ph. IsCurrent c o.production ph o.i (suc (length xs)) x.child o.table o.of_child o.row o.mid t o.count)
-          ended current) [ ]
+      some_left ph [] ended current = elim (rw ended at current) [ ]
       some_left ph (z ∷ zs) runs current = omega arith
 
-  -- The copies for the child at the next place are among the values.
-  copies_in : (x : OpenNode) (q : Production) (i : ℕ) (under row values : List Value) (f : ℕ → Value) (e : Table) (x' : Item)
-      → IsProduction c.grammar x.production q → item_at q (place_of q c.write i) ≡ Some x' → x.base ≡ length under
-      → values ≡ under ++ (stored c q f e ++ row)
-      → x.base + (copy_start c q (place_of q c.write i) + copied_width c x') ≤ length values
-  copies_in x q i under row values f e x' there occurs base is =
-      let n = row_within c q (nth (pass_direction c) (arity q) i) x' occurs in
-      let m = length_stored c q f e in
-      let a = length-append under (stored c q f e ++ row) in
-      let b = length-append (stored c q f e) row in
-      let d = ap length is in
-      omega arith
-
-  pub put_place : (root : ℕ) (x : OpenNode) (xs : List OpenNode) (values : List Value) (t : Transcript) (now : ℕ) (todo : Pending)
-      (j : ℕ) → slice_get (list_at c x.production) x.at ≡ Some (instr.Put j) → RunInvariant c root (x ∷ xs) values t now todo
-      → HasPlace c x j values
-  put_place root x xs values t now todo j at (s, f, under, old, before, others, waits, ph, here) =
-      let o = at_put here j at in
+  pub put_place : {j : ℕ} → IsNext c x (instr.Put j) → RunInvariant c root (x ∷ xs) values t now todo → HasPlace c x j values
+  put_place at (s, f, under, old, before, others, waits, ph, here) =
+      let o = at_put here at in
       let q = o.production in
-      let place = (runs_next c x (instr.Put j) at q Gone o.i o.done o.runs).0.place in
+      let place = (runs_next o at).0.place in
       let g = o.current.0 in
-      let within =
-      copies_in x q o.i under o.row values (o.table 0) o.copied g.item o.is_open.there g.occurs o.base o.values_are in
       record {
         production = q;
         there = o.is_open.there;
         item = g.item;
-        occurs = cc;
+        occurs = ap (item_at q) place ∙ g.occurs;
         some = omega arith;
-        within = subst (λ j. x.base + (copy_start c q j + copied_width c g.item) ≤ length values) (sym place) within;
+        within = subst (λ j. x.base + (copy_start c q j + copied_width c g.item) ≤ length values) (sym place)
+            (copies_in c x q o.i (o.table 0) o.copied under o.row g.occurs o.base o.values_are);
       }
 
-  pub get_place : (root : ℕ) (x : OpenNode) (xs : List OpenNode) (values : List Value) (t : Transcript) (now : ℕ) (todo : Pending)
-      (j : ℕ) → slice_get (list_at c x.production) x.at ≡ Some (instr.Get j) → RunInvariant c root (x ∷ xs) values t now todo
-      → HasPlace c x j values
-  get_place root x xs values t now todo j at (s, f, under, old, before, others, waits, ph, here) =
-      let o = at_get here j at in
+  pub get_place : {j : ℕ} → IsNext c x (instr.Get j) → RunInvariant c root (x ∷ xs) values t now todo → HasPlace c x j values
+  get_place at (s, f, under, old, before, others, waits, ph, here) =
+      let o = at_get here at in
       let q = o.production in
-      let turn = (runs_next c x (instr.Get j) at q Between o.i o.done o.runs).0 in
+      let turn = (runs_next o at).0 in
       let place = turn.place in
       let item = is_stored_child q c.write o.i turn.within in
-      let within =
-      copies_in x q o.i under o.row values (o.table 0) o.copied item.0 o.is_open.there item.1.1 o.base o.values_are in
       record {
         production = q;
         there = o.is_open.there;
         item = item.0;
-        occurs = cc item.1.1;
+        occurs = ap (item_at q) place ∙ item.1.1;
         some = omega arith;
-        within = subst (λ j. x.base + (copy_start c q j + copied_width c item.0) ≤ length values) (sym place) within;
+        within = subst (λ j. x.base + (copy_start c q j + copied_width c item.0) ≤ length values) (sym place)
+            (copies_in c x q o.i (o.table 0) o.copied under o.row item.1.1 o.base o.values_are);
       }
 
   -- When a node ends, its row is the last one.
-  pub own_row : (root : ℕ) (x : OpenNode) (xs : List OpenNode) (values : List Value) (t : Transcript) (now : ℕ) (todo : Pending)
-      → slice_get (list_at c x.production) x.at ≡ Some instr.End → RunInvariant c root (x ∷ xs) values t now todo
-      → HasOwn c x values
-  own_row root x xs values t now todo at (s, f, under, old, before, others, waits, ph, here) =
+  pub own_row : IsNext c x instr.End → RunInvariant c root (x ∷ xs) values t now todo → HasOwn c x values
+  own_row at (s, f, under, old, before, others, waits, ph, here) =
       let o = at_end here at in
       let q = o.production in
       let n = length_stored c q (o.table 0) o.copied in
@@ -169,148 +158,136 @@ module _ (c : Setting) (sound : IsSound c) where
       let k = o.base in
       record { production = q; there = o.is_open.there; within = omega arith }
 
-  -- When a node ends, the copies of its values come before its row.
-  pub waited : (root : ℕ) (x y : OpenNode) (ys : List OpenNode) (values : List Value) (t : Transcript) (now : ℕ) (todo : Pending)
-      → slice_get (list_at c x.production) x.at ≡ Some instr.End → RunInvariant c root (x ∷ y ∷ ys) values t now todo
-      → HasWaited c y x.base values
-  waited root x y ys values t now todo at h =
-      let own = own_row root x (y ∷ ys) values t now todo at h in
-      go own h
-    where
-      go : HasOwn c x values → RunInvariant c root (x ∷ y ∷ ys) values t now todo → HasWaited c y x.base values
-      go own (s, f, under, old, before, others, (s', f', under', old', before', others', waits, z), ph, o) =
-          let same : Some o.production ≡ Some own.production = sym o.is_open.there ∙ own.there in
-          let one : o.production ≡ own.production = cc in
-          let left : own.production.left ≡ s = ap (λ q. q.left) (sym one) ∙ o.is_open.left in
-          let within =
-          copies_in y z.production z.i under' [] (under' ++ (stored c z.production (z.table 0) z.copied ++ []))
-          (z.table 0) z.copied (item.Symbol s) z.is_open.there z.occurs z.base refl in
-          let n = length-append under' (stored c z.production (z.table 0) z.copied ++ []) in
-          let m = length-append under' (stored c z.production (z.table 0) z.copied) in
-          let l = length-append (stored c z.production (z.table 0) z.copied) [] in
-          let u = ap length z.under_is in
-          let k = o.base in
-          let before_it : y.base
-          + (copy_start c z.production (place_of z.production c.write z.i) + copied_width c (item.Symbol s)) ≤ x.base =
-          omega arith in
-          let few = begins_with_copy c (item.Symbol s) (o.table 0) in
-          let share = values_up_to c.write (copied_passes c (item.Symbol s)) (o.table 0) in
-          let r = ap length few.1 ∙ length-append share few.0 in
-          let w = length_row c.write (copied_passes c (item.Symbol s)) (o.table 0) in
-          let v = length_row c.write (c.passes s) (o.table 0) ∙ ap (λ s. count_up_to c.write (c.passes s)) (sym left) in
-          let own_is = own.within in
-          record {
-            production = z.production;
-            there = z.is_open.there;
-            item = item.Symbol s;
-            occurs = ap (item_at z.production) z.place_is ∙ z.occurs;
-            some = let p = z.place_is in omega arith;
-            within =
-                subst (λ j. y.base + (copy_start c z.production j + copied_width c (item.Symbol s)) ≤ x.base)
-                (sym z.place_is) before_it;
-            wide = omega arith;
-          }
-
-  pub given_rule : (root : ℕ) (x : OpenNode) (xs : List OpenNode) (values : List Value) (t : Transcript) (now : ℕ)
-      (todo : Pending) (j a r : ℕ) (z : Instr) → IsGivingOf j a r z → slice_get (list_at c x.production) x.at ≡ Some z
-      → RunInvariant c root (x ∷ xs) values t now todo → HasRule c x j a r values
-  given_rule root x xs values t now todo j a r z giving at (s, f, under, old, before, others, waits, ph, o) =
-      record {
-        production = q;
-        there = o.is_open.there;
-        rule = next.0.rule;
-        numbered = next.0.numbered;
-        target = next.0.target;
-        within = within next.1;
-        arguments = arguments;
-      }
-    where
-      q : Production
-      q = o.production
-
-      next : MayCompute c.passes q c.write (state_of ph o.i o.done) j a r × IsPlaced c q (state_of ph o.i o.done) j
-      next = let g =
-          give_next c q ph o.i o.done j a r z (drop (x.at + 1) (list_at c x.production)) giving
-          (runs_next c x z at q ph o.i o.done o.runs) in (g.0, g.1)
-
-      pass : slice_get (item_passes c.passes (item_at q j)) a ≡ Some c.write
-      pass = subst (λ t. slice_get (item_passes c.passes (item_at q t.place)) t.attr ≡ Some c.write) next.0.target next.0.passed
-
-      arguments : (t : Target) → IsArgument next.0.rule t → argument_slot c q t.place t.attr < length (drop x.base values)
-      arguments t arg =
-          let row = stored c q (o.table 0) o.copied ++ o.row in
-          let at =
-          argument_there c sound x.production q (state_of ph o.i o.done) r next.0.rule o.table o.copied o.row o.is_open.there
-          next.0.numbered o.agreement t arg (next.0.available t arg) in
-          let less = slice_get_within row (argument_slot c q t.place t.attr) (o.table t.place t.attr) at in
-          let n = ap length (ap (drop x.base) o.values_are ∙ drop_at under row x.base (sym o.base)) in
-          omega arith
-
-      whole : length values ≡ length under + (stored_width c q + length o.row)
-      whole =
-          let n = length-append under (stored c q (o.table 0) o.copied ++ o.row) in
-          let m = length-append (stored c q (o.table 0) o.copied) o.row in
-          let l = length_stored c q (o.table 0) o.copied in
-          let e = ap length o.values_are in
-          omega arith
-
-      own : j ≡ 0 → x.base + target_slot c q j a < length values
-      own none =
-          let at0 : slice_get (c.passes q.left) a ≡ Some c.write =
-          subst (λ j. slice_get (item_passes c.passes (item_at q j)) a ≡ Some c.write) none pass in
-          let less =
-          slice_get_within (values_up_to c.write (c.passes q.left) (o.table 0)) (rank c.write (c.passes q.left) a)
-          (o.table 0 a) (row_at c.write (c.passes q.left) (o.table 0) a c.write at0 (omega arith)) in
-          let n = length_row c.write (c.passes q.left) (o.table 0) in
-          let slot : target_slot c q j a ≡ rank c.write (c.passes q.left) a =
-          ap (λ j. target_slot c q j a) none
-          ∙ (let z : target_slot c q 0 a ≡ rank c.write (c.passes q.left) a = omega arith in z) in
-          let w = whole in
-          let b = o.base in
-          omega arith
-
-      within : IsPlaced c q (state_of ph o.i o.done) j → x.base + target_slot c q j a < length values
-      within (inl none) = own none
-      within (inr turn) =
-          let current =
-          subst (λ ph. IsCurrent c q ph o.i (suc (length xs)) x.child o.table o.of_child o.row o.mid t o.count) turn.phase_is
-          o.current in
-          let g = current.0 in
-          let pl = place_of q c.write o.i in
-          let ps : item_passes c.passes (item_at q j) ≡ c.passes g.production.left =
-          ap (λ j. item_passes c.passes (item_at q j)) turn.place ∙ ap (item_passes c.passes) g.occurs
-          ∙ ap c.passes (sym g.left) in
-          let at1 : slice_get (c.passes g.production.left) a ≡ Some c.write = cc pass in
-          let less =
-          slice_get_within (values_up_to c.write (c.passes g.production.left) (o.table pl))
-          (rank c.write (c.passes g.production.left) a) (o.table pl a)
-          (row_at c.write (c.passes g.production.left) (o.table pl) a c.write at1 (omega arith)) in
-          let n = length_row c.write (c.passes g.production.left) (o.table pl) in
-          let m = length_stored c g.production (o.table pl) o.of_child in
-          let l = ap length current.2 in
-          let slot : target_slot c q j a ≡ stored_width c q + rank c.write (c.passes g.production.left) a =
-          ap (λ j. target_slot c q j a) turn.place
-          ∙ ap (λ ps. stored_width c q + rank c.write ps a)
-          (ap (λ j. item_passes c.passes (item_at q j)) (sym turn.place) ∙ ps) in
-          let w = whole in
-          let b = o.base in
-          omega arith
-
-  -- After a `Put`, and in the node that waits, the pass does not enter a child next.
-  pub put_stays : (root : ℕ) (x : OpenNode) (xs : List OpenNode) (values : List Value) (t : Transcript) (now : ℕ) (todo : Pending)
-      (j : ℕ) → slice_get (list_at c x.production) x.at ≡ Some (instr.Put j) → RunInvariant c root (x ∷ xs) values t now todo
+  -- After a `Put` the pass does not enter a child next.
+  pub put_stays : {j : ℕ} → IsNext c x (instr.Put j) → RunInvariant c root (x ∷ xs) values t now todo
       → goes_next (drop (x.at + 1) (list_at c x.production)) ≡ false
-  put_stays root x xs values t now todo j at (s, f, under, old, before, others, waits, ph, o) =
-      let next = runs_next c x (instr.Put j) at o.production ph o.i o.done o.runs in
-      goes_nowhere c o.production (state_of Between (suc o.i) o.done) (drop (x.at + 1) (list_at c x.production))
-      (λ e. let bad : ⊥ = cc in bad) next.1
+  put_stays at (s, f, under, old, before, others, waits, ph, o) =
+      let next = runs_next o at in
+      goes_nowhere c o.production (state_of Between (suc o.i) o.done) (drop (x.at + 1) (list_at c x.production)) (λ e. cc) next.1
 
-  pub waits_stay : (root : ℕ) (x : OpenNode) (xs : List OpenNode) (values : List Value) (t : Transcript) (now : ℕ)
-      (todo : Pending) (y : OpenNode) (ys : List OpenNode) → xs ≡ y ∷ ys → RunInvariant c root (x ∷ xs) values t now todo
-      → goes_next (rest_of c y) ≡ false
-  waits_stay root x [] values t now todo y ys e p = absurd (cc)
-  waits_stay root x (w ∷ ws) values t now todo y ys e
-      (s, f, under, old, before, others, (s', f', under', old', before', others', waits, z), ph, o) =
-      let same : w ≡ y = cc in
-      subst (λ w. goes_next (rest_of c w) ≡ false) same
-      (goes_nowhere c z.production (state_of Gone z.i z.done) (rest_of c w) (λ e. let bad : ⊥ = cc in bad) z.runs)
+-- When a node ends, the copies of its values come before its row.
+pub waited : {c : Setting} (root : ℕ) {x y : OpenNode} (ys : List OpenNode) {values : List Value} {t : Transcript} {now : ℕ}
+    {todo : Pending} → IsNext c x instr.End → RunInvariant c root (x ∷ y ∷ ys) values t now todo → HasWaited c y x.base values
+waited {c} root {x} {y} ys {values} {t} {now} {todo} at h = go (own_row root (y ∷ ys) at h) h
+  where
+    go : HasOwn c x values → RunInvariant c root (x ∷ y ∷ ys) values t now todo → HasWaited c y x.base values
+    go own (s, f, under, old, before, others, (s', f', under', old', before', others', waits, z), ph, o) =
+        let same : Some o.production ≡ Some own.production = cc own.there in
+        let one : o.production ≡ own.production = cc in
+        let left : own.production.left ≡ s = cc in
+        let within = copies_in c y z.production z.i (z.table 0) z.copied under' [] z.occurs z.base refl in
+        let n = length-append under' (stored c z.production (z.table 0) z.copied ++ []) in
+        let m = length-append under' (stored c z.production (z.table 0) z.copied) in
+        let l = length-append (stored c z.production (z.table 0) z.copied) [] in
+        let u = ap length z.under_is in
+        let k = o.base in
+        let before_it : y.base
+        + (copy_start c z.production (place_of z.production c.write z.i) + copied_width c (item.Symbol s)) ≤ x.base =
+        omega arith in
+        let few = begins_with_copy c (item.Symbol s) (o.table 0) in
+        let share = values_up_to c.write (copied_passes c (item.Symbol s)) (o.table 0) in
+        let r = ap length few.1 ∙ length-append share few.0 in
+        let w = length_row c.write (copied_passes c (item.Symbol s)) (o.table 0) in
+        let v = length_row c.write (c.passes s) (o.table 0) ∙ ap (λ s. count_up_to c.write (c.passes s)) (sym left) in
+        let own_is = own.within in
+        record {
+          production = z.production;
+          there = z.is_open.there;
+          item = item.Symbol s;
+          occurs = cc;
+          some = let p = z.place_is in omega arith;
+          within = rw z.place_is before_it;
+          wide = omega arith;
+        }
+
+-- In the node that waits, the pass does not enter a child next.
+pub waits_stay : {c : Setting} (root : ℕ) {x : OpenNode} (xs : List OpenNode) {values : List Value} {t : Transcript} {now : ℕ}
+    {todo : Pending} {y : OpenNode} {ys : List OpenNode} → xs ≡ y ∷ ys → RunInvariant c root (x ∷ xs) values t now todo
+    → goes_next (rest_of c y) ≡ false
+waits_stay root [] e p = absurd cc
+waits_stay {c} root (w ∷ ws) {y = y} e
+    (s, f, under, old, before, others, (s', f', under', old', before', others', waits, z), ph, o) =
+    let same : w ≡ y = cc in
+    subst (λ w. goes_next (rest_of c w) ≡ false) same
+    (goes_nowhere c z.production (state_of Gone z.i z.done) (rest_of c w) (λ e. cc) z.runs)
+
+pub given_rule : {c : Setting} → IsSound c → (root : ℕ) {x : OpenNode} (xs : List OpenNode) {values : List Value} {t : Transcript}
+    {now : ℕ} {todo : Pending} {j a r : ℕ} {z : Instr} → IsGivingOf j a r z → IsNext c x z
+    → RunInvariant c root (x ∷ xs) values t now todo → HasRule c x j a r values
+given_rule {c} sound root {x} xs {values} {t} {j = j} {a = a} {r = r} giving at (s, f, under, old, before, others, waits, ph, o) =
+    record {
+      production = q;
+      there = o.is_open.there;
+      rule = next.0.rule;
+      numbered = next.0.numbered;
+      target = next.0.target;
+      within = within next.1;
+      arguments = arguments;
+    }
+  where
+    q : Production
+    q = o.production
+
+    next : MayCompute c.passes q c.write (state_of ph o.i o.done) j a r × IsPlaced c q (state_of ph o.i o.done) j
+    next = let g = give_next o giving at in (g.0, g.1)
+
+    pass : slice_get (item_passes c.passes (item_at q j)) a ≡ Some c.write
+    pass = rw next.0.target at next.0.passed
+
+    arguments : (t : Target) → IsArgument next.0.rule t → argument_slot c q t.place t.attr < length (drop x.base values)
+    arguments t arg =
+        let row = stored c q (o.table 0) o.copied ++ o.row in
+        let at =
+        argument_there sound x.production q (state_of ph o.i o.done) r next.0.rule o.table o.copied o.row o.is_open.there
+        next.0.numbered o.agreement t arg (next.0.available t arg) in
+        let less = slice_get_within row (argument_slot c q t.place t.attr) (o.table t.place t.attr) at in
+        let n = ap length (ap (drop x.base) o.values_are ∙ drop_at under row x.base (sym o.base)) in
+        omega arith
+
+    whole : length values ≡ length under + (stored_width c q + length o.row)
+    whole =
+        let n = length-append under (stored c q (o.table 0) o.copied ++ o.row) in
+        let m = length-append (stored c q (o.table 0) o.copied) o.row in
+        let l = length_stored c q (o.table 0) o.copied in
+        let e = ap length o.values_are in
+        omega arith
+
+    own : j ≡ 0 → x.base + target_slot c q j a < length values
+    own none =
+        let at0 : slice_get (c.passes q.left) a ≡ Some c.write = rw none at pass in
+        let less =
+        slice_get_within (values_up_to c.write (c.passes q.left) (o.table 0)) (rank c.write (c.passes q.left) a)
+        (o.table 0 a) (row_at c.write (c.passes q.left) (o.table 0) a c.write at0 (omega arith)) in
+        let n = length_row c.write (c.passes q.left) (o.table 0) in
+        let slot : target_slot c q j a ≡ rank c.write (c.passes q.left) a =
+        ap (λ j. target_slot c q j a) none
+        ∙ (let z : target_slot c q 0 a ≡ rank c.write (c.passes q.left) a = omega arith in z) in
+        let w = whole in
+        let b = o.base in
+        omega arith
+
+    within : IsPlaced c q (state_of ph o.i o.done) j → x.base + target_slot c q j a < length values
+    within (inl none) = own none
+    within (inr turn) =
+        let current =
+        subst (λ ph. IsCurrent c q ph o.i (suc (length xs)) x.child o.table o.of_child o.row o.mid t o.count) turn.phase_is
+        o.current in
+        let g = current.0 in
+        let pl = place_of q c.write o.i in
+        let ps : item_passes c.passes (item_at q j) ≡ c.passes g.production.left =
+        ap (λ j. item_passes c.passes (item_at q j)) turn.place ∙ ap (item_passes c.passes) g.occurs
+        ∙ ap c.passes (sym g.left) in
+        let at1 : slice_get (c.passes g.production.left) a ≡ Some c.write = cc pass in
+        let less =
+        slice_get_within (values_up_to c.write (c.passes g.production.left) (o.table pl))
+        (rank c.write (c.passes g.production.left) a) (o.table pl a)
+        (row_at c.write (c.passes g.production.left) (o.table pl) a c.write at1 (omega arith)) in
+        let n = length_row c.write (c.passes g.production.left) (o.table pl) in
+        let m = length_stored c g.production (o.table pl) o.of_child in
+        let l = ap length current.2 in
+        let slot : target_slot c q j a ≡ stored_width c q + rank c.write (c.passes g.production.left) a =
+        ap (λ j. target_slot c q j a) turn.place
+        ∙ ap (λ ps. stored_width c q + rank c.write ps a) (ap (λ j. item_passes c.passes (item_at q j)) (sym turn.place) ∙ ps) in
+        let w = whole in
+        let b = o.base in
+        omega arith

@@ -1,5 +1,5 @@
 -- Entering a child.
-use Rattle.std.proofs.Common.{ℕ, ◌≡◌, ◌-◌, ◌≤◌, List, [], ◌∷◌, ◌++◌, Some, slice_get, length, reverse, ap, ◌∙◌, sym, subst, arith}
+use Rattle.std.proofs.Common.{ℕ, ◌≡◌, ◌-◌, ◌≤◌, List, [], ◌∷◌, ◌++◌, Some, length, reverse, ap, ◌∙◌, sym, subst, arith}
 use Rattle.std.proofs.Common.{length-append}
 use Rattle.std.proofs.lemmas.List.{reverse-append}
 use Rattle.ag_value.specs.declared.value.Value.{Value}
@@ -7,7 +7,7 @@ use Rattle.ag_grammar.specs.declared.grammar.Production.{Production}
 use Rattle.ag_grammar.specs.grammars.AttributeGrammar.{IsProduction}
 use Rattle.passcode.specs.declared.instr.Instr.TheVariants as instr
 use Rattle.passcode.specs.Course.{place_of}
-use Rattle.passcode.specs.Settings.{Setting, list_at}
+use Rattle.passcode.specs.Settings.{Setting}
 use Rattle.passcode.specs.Sound.{IsSound}
 use Rattle.pass_rows.specs.declared.open_node.OpenNode.{OpenNode}
 use Rattle.pass_rows.specs.Nodes.{first_at, left_at}
@@ -15,7 +15,7 @@ use Rattle.passrun.specs.passing.RunInvariant.{RunInvariant, IsConsistent, Conti
 use Rattle.pass_rows.specs.Places.{stored}
 use Rattle.pass_rows.specs.layouts.Slots.{stored_width}
 use Rattle.passrun.proofs.places.Slots.{length_stored}
-use Rattle.passrun.proofs.steps.Steps.{at_go, step_go}
+use Rattle.passrun.proofs.steps.Steps.{IsNext, at_go, step_go}
 
 -- The row of the child whose record was read is the last one.
 pub record HasChild (c : Setting) (p : ℕ) (values : List Value) : Type 0 where
@@ -23,10 +23,10 @@ pub record HasChild (c : Setting) (p : ℕ) (values : List Value) : Type 0 where
   pub there : IsProduction c.grammar p production
   pub width : stored_width c production ≤ length values
 
-pub child_of : (c : Setting) → IsSound c → (x : OpenNode) (xs : List OpenNode) (values : List Value) (j : ℕ)
-    → slice_get (list_at c x.production) x.at ≡ Some (instr.Go j) → IsConsistent c (x ∷ xs) values → HasChild c x.child values
-child_of c sound x xs values j at (root, t, now, todo, (s, f, under, old, before, others, waits, ph, here)) =
-    let o = at_go here j at in
+pub child_of : {c : Setting} {x : OpenNode} (xs : List OpenNode) {values : List Value} {j : ℕ} → IsNext c x (instr.Go j)
+    → IsConsistent c (x ∷ xs) values → HasChild c x.child values
+child_of {c} xs at (root, t, now, todo, (s, f, under, old, before, others, waits, ph, here)) =
+    let o = at_go here at in
     let q = o.production in
     let g = o.current.0 in
     let row = stored c g.production (o.table (place_of q c.write o.i)) o.of_child in
@@ -37,15 +37,15 @@ child_of c sound x xs values j at (root, t, now, todo, (s, f, under, old, before
     let e = ap length o.values_are in
     record { production = g.production; there = g.there; width = omega arith }
 
-pub goes : (c : Setting) → IsSound c → (x : OpenNode) (old new : List OpenNode) (values : List Value) (j width : ℕ)
-    → slice_get (list_at c x.production) x.at ≡ Some (instr.Go j)
+pub goes : {c : Setting} → IsSound c → (x : OpenNode) (old new : List OpenNode) (values : List Value) (j width : ℕ)
+    → IsNext c x (instr.Go j)
     → ((q : Production) → IsProduction c.grammar x.child q → width ≡ stored_width c q) → new ≡ old ++ left_at x j ∷ []
     → ContinuesAs c (x ∷ reverse old) values (first_at x.child (length values - width) ∷ reverse new) values
-goes c sound x old new values j width at is pushed root t now todo h =
-    let child = child_of c sound x (reverse old) values j at (root, t, now, todo, h) in
+goes {c} sound x old new values j width at is pushed root t now todo h =
+    let child = child_of (reverse old) at (root, t, now, todo, h) in
     subst (λ ys. RunInvariant c root (first_at x.child (length values - width) ∷ ys) values t now todo)
     (sym (ap reverse pushed ∙ reverse-append old (left_at x j ∷ [])))
-    (step_go c sound root x (reverse old) values t now todo j (length values - width) at (λ q there.
+    (step_go sound root (reverse old) at (λ q there.
     let same : Some child.production ≡ Some q = cc there in
     let one : child.production ≡ q = cc in
     let w = is q there in

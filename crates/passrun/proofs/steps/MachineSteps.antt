@@ -27,7 +27,7 @@ use Rattle.treefile.specs.records.Records.{values_up_to}
 use Rattle.treefile.specs.framing.Writing as writing
 use Rattle.backreader.specs.BackState.{BackState}
 use Rattle.passcode.specs.declared.instr.Instr.TheVariants as instr
-use Rattle.passcode.specs.Settings.{Setting, list_at}
+use Rattle.passcode.specs.Settings.{Setting}
 use Rattle.passcode.specs.Sound.{IsSound}
 use Rattle.pass_rows.specs.declared.layouts.building.PlaceRow.{PlaceRow}
 use Rattle.pass_rows.specs.declared.layouts.building.ProductionRow.{ProductionRow}
@@ -36,10 +36,9 @@ use Rattle.passrun.specs.declared.passing.machine.Machine.{Machine}
 use Rattle.pass_rows.specs.declared.open_node.OpenNode.{OpenNode}
 use Rattle.passrun.specs.reading.Fetching.{HasFetched}
 use Rattle.pass_rows.specs.layouts.BuiltLayouts.{place_rows}
-use Rattle.pass_rows.specs.layouts.Layouts.{AreSlotsOf, IsRowAt}
+use Rattle.pass_rows.specs.layouts.Layouts.{AreSlotsOf, IsRowAt, IsRowOf}
 use Rattle.pass_rows.specs.Nodes.{after_step}
-use Rattle.passrun.specs.Passed.{IsRunning}
-use Rattle.passrun.specs.passing.RunInvariant.{ContinuesAs, IsConsistent, RunInvariant}
+use Rattle.passrun.specs.passing.RunInvariant.{ContinuesAs, IsConsistent}
 use Rattle.pass_rows.specs.Places.{copied_passes, copies, kept_values}
 use Rattle.passrun.specs.passing.Putting.{HasPut}
 use Rattle.pass_rows.specs.reading.Reading.{Agrees, IsRead, read_values}
@@ -48,13 +47,13 @@ use Rattle.passrun.specs.passing.Running.{stack_of}
 use Rattle.pass_rows.specs.layouts.Slots.{argument_slot, copied_width, copy_start, known_width, target_slot}
 use Rattle.treefile.proofs.records.Values.{count_of_values}
 use Rattle.passrun.proofs.course.Counted.{passing_counted}
-use Rattle.pass_rows.proofs.places.Entries.{place_is, place_within, some_at}
+use Rattle.pass_rows.proofs.places.Entries.{place_is, place_within, slots_found, some_at}
 use Rattle.passrun.proofs.steps.Facts.{HasOwn, HasPlace, HasRule, HasWaited, given_rule, get_place, own_row, put_place, waited}
 use Rattle.pass_rows.proofs.Recorded.{empty_is}
-use Rattle.passrun.proofs.steps.Ruled.{given_runs, rule_named}
-use Rattle.passrun.proofs.steps.Running.{ended_runs, gone_runs, got_runs, left_node, put_runs, root_ended}
+use Rattle.passrun.proofs.steps.Ruled.{rule_named}
+use Rattle.passrun.proofs.steps.Running.{ended_runs, given_runs, gone_runs, got_runs, put_runs}
 use Rattle.passrun.proofs.places.Slots.{begins_with_copy}
-use Rattle.passrun.proofs.steps.Steps.{HasAgreed, same_production}
+use Rattle.passrun.proofs.steps.Steps.{HasAgreed, IsNext, same_production, step_end_root, step_put_node}
 use Rattle.passrun.proofs.places.Tables.{text_row}
 
 -- The answer is the description (`PlaceRow`) of place j in the layout of the production of the node x, if there is such a place.
@@ -95,11 +94,11 @@ begins_so c (item.Terminal (Literal l)) p body old new h = elim h [ ]
 
 -- Values that the code found equal to the copies agree with those that were read.
 pub has_agreed : (c : Setting) (q : Production) (x : OpenNode) (j : ℕ) (x' : Item) (p : ℕ) (body : List ℕ)
-    (old new ours theirs : List Value) (from start : ℕ) (answer : Bool) (h : IsRead c x' p body old new)
+    (old new : List Value) {ours theirs : List Value} {from start : ℕ} (answer : Bool) (h : IsRead c x' p body old new)
     → Agrees c x' ours theirs answer → IsTrue answer
     → ours ≡ drop from new → theirs ≡ drop start new → from ≡ x.base + copy_start c q j → start ≡ length old
     → HasAgreed c q x j x' new (read_values c x' p body old new h)
-has_agreed c q x j x' p body old new ours theirs from start answer h agrees true_is ours_are theirs_are from_is start_is f rest
+has_agreed c q x j x' p body old new answer h agrees true_is ours_are theirs_are from_is start_is f rest
     prefix =
     let back = begins_so c x' p body old new h in
     (agrees f (read_values c x' p body old new h) rest back.0 (cc)
@@ -113,8 +112,8 @@ symbol_there (item.Terminal t) other = absurd (other t refl)
 -- No literal is a child.
 class_there : (xs : List Item) (b : ℕ) (t : Terminal) → slice_get (stored_items xs) b ≡ Some (item.Terminal t)
     → (d : ℕ) × (t ≡ Class d)
-class_there [] b t at = absurd (let bad : ⊥ = cc in bad)
-class_there (item.Symbol s ∷ xs) zero t at = absurd (let bad : ⊥ = cc in bad)
+class_there [] b t at = absurd cc
+class_there (item.Symbol s ∷ xs) zero t at = absurd cc
 class_there (item.Symbol s ∷ xs) (suc b) t at = class_there xs b t at
 class_there (item.Terminal (Class d) ∷ xs) zero t at =
     (d, let e : Some (item.Terminal (Class d)) ≡ Some (item.Terminal t) = at in cc)
@@ -122,29 +121,29 @@ class_there (item.Terminal (Class d) ∷ xs) (suc b) t at = class_there xs b t a
 class_there (item.Terminal (Literal l) ∷ xs) b t at = class_there xs b t at
 
 pub class_at : (q : Production) (j : ℕ) (t : Terminal) → item_at q j ≡ Some (item.Terminal t) → (d : ℕ) × (t ≡ Class d)
-class_at q zero t at = absurd (let bad : ⊥ = cc in bad)
+class_at q zero t at = absurd cc
 class_at q (suc b) t at = class_there q.items b t at
 
 -- The production at an index.
-pub indexed : (c : Setting) (p : ℕ) (xs : List Production) (q r : Production) → xs ≡ c.grammar.productions → q ≡ get_or xs p q
+pub indexed : (c : Setting) (p : ℕ) {xs : List Production} {q r : Production} → xs ≡ c.grammar.productions → q ≡ get_or xs p q
     → IsProduction c.grammar p r → IsProduction c.grammar p q
-indexed c p xs q r same is there =
+indexed c p {xs} {q} {r} same is there =
     let less : p < length xs = let l = slice_get_within c.grammar.productions p r there in let m = ap length same in
     omega arith in cc (slice_get-get_or xs p q less)
 
 -- If popping returned nothing, the first fact that the contract of `pop` states for this case holds.
 pub none_popped : (P Q : Type 0) (R : OpenNode → Type 0) (r : Option OpenNode) → MatchOption r (P × Q) R → r ≡ None → P
 none_popped P Q R None m e = m.0
-none_popped P Q R (Some x) m e = absurd (cc)
+none_popped P Q R (Some x) m e = absurd cc
 
 -- If nothing was popped, both lists are empty.
 pub popped_none : (xs ys : List OpenNode) → xs ≡ ys ++ [] → length xs ≡ 0 → (xs ≡ []) × (ys ≡ [])
 popped_none [] [] is none = (refl, refl)
-popped_none [] (y ∷ ys) is none = absurd (let bad : ⊥ = cc in bad)
+popped_none [] (y ∷ ys) is none = absurd cc
 popped_none (x ∷ xs) ys is none = absurd (omega arith)
 
 pub some_is : (x : OpenNode) → Some x ≡ None → ⊥
-some_is x is = let bad : ⊥ = cc in bad
+some_is x is = cc
 
 -- The rule at an index.
 pub rule_indexed : (xs rules : List Rule) (r : ℕ) (u w : Rule) → xs ≡ rules → u ≡ get_or xs r u → slice_get rules r ≡ Some w
@@ -168,9 +167,9 @@ pub record IsPlace (c : Setting) (x : OpenNode) (j : ℕ) (row : PlaceRow) (valu
   pub known : row.known ≡ known_width c row.item
   pub within : x.base + (copy_start c production j + copied_width c row.item) ≤ length values
 
-the_place : (c : Setting) (x : OpenNode) (j : ℕ) (row : PlaceRow) (values : List Value) → HasPlace c x j values
+the_place : {c : Setting} {x : OpenNode} {j : ℕ} {row : PlaceRow} {values : List Value} → HasPlace c x j values
     → Answers c x j (Some row) → IsPlace c x j row values
-the_place c x j row values h is =
+the_place {c} {x} {j} {row} {values} h is =
     let z = place_is c h.production j row h.item h.some (is h.production h.there) h.occurs in
     record {
       production = h.production;
@@ -178,7 +177,7 @@ the_place c x j row values h is =
       occurs = cc;
       start = z.1;
       known = cc;
-      within = subst (λ x'. x.base + (copy_start c h.production j + copied_width c x') ≤ length values) (sym z.0) h.within;
+      within = rw z.0 h.within;
     }
 
 -- The slots of a rule's arguments are among the values of the node.
@@ -193,53 +192,141 @@ pub record Giver (c : Setting) (m : Machine) (x : OpenNode) (r : ℕ) (q : Produ
   pub arguments : HasArguments c x q u m.values.items
   pub occurrences : length u.expr.1 ≡ length u.args
 
-module _ (c : Setting) (sound : IsSound c) where
-  get_at : (honest : Bool) (content : List ℕ) (m : Machine) (x : OpenNode) (j : ℕ) → RunsFrom c honest content m (Some x)
-      → slice_get (list_at c x.production) x.at ≡ Some (instr.Get j) → HasPlace c x j m.values.items
-  get_at honest content m x j (to_honest, to, meter, r) at =
-      get_place c sound m.root x (reverse m.waiting.items) m.values.items r.running.transcript
-      (meter - m.begun) r.running.todo j at r.running.invariant
+-- The slots of a rule's target and arguments, as the code finds them.
+pub are_slots : {c : Setting} {m : Machine} {x : OpenNode} {r : ℕ} {q : Production} {u : Rule} {row : ProductionRow}
+    {xs : List RuleSlots} {slots : RuleSlots} → Giver c m x r q u → IsRowOf c x.production q row → xs ≡ row.rules
+    → slots ≡ get_or xs r slots → AreSlotsOf c q u slots
+are_slots h is same at = slots_found _ _ _ _ _ _ _ _ is h.numbered same at
 
-  pub item_within : (honest : Bool) (content : List ℕ) (m : Machine) (x : OpenNode) (j : ℕ) (row : ProductionRow)
-      → RunsFrom c honest content m (Some x) → slice_get (list_at c x.production) x.at ≡ Some (instr.Get j)
+pub entered : (c : Setting) (m : Machine) (x : OpenNode) (waiting : Vec OpenNode) {values : List Value}
+    (result : Result OpenNode NoMemory) → values ≡ m.values.items
+    → IfOk result (λ child. ContinuesAs c (x ∷ reverse m.waiting.items) values (child ∷ reverse waiting.items) values)
+    → IfOk result (λ child. Leads c m (record m { waiting = waiting }) (Some x) (Some child))
+entered c m x waiting (Err e) vs goes = goes
+entered c m x waiting (Ok child) vs goes = λ meter honest content to_honest to r.
+    let g = subst (λ vs. ContinuesAs c (x ∷ reverse m.waiting.items) vs (child ∷ reverse waiting.items) vs) vs goes in
+    record {
+      running = gone_runs r.running g;
+      begun = r.begun;
+      low = r.low;
+    }
+
+module _ {c : Setting} where
+  get_at : {honest : Bool} {content : List ℕ} {m : Machine} {x : OpenNode} {j : ℕ} → RunsFrom c honest content m (Some x)
+      → IsNext c x (instr.Get j) → HasPlace c x j m.values.items
+  get_at {m} (to_honest, to, meter, r) at = get_place m.root (reverse m.waiting.items) at r.running.invariant
+
+  pub item_within : {honest : Bool} {content : List ℕ} {m : Machine} {x : OpenNode} {j : ℕ} (row : ProductionRow)
+      → RunsFrom c honest content m (Some x) → IsNext c x (instr.Get j)
       → IsRowAt c x.production row → j < length row.places
-  item_within honest content m x j row runs at is = let h = get_at honest content m x j runs at in
+  item_within {x} {j} row runs at is = let h = get_at runs at in
       place_within c x.production h.production row j h.item (is h.production h.there) h.occurs
 
   -- The returned row is that of the place.
-  pub got_place : (honest : Bool) (content : List ℕ) (m : Machine) (x : OpenNode) (j : ℕ) (row : PlaceRow)
-      → RunsFrom c honest content m (Some x) → slice_get (list_at c x.production) x.at ≡ Some (instr.Get j)
+  pub got_place : {honest : Bool} {content : List ℕ} {m : Machine} {x : OpenNode} {j : ℕ} {row : PlaceRow}
+      → RunsFrom c honest content m (Some x) → IsNext c x (instr.Get j)
       → Answers c x j (Some row) → IsPlace c x j row m.values.items
-  got_place honest content m x j row runs at is = let h = get_at honest content m x j runs at in
-      the_place c x j row m.values.items h is
+  got_place runs at is = the_place (get_at runs at) is
 
-  pub got_leads : (m : Machine) (back : BackState) (values : Vec Value) (honest honest' : Bool) (content content' : List ℕ)
-      (x next : OpenNode) (j p n : ℕ) (row : PlaceRow) (read : List Value)
-      → slice_get (list_at c x.production) x.at ≡ Some (instr.Get j) → Answers c x j (Some row)
+  put_at : {m : Machine} {x : OpenNode} {j : ℕ} → RunsSomehow c m (Some x) → IsNext c x (instr.Put j)
+      → HasPlace c x j m.values.items
+  put_at {m} (honest, content, to_honest, to, meter, r) at = put_place m.root (reverse m.waiting.items) at r.running.invariant
+
+  pub row_within : {m : Machine} {x : OpenNode} {j : ℕ} (row : ProductionRow) → RunsSomehow c m (Some x)
+      → IsNext c x (instr.Put j) → IsRowAt c x.production row → j < length row.places
+  row_within {x = x} {j = j} row runs at is = let h = put_at runs at in
+      place_within c x.production h.production row j h.item (is h.production h.there) h.occurs
+
+  pub put_is : {m : Machine} {x : OpenNode} {j : ℕ} {row : PlaceRow} → RunsSomehow c m (Some x)
+      → IsNext c x (instr.Put j) → Answers c x j (Some row) → IsPlace c x j row m.values.items
+  put_is runs at is = the_place (put_at runs at) is
+
+  -- A token's text is among the values.
+  pub text_within : {m : Machine} {x : OpenNode} {j : ℕ} {row : PlaceRow} (t : Terminal) → RunsSomehow c m (Some x)
+      → IsNext c x (instr.Put j) → Answers c x j (Some row) → row.item ≡ item.Terminal t
+      → x.base + row.start + 1 ≤ length m.values.items
+  text_within {j} {row} t runs at is token =
+      let i = put_is runs at is in
+      let d = class_at i.production j t (cc) in
+      let one : copied_width c row.item ≡ 1 = cc (token_width d.0) in
+      let w = i.within in
+      let s = i.start in
+      omega arith
+    where
+      token_width : (d : ℕ) → copied_width c (item.Terminal (Class d)) ≡ 1
+      token_width d = let one : ◌≡◌ {A = ℕ} (if nat_le 0 c.write then 1 else 0) 1 =
+          cc (le-leb 0 c.write (omega arith)) in omega arith
+
+  pub whole_of : {m : Machine} {next : Option OpenNode} → RunsSomehow c m next
+      → (m.writer.is_broken ≡ false) × All IsWell m.values.items
+  whole_of (honest, content, to_honest, to, meter, r) = (r.running.whole, r.running.well)
+
+  pub is_passing : {m : Machine} {x : OpenNode} {values : List Value} → values ≡ m.values.items → RunsSomehow c m (Some x)
+      → IsConsistent c (x ∷ reverse m.waiting.items) values
+  is_passing {m} vs (honest, content, to_honest, to, meter, r) =
+      rw vs (m.root, r.running.transcript, meter - m.begun, r.running.todo, r.running.invariant)
+
+  -- When a node ends, its row is the last one.
+  pub own_of : {m : Machine} {x : OpenNode} → RunsSomehow c m (Some x) → IsNext c x instr.End → HasOwn c x m.values.items
+  own_of {m} (honest, content, to_honest, to, meter, r) at = own_row m.root (reverse m.waiting.items) at r.running.invariant
+
+  -- When a node ends, the copies of its values come before its row, in the row of the node that waits.
+  pub waited_for : {m : Machine} (waiting : List OpenNode) {x y : OpenNode} → RunsSomehow c m (Some x)
+      → IsNext c x instr.End → m.waiting.items ≡ waiting ++ y ∷ []
+      → HasWaited c y x.base m.values.items
+  waited_for {m} waiting {y = y} (honest, content, to_honest, to, meter, r) at is =
+      let stack : reverse m.waiting.items ≡ y ∷ reverse waiting = cc (reverse-append waiting (y ∷ [])) in
+      waited m.root (reverse waiting) at (rw stack at r.running.invariant)
+
+  pub waited_within : {y : OpenNode} {base : ℕ} {values : List Value} (row : ProductionRow) → HasWaited c y base values
+      → IsRowAt c y.production row → y.place < length row.places
+  waited_within {y} row h is = place_within c y.production h.production row y.place h.item (is h.production h.there) h.occurs
+
+  pub waited_place : {y : OpenNode} {base : ℕ} {values : List Value} {row : PlaceRow} → HasWaited c y base values
+      → Answers c y y.place (Some row) → (y.base + row.start + row.width ≤ base) × (base + row.width ≤ length values)
+  waited_place {y} {row} h is =
+      let z = place_is c h.production y.place row h.item h.some (is h.production h.there) h.occurs in
+      let a = z.1 in
+      let b = z.2 in
+      let w = h.within in
+      let v = h.wide in
+      (omega arith, omega arith)
+
+  -- No slot of an argument is out of range.
+  pub slots_within : {m : Machine} {x : OpenNode} {r : ℕ} {q : Production} {u : Rule} {slots : RuleSlots} → Giver c m x r q u
+      → AreSlotsOf c q u slots → All (λ slot. slot < length (drop x.base m.values.items)) slots.args
+  slots_within {m} {x} {u} {slots} h are =
+      All-from_get_or (λ slot. slot < length (drop x.base m.values.items)) slots.args 0 (λ k less.
+      let long = are.args.equally_long in
+      let o = some_at u.args k (omega arith) in
+      let slot = some_at slots.args k less in
+      let is = are.args.each k o.0 slot.0 o.1 slot.1 in
+      let found = get_or_from_slice_get slots.args k slot.0 0 slot.1 in
+      let within = h.arguments o.0 (k, o.1) in
+      omega arith)
+
+  pub well_of : {m : Machine} {next : Option OpenNode} {meter : ℕ} → RunsAt c meter m next → All IsWell m.values.items
+  well_of (honest, content, to_honest, to, runs) = runs.running.well
+
+module _ {c : Setting} (sound : IsSound c) where
+  pub got_leads : {m : Machine} {back : BackState} {values : Vec Value} {honest honest' : Bool} {content content' : List ℕ}
+      {x next : OpenNode} {j p n : ℕ} {row : PlaceRow} {read : List Value}
+      → IsNext c x (instr.Get j) → Answers c x j (Some row)
       → (h : HasFetched c row.item p n honest content m.back back m.values.items read) → n ≡ length m.waiting.items + 1
       → ((q : Production) → IsProduction c.grammar x.production q → row.start ≡ copy_start c q j
       → HasAgreed c q x j row.item read (read_values c row.item p h.body m.values.items read h.taken))
       → values.items ≡ kept_values row.item m.values.items read → honest' ≡ honest → LeavesContent honest content content'
       → next ≡ after_step x p
-      → LeadsFrom c honest honest' content content' m
-      (record { back = back; writer = m.writer; values = values; waiting = m.waiting; root = m.root; begun = m.begun })
-      (Some x) (Some next)
-  got_leads m back values honest honest' content content' x next j p n row read at is h count agreed kept same leaves on to_honest
-      to meter r =
-      let i = got_place honest content m x j row (to_honest, to, meter, r) at is in
+      → LeadsFrom c honest honest' content content' m (record m { back = back; values = values }) (Some x) (Some next)
+  got_leads {m} {back} {honest = honest} {content = content} {p = p} {n} {row} {read} at is h count agreed kept same leaves on
+      to_honest to meter r =
+      let i = got_place (to_honest, to, meter, r) at is in
       let levels : n ≡ suc (length (reverse m.waiting.items)) = let l = length-reverse m.waiting.items in omega arith in
       let run =
-      got_runs c sound m.root honest honest' to_honest content content' to m.back back m.writer m.values.items read x
-      (reverse m.waiting.items) (meter - m.begun) j p i.production row.item at i.there i.occurs (fetched levels)
+      got_runs sound row.item (record { next = at; there = i.there; occurs = i.occurs }) (fetched levels)
       (agreed i.production i.there i.start) same leaves r.running in
       record {
-        running =
-            subst
-            (λ next. IsRunning c m.root honest' content' to_honest to back m.writer values.items
-            (next ∷ reverse m.waiting.items) (meter - m.begun)) (sym on)
-            (subst
-            (λ vs. IsRunning c m.root honest' content' to_honest to back m.writer vs
-            (after_step x p ∷ reverse m.waiting.items) (meter - m.begun)) (cc) run);
+        running = rw (on, kept) run;
         begun = r.begun;
         low = r.low;
       }
@@ -257,210 +344,86 @@ module _ (c : Setting) (sound : IsSound c) where
             few = h.few;
           }
 
-  put_at : (m : Machine) (x : OpenNode) (j : ℕ) → RunsSomehow c m (Some x)
-      → slice_get (list_at c x.production) x.at ≡ Some (instr.Put j) → HasPlace c x j m.values.items
-  put_at m x j (honest, content, to_honest, to, meter, r) at =
-      put_place c sound m.root x (reverse m.waiting.items) m.values.items r.running.transcript
-      (meter - m.begun) r.running.todo j at r.running.invariant
-
-  pub row_within : (m : Machine) (x : OpenNode) (j : ℕ) (row : ProductionRow) → RunsSomehow c m (Some x)
-      → slice_get (list_at c x.production) x.at ≡ Some (instr.Put j) → IsRowAt c x.production row → j < length row.places
-  row_within m x j row runs at is = let h = put_at m x j runs at in
-      place_within c x.production h.production row j h.item (is h.production h.there) h.occurs
-
-  pub put_is : (m : Machine) (x : OpenNode) (j : ℕ) (row : PlaceRow) → RunsSomehow c m (Some x)
-      → slice_get (list_at c x.production) x.at ≡ Some (instr.Put j) → Answers c x j (Some row) → IsPlace c x j row m.values.items
-  put_is m x j row runs at is = the_place c x j row m.values.items (put_at m x j runs at) is
-
-  -- A token's text is among the values.
-  pub text_within : (m : Machine) (x : OpenNode) (j : ℕ) (row : PlaceRow) (t : Terminal) → RunsSomehow c m (Some x)
-      → slice_get (list_at c x.production) x.at ≡ Some (instr.Put j) → Answers c x j (Some row) → row.item ≡ item.Terminal t
-      → x.base + row.start + 1 ≤ length m.values.items
-  text_within m x j row t runs at is token =
-      let i = put_is m x j row runs at is in
-      let d = class_at i.production j t (cc) in
-      let one : copied_width c row.item ≡ 1 = cc (token_width d.0) in
-      let w = i.within in
-      let s = i.start in
-      omega arith
-    where
-      token_width : (d : ℕ) → copied_width c (item.Terminal (Class d)) ≡ 1
-      token_width d = let one : ◌≡◌ {A = ℕ} (if nat_le 0 c.write then 1 else 0) 1 =
-          cc (le-leb 0 c.write (omega arith)) in omega arith
-
-  pub put_room : (m : Machine) (x : OpenNode) → RunsSomehow c m (Some x) → m.writer.written < 2 ^ 64 - 1
-  put_room m x (honest, content, to_honest, to, meter, r) =
-      let n =
-      passing_counted c sound m.root x (reverse m.waiting.items) m.values.items r.running.transcript
-      (meter - m.begun) r.running.todo r.running.invariant in
+  pub put_room : {m : Machine} {x : OpenNode} → RunsSomehow c m (Some x) → m.writer.written < 2 ^ 64 - 1
+  put_room {m} (honest, content, to_honest, to, meter, r) =
+      let n = passing_counted sound m.root (reverse m.waiting.items) r.running.invariant in
       let a = n.0 in
       let few = r.running.few in
       let w = r.running.written in
       omega arith
 
-  pub whole_of : (m : Machine) (next : Option OpenNode) → RunsSomehow c m next
-      → (m.writer.is_broken ≡ false) × All IsWell m.values.items
-  whole_of m next (honest, content, to_honest, to, meter, r) = (r.running.whole, r.running.well)
-
-  pub put_leads : (m : Machine) (out : writing.Progress) (honest honest' : Bool) (content content' : List ℕ) (x next : OpenNode)
-      (j : ℕ) (row : PlaceRow) (t : Terminal) (text : List Value)
-      → RunsSomehow c m (Some x) → slice_get (list_at c x.production) x.at ≡ Some (instr.Put j) → Answers c x j (Some row)
+  pub put_leads : {m : Machine} {out : writing.Progress} {honest honest' : Bool} {content content' : List ℕ} {x next : OpenNode}
+      {j : ℕ} {row : PlaceRow} (t : Terminal) {text : List Value}
+      → RunsSomehow c m (Some x) → IsNext c x (instr.Put j) → Answers c x j (Some row)
       → row.item ≡ item.Terminal t → text ≡ take 1 (drop (x.base + row.start) m.values.items)
       → HasPut Token x.child text honest content content' m.writer out → honest' ≡ honest → next ≡ after_step x x.child
-      → LeadsTo c honest honest' content content' m
-      (record { back = m.back; writer = out; values = m.values; waiting = m.waiting; root = m.root; begun = m.begun })
-      (Some x) (Some next)
-  put_leads m out honest honest' content content' x next j row t text runs at is token text_is h same on from_honest from meter
-      r =
-      let i = put_is m x j row runs at is in
+      → LeadsTo c honest honest' content content' m (record m { writer = out }) (Some x) (Some next)
+  put_leads {m} {x = x} {j = j} t runs at is token text_is h same on from_honest from meter r =
+      let i = put_is runs at is in
       let d = class_at i.production j t (cc) in
       let occurs : item_at i.production j ≡ Some (item.Terminal (Class d.0)) = cc in
       record {
         running =
-            subst
-            (λ next. IsRunning c m.root from_honest from honest' content' m.back out m.values.items
-            (next ∷ reverse m.waiting.items) (meter - m.begun)) (sym on)
-            (put_runs c sound m.root from_honest honest honest' from content content' m.back m.writer out m.values.items x
-            (reverse m.waiting.items) (meter - m.begun) j d.0 i.production text at i.there occurs
+            rw on (put_runs sound (record { next = at; there = i.there; occurs = occurs })
             (cc) h same r.running);
         begun = r.begun;
         low = r.low;
       }
 
-  pub left_leads : (m : Machine) (honest : Bool) (content : List ℕ) (x next : OpenNode) (j s : ℕ) (row : PlaceRow)
-      → RunsSomehow c m (Some x) → slice_get (list_at c x.production) x.at ≡ Some (instr.Put j) → Answers c x j (Some row)
+  pub left_leads : {m : Machine} {honest : Bool} {content : List ℕ} {x next : OpenNode} {j : ℕ} (s : ℕ) {row : PlaceRow}
+      → RunsSomehow c m (Some x) → IsNext c x (instr.Put j) → Answers c x j (Some row)
       → row.item ≡ item.Symbol s → next ≡ after_step x x.child
       → LeadsTo c honest honest content content m m (Some x) (Some next)
-  left_leads m honest content x next j s row runs at is node on from_honest from meter r =
-      let i = put_is m x j row runs at is in
-      let goes =
-      left_node c sound x (reverse m.waiting.items) m.values.items j s i.production at i.there (cc) in
+  left_leads {m} {x = x} s runs at is node on from_honest from meter r =
+      let i = put_is runs at is in
+      let goes : ContinuesAs c (x ∷ reverse m.waiting.items) m.values.items (after_step x x.child ∷ reverse m.waiting.items)
+      m.values.items = λ root t now todo.
+      step_put_node sound root (reverse m.waiting.items) {s' = s}
+      (record { next = at; there = i.there; occurs = cc }) in
       record {
-        running =
-            subst
-            (λ next. IsRunning c m.root from_honest from honest content m.back m.writer m.values.items
-            (next ∷ reverse m.waiting.items) (meter - m.begun)) (sym on)
-            (gone_runs c sound m.root from_honest honest from content m.back m.writer m.values.items (x ∷ reverse m.waiting.items)
-            (after_step x x.child ∷ reverse m.waiting.items) (meter - m.begun) goes r.running);
+        running = rw on (gone_runs r.running goes);
         begun = r.begun;
         low = r.low;
       }
 
-  pub is_passing : (m : Machine) (x : OpenNode) (values : List Value) → values ≡ m.values.items → RunsSomehow c m (Some x)
-      → IsConsistent c (x ∷ reverse m.waiting.items) values
-  is_passing m x values vs (honest, content, to_honest, to, meter, r) =
-      subst (IsConsistent c (x ∷ reverse m.waiting.items)) (sym vs)
-      (m.root, r.running.transcript, meter - m.begun, r.running.todo, r.running.invariant)
-
-  pub entered : (m : Machine) (x : OpenNode) (waiting : Vec OpenNode) (values : List Value) (result : Result OpenNode NoMemory)
-      → values ≡ m.values.items
-      → IfOk result (λ child. ContinuesAs c (x ∷ reverse m.waiting.items) values (child ∷ reverse waiting.items) values)
-      → IfOk result
-      (λ child.
-      Leads c m
-      (record {
-        back = m.back;
-        writer = m.writer;
-        values = m.values;
-        waiting = waiting;
-        root = m.root;
-        begun = m.begun;
-      }) (Some x) (Some child))
-  entered m x waiting values (Err e) vs goes = goes
-  entered m x waiting values (Ok child) vs goes = λ meter honest content to_honest to r.
-      let g = subst (λ vs. ContinuesAs c (x ∷ reverse m.waiting.items) vs (child ∷ reverse waiting.items) vs) vs goes in
-      record {
-        running =
-            gone_runs c sound m.root honest to_honest content to m.back m.writer m.values.items (x ∷ reverse m.waiting.items)
-            (child ∷ reverse waiting.items) (meter - m.begun) g r.running;
-        begun = r.begun;
-        low = r.low;
-      }
-
-  -- When a node ends, its row is the last one.
-  pub own_of : (m : Machine) (x : OpenNode) → RunsSomehow c m (Some x) → slice_get (list_at c x.production) x.at ≡ Some instr.End
-      → HasOwn c x m.values.items
-  own_of m x (honest, content, to_honest, to, meter, r) at =
-      own_row c sound m.root x (reverse m.waiting.items) m.values.items r.running.transcript
-      (meter - m.begun) r.running.todo at r.running.invariant
-
-  -- When a node ends, the copies of its values come before its row, in the row of the node that waits.
-  pub waited_for : (m : Machine) (waiting : List OpenNode) (x y : OpenNode) → RunsSomehow c m (Some x)
-      → slice_get (list_at c x.production) x.at ≡ Some instr.End → m.waiting.items ≡ waiting ++ y ∷ []
-      → HasWaited c y x.base m.values.items
-  waited_for m waiting x y (honest, content, to_honest, to, meter, r) at is =
-      let stack : reverse m.waiting.items ≡ y ∷ reverse waiting = cc (reverse-append waiting (y ∷ [])) in
-      waited c sound m.root x y (reverse waiting) m.values.items r.running.transcript (meter - m.begun) r.running.todo at
-      (subst (λ xs. RunInvariant c m.root (x ∷ xs) m.values.items r.running.transcript (meter - m.begun) r.running.todo) stack
-      r.running.invariant)
-
-  pub waited_within : (y : OpenNode) (base : ℕ) (values : List Value) (row : ProductionRow) → HasWaited c y base values
-      → IsRowAt c y.production row → y.place < length row.places
-  waited_within y base values row h is =
-      place_within c y.production h.production row y.place h.item (is h.production h.there) h.occurs
-
-  pub waited_place : (y : OpenNode) (base : ℕ) (values : List Value) (row : PlaceRow) → HasWaited c y base values
-      → Answers c y y.place (Some row) → (y.base + row.start + row.width ≤ base) × (base + row.width ≤ length values)
-  waited_place y base values row h is =
-      let z = place_is c h.production y.place row h.item h.some (is h.production h.there) h.occurs in
-      let a = z.1 in
-      let b = z.2 in
-      let w = h.within in
-      let v = h.wide in
-      (omega arith, omega arith)
-
-  pub ended_leads : (m : Machine) (values : Vec Value) (waiting : Vec OpenNode) (out : writing.Progress) (honest honest' : Bool)
-      (content content' : List ℕ) (x y : OpenNode) (row : PlaceRow) (put : List Value) (from : ℕ)
-      → RunsSomehow c m (Some x) → slice_get (list_at c x.production) x.at ≡ Some instr.End
+  pub ended_leads : {m : Machine} {values : Vec Value} {waiting : Vec OpenNode} {out : writing.Progress} {honest honest' : Bool}
+      {content content' : List ℕ} {x y : OpenNode} {row : PlaceRow} {put : List Value} {from : ℕ}
+      → RunsSomehow c m (Some x) → IsNext c x instr.End
       → m.waiting.items ≡ waiting.items ++ y ∷ [] → Answers c y y.place (Some row) → from ≡ y.base + row.start
       → put ≡ drop x.base m.values.items → HasPut Node x.production put honest content content' m.writer out → honest' ≡ honest
       → values.items ≡ take from m.values.items
       ++ (take row.width (drop x.base m.values.items) ++ drop (from + row.width) (take x.base m.values.items))
       → LeadsTo c honest honest' content content' m
-      (record { back = m.back; writer = out; values = values; waiting = waiting; root = m.root; begun = m.begun }) (Some x)
-      (Some y)
-  ended_leads m values waiting out honest honest' content content' x y row put from runs at pushed is from_is put_is' h same vs
-      from_honest from_content meter r =
-      let w = waited_for m waiting.items x y runs at pushed in
+      (record m { writer = out; values = values; waiting = waiting }) (Some x) (Some y)
+  ended_leads {m} {waiting = waiting} {y = y} {row} runs at pushed is from_is put_is' h same vs from_honest from meter r =
+      let w = waited_for waiting.items runs at pushed in
       let stack : reverse m.waiting.items ≡ y ∷ reverse waiting.items = cc (reverse-append waiting.items (y ∷ [])) in
-      let running =
-      subst
-      (λ xs. IsRunning c m.root from_honest from_content honest content m.back m.writer m.values.items (x ∷ xs)
-      (meter - m.begun)) stack r.running in
+      let running = rw stack at r.running in
       record {
         running =
-            ended_runs c sound m.root from_honest honest honest' from_content content content' m.back m.writer out m.values.items
-            values.items x y (reverse waiting.items) (meter - m.begun) from row.width at
+            ended_runs sound at
             (λ q x' there occurs. let z = place_is c q y.place row x' w.some (is q there) occurs in
             (cc, z.2)) vs
-            (subst (λ vs. HasPut Node x.production vs honest content content' m.writer out) put_is' h) same running;
+            (rw put_is' at h) same running;
         begun = r.begun;
         low = r.low;
       }
 
-  pub root_leads : (m : Machine) (waiting : Vec OpenNode) (honest : Bool) (content : List ℕ) (x : OpenNode)
-      → slice_get (list_at c x.production) x.at ≡ Some instr.End → m.waiting.items ≡ [] → waiting.items ≡ []
-      → LeadsTo c honest honest content content m
-      (record { back = m.back; writer = m.writer; values = m.values; waiting = waiting; root = m.root; begun = m.begun })
-      (Some x) None
-  root_leads m waiting honest content x at none still from_honest from meter r =
-      let running =
-      subst
-      (λ xs. IsRunning c m.root from_honest from honest content m.back m.writer m.values.items (x ∷ reverse xs)
-      (meter - m.begun)) none r.running in
+  pub root_leads : {m : Machine} {waiting : Vec OpenNode} {honest : Bool} {content : List ℕ} {x : OpenNode}
+      → IsNext c x instr.End → m.waiting.items ≡ [] → waiting.items ≡ []
+      → LeadsTo c honest honest content content m (record m { waiting = waiting }) (Some x) None
+  root_leads at none still from_honest from meter r =
+      let running = rw none at r.running in
       record {
-        running =
-            gone_runs c sound m.root from_honest honest from content m.back m.writer m.values.items (x ∷ []) [] (meter - m.begun)
-            (root_ended c sound x m.values.items at r.running.well) running;
+        running = gone_runs running (λ root t now todo. step_end_root sound root at r.running.well);
         begun = r.begun;
         low = r.low;
       }
 
-  pub rule_of : (m : Machine) (x : OpenNode) (meter r : ℕ) → RunsAt c meter m (Some x) → (next : RunsRuleNext c x r)
+  pub rule_of : {m : Machine} {x : OpenNode} {meter r : ℕ} → RunsAt c meter m (Some x) → (next : RunsRuleNext c x r)
       → HasRule c x next.0 next.1 r m.values.items
-  rule_of m x meter r (honest, content, to_honest, to, runs) (j, a, z, giving, at) =
-      given_rule c sound m.root x (reverse m.waiting.items) m.values.items runs.running.transcript
-      (meter - m.begun) runs.running.todo j a r z giving at runs.running.invariant
+  rule_of {m} (honest, content, to_honest, to, runs) (j, a, z, giving, at) =
+      given_rule sound m.root (reverse m.waiting.items) giving at runs.running.invariant
 
   -- The rule and its slot, for a known production.
   pub ruled : (m : Machine) (x : OpenNode) (meter r : ℕ) (q : Production) → RunsAt c meter m (Some x) → RunsRuleNext c x r
@@ -469,32 +432,32 @@ module _ (c : Setting) (sound : IsSound c) where
       × (x.base + target_slot c q u.target.place u.target.attr < length m.values.items)
       × HasArguments c x q u m.values.items
   ruled m x meter r q runs next there =
-      let h = rule_of m x meter r runs next in
-      let same = same_production c x.production h.production q h.there there in
+      let h = rule_of runs next in
+      let same = same_production c x.production h.there there in
       let slots : target_slot c q h.rule.target.place h.rule.target.attr ≡ target_slot c h.production next.0 next.1 = cc in
       let n = h.within in (
         h.rule,
-        subst (λ q. slice_get q.rules r ≡ Some h.rule) same h.numbered,
+        rw same at h.numbered,
         omega arith,
-        subst (λ q. HasArguments c x q h.rule m.values.items) same h.arguments,
+        rw same at h.arguments,
       )
 
-  pub rule_less : (m : Machine) (x : OpenNode) (meter r : ℕ) (ps : List Production) (q : Production) (us : List Rule)
+  pub rule_less : {m : Machine} {x : OpenNode} {meter : ℕ} (r : ℕ) {ps : List Production} {q : Production} {us : List Rule}
       → ps ≡ c.grammar.productions → q ≡ get_or ps x.production q → us ≡ q.rules → RunsAt c meter m (Some x) → RunsRuleNext c x r
       → r < length us
-  rule_less m x meter r ps q us same is rules runs next =
-      let h = rule_of m x meter r runs next in
-      let w = ruled m x meter r q runs next (indexed c x.production ps q h.production same is h.there) in
+  rule_less {m} {x} {meter} r {q} same is rules runs next =
+      let h = rule_of runs next in
+      let w = ruled m x meter r q runs next (indexed c x.production same is h.there) in
       let less = slice_get_within q.rules r w.0 w.1 in
       let n = ap length rules in
       omega arith
 
-  pub giver : (m : Machine) (x : OpenNode) (meter r : ℕ) (ps : List Production) (q : Production) (us : List Rule) (u : Rule)
+  pub giver : {m : Machine} {x : OpenNode} {meter r : ℕ} {ps : List Production} {q : Production} {us : List Rule} {u : Rule}
       → ps ≡ c.grammar.productions → q ≡ get_or ps x.production q → us ≡ q.rules → u ≡ get_or us r u → RunsAt c meter m (Some x)
       → RunsRuleNext c x r → Giver c m x r q u
-  giver m x meter r ps q us u same is rules at runs next =
-      let h = rule_of m x meter r runs next in
-      let there = indexed c x.production ps q h.production same is h.there in
+  giver {m} {x} {meter} {r} {q} {us} {u} same is rules at runs next =
+      let h = rule_of runs next in
+      let there = indexed c x.production same is h.there in
       let w = ruled m x meter r q runs next there in
       let numbered = rule_indexed us q.rules r u w.0 rules at w.1 in
       let e : Some w.0 ≡ Some u = cc numbered in
@@ -502,63 +465,33 @@ module _ (c : Setting) (sound : IsSound c) where
       record {
         there = there;
         numbered = numbered;
-        within = subst (λ u. x.base + target_slot c q u.target.place u.target.attr < length m.values.items) one w.2;
-        arguments = subst (λ u. HasArguments c x q u m.values.items) one w.3;
+        within = rw (← one) w.2;
+        arguments = rw (← one) w.3;
         occurrences = rule_named c sound x.production r q u there numbered;
       }
 
-  -- No slot of an argument is out of range.
-  pub slots_within : (m : Machine) (x : OpenNode) (r : ℕ) (q : Production) (u : Rule) (slots : RuleSlots) → Giver c m x r q u
-      → AreSlotsOf c q u slots → All (λ slot. slot < length (drop x.base m.values.items)) slots.args
-  slots_within m x r q u slots h are =
-      All-from_get_or (λ slot. slot < length (drop x.base m.values.items)) slots.args 0 (λ k less.
-      let long = are.args.equally_long in
-      let o = some_at u.args k (omega arith) in
-      let slot = some_at slots.args k less in
-      let is = are.args.each k o.0 slot.0 o.1 slot.1 in
-      let found = get_or_from_slice_get slots.args k slot.0 0 slot.1 in
-      let within = h.arguments o.0 (k, o.1) in
-      omega arith)
-
-  pub well_of : (m : Machine) (next : Option OpenNode) (meter : ℕ) → RunsAt c meter m next → All IsWell m.values.items
-  well_of m next meter (honest, content, to_honest, to, runs) = runs.running.well
-
-  pub meter_of : (m : Machine) (x : OpenNode) (meter : ℕ) → RunsAt c meter m (Some x) → meter < 2 ^ 64 - 1
-  meter_of m x meter (honest, content, to_honest, to, r) =
-      let n =
-      passing_counted c sound m.root x (reverse m.waiting.items) m.values.items r.running.transcript
-      (meter - m.begun) r.running.todo r.running.invariant in
+  pub meter_of : {m : Machine} {x : OpenNode} {meter : ℕ} → RunsAt c meter m (Some x) → meter < 2 ^ 64 - 1
+  meter_of {m} (honest, content, to_honest, to, r) =
+      let n = passing_counted sound m.root (reverse m.waiting.items) r.running.invariant in
       let a = n.1 in
       let few = r.running.few in
       let b = r.begun in
       let d = r.low in
       omega arith
 
-  pub rule_leads : (m : Machine) (values : Vec Value) (x next : OpenNode) (meter meter' rule : ℕ) (q : Production) (u : Rule)
-      (slots : RuleSlots) (spare v : Value)
+  pub rule_leads : {m : Machine} {values : Vec Value} {x next : OpenNode} {meter meter' : ℕ} (rule : ℕ) {q : Production}
+      {u : Rule} {slots : RuleSlots} (spare : Value) {v : Value}
       → RunsRuleNext c x rule → IsProduction c.grammar x.production q → slice_get q.rules rule ≡ Some u → AreSlotsOf c q u slots
       → v ≡ value_of u.expr.0 (λ k. get_or (drop x.base m.values.items) (slice_index slots.args k) spare) → IsWell v
       → values.items ≡ set m.values.items (x.base + slots.target) v
       → meter' ≡ meter + 1 → next ≡ after_step x x.child
-      → LeadsAt c meter meter' m
-      (record { back = m.back; writer = m.writer; values = values; waiting = m.waiting; root = m.root; begun = m.begun })
-      (Some x) (Some next)
-  rule_leads m values x next meter meter' rule q u slots spare v
+      → LeadsAt c meter meter' m (record m { values = values }) (Some x) (Some next)
+  rule_leads {m} {meter = meter} {meter'} rule spare
       (j, a, z, giving, at) there num are is well vs count on honest content to_honest to r =
       let b = r.begun in
       let evals : meter - m.begun + 1 ≡ meter' - m.begun = omega arith in
-      let run =
-      given_runs c sound m.root honest to_honest content to m.back m.writer m.values.items values.items x
-      (reverse m.waiting.items) (meter - m.begun) j a rule z q u slots spare v giving at there num are is well vs
-      r.running in
       record {
-        running =
-            subst
-            (λ n. IsRunning c m.root honest content to_honest to m.back m.writer values.items
-            (next ∷ reverse m.waiting.items) n) evals
-            (subst
-            (λ next. IsRunning c m.root honest content to_honest to m.back m.writer values.items
-            (next ∷ reverse m.waiting.items) (meter - m.begun + 1)) (sym on) run);
+        running = rw (← evals, on) (given_runs sound spare giving at there num are is well vs r.running);
         begun = omega arith;
         low = r.low;
       }

@@ -48,14 +48,14 @@ place_known c q state j h = elim h [
       (known_here c q state.turn j turn.place)
 ]
 
-module _ (c : Setting) (sound : IsSound c) where
-  pub open_after_rule : (s : ℕ) (f : ℕ → Value) (level p : ℕ) (q : Production) (state : State) (e : Table) (ts : Forest)
-      (ws : ℕ → Valuation) (old new : Transcript) (j a r : ℕ) (v : Value)
+module _ {c : Setting} (sound : IsSound c) where
+  pub open_after_rule : {s : ℕ} {f : ℕ → Value} {level p : ℕ} {q : Production} {state : State} {e : Table} {ts : Forest}
+      {ws : ℕ → Valuation} {old new : Transcript} {j a r : ℕ} (v : Value)
       → (g : MayCompute c.passes q c.write state j a r)
       → ((env : ℕ → Value) → Supplies g.rule e env → v ≡ value_of g.rule.expr.0 env) → IsPlaced c q state j
       → IsOpenNode c s f level p q state e ts ws old new
       → IsOpenNode c s f level p q (record state { done = r ∷ state.done }) (set e j a v) ts ws old new
-  open_after_rule s f level p q state e ts ws old new j a r v g is placed is_open =
+  open_after_rule {s} {f} {level} {p} {q} {state} {e} {ts} {ws} {old} {new} {j} {a} {r} v g is placed is_open =
       record {
         there = is_open.there;
         left = is_open.left;
@@ -72,7 +72,7 @@ module _ (c : Setting) (sound : IsSound c) where
       }
     where
       passed_here : HasPass c.passes q (record { place = j; attr = a }) c.write
-      passed_here = subst (λ t. HasPass c.passes q t c.write) g.target g.passed
+      passed_here = rw g.target at g.passed
 
       not_open : (b : ℕ) → b < state.turn → IsPlaced c q state j → suc (leftmost (pass_direction c) (arity q) state.turn + b) ≡ j
           → ⊥
@@ -90,32 +90,35 @@ module _ (c : Setting) (sound : IsSound c) where
       target_attr = cc
 
       entered : Keeps c s f (set e j a v 0)
-      entered b n at le other = set_other e j a v 0 b (λ z.
-          let zj : 0 ≡ j = z.0 in
-          let zb : b ≡ a = z.1 in
-          let pass : HasPass c.passes q (record { place = 0; attr = b }) c.write =
-          subst (λ t. HasPass c.passes q t c.write)
-          (g.target ∙ ap (λ j. record { place = j; attr = a }) (sym zj)
-          ∙ ap (λ b. record { place = 0; attr = b }) (sym zb)) g.passed in
-          let kind : HasKind c.grammar q (record { place = 0; attr = b }) Synthesized =
-          subst (λ t. HasKind c.grammar q t (defined_kind t.place))
-          (g.target ∙ ap (λ j. record { place = j; attr = a }) (sym zj)
-          ∙ ap (λ b. record { place = 0; attr = b }) (sym zb))
-          (target_kind c.grammar sound.accepted p q is_open.there r g.rule g.numbered) in
-          let at' : slice_get (c.passes q.left) b ≡ Some n =
-          subst (λ s. slice_get (c.passes s) b ≡ Some n) (sym is_open.left) at in
-          let pp : Some n ≡ Some c.write = sym at' ∙ pass in
-          let pw : n ≡ c.write = cc in
-          other
-          (pw, subst (λ s. slice_get (symbol_kinds (slice_get c.grammar.symbols s)) b ≡ Some Synthesized) is_open.left kind))
-          ∙ is_open.entered b n at le other
+      entered b n at le other = cc (
+        set_other e j a v 0 b (λ z.
+            let zj : 0 ≡ j = z.0 in
+            let zb : b ≡ a = z.1 in
+            let pass : HasPass c.passes q (record { place = 0; attr = b }) c.write =
+            subst (λ t. HasPass c.passes q t c.write)
+            (g.target ∙ ap (λ j. record { place = j; attr = a }) (sym zj) ∙ ap (λ b. record { place = 0; attr = b }) (sym zb))
+            g.passed in
+            let kind : HasKind c.grammar q (record { place = 0; attr = b }) Synthesized =
+            subst (λ t. HasKind c.grammar q t (defined_kind t.place))
+            (g.target ∙ ap (λ j. record { place = j; attr = a }) (sym zj) ∙ ap (λ b. record { place = 0; attr = b }) (sym zb))
+            (target_kind c.grammar sound.accepted p q is_open.there r g.rule g.numbered) in
+            let at' : slice_get (c.passes q.left) b ≡ Some n =
+            subst (λ s. slice_get (c.passes s) b ≡ Some n) (sym is_open.left) at in
+            let pp : Some n ≡ Some c.write = sym at' ∙ pass in
+            let pw : n ≡ c.write = cc in
+            other (
+              pw,
+              subst (λ s. slice_get (symbol_kinds (slice_get c.grammar.symbols s)) b ≡ Some Synthesized) is_open.left kind,
+            )),
+        is_open.entered b n at le other,
+      )
 
       -- No argument is the target.
       argument : (r' : ℕ) (u : Rule) (o : Target) → slice_get q.rules r' ≡ Some u → IsArgument u o
           → e o.place o.attr ≡ set e j a v o.place o.attr
       argument r' u o num arg =
-          cc (set_target e j a v o g.rule.target g.target (λ z. no_argument c.grammar sound.accepted p q is_open.there r r'
-          g.rule u o g.numbered num arg z))
+          cc (set_target e j a v o g.target
+          (λ z. no_argument c.grammar sound.accepted p q is_open.there r r' g.rule u o g.numbered num arg z))
 
       own : IsHeld c q (record state { done = r ∷ state.done }) (set e j a v) g.rule
       own = record {
@@ -138,7 +141,7 @@ module _ (c : Setting) (sound : IsSound c) where
           record {
             holds =
                 holds_same u e (set e j a v)
-                (cc (set_target e j a v u.target g.rule.target g.target
+                (cc (set_target e j a v u.target g.target
                 (λ z. let w = one_rule c.grammar sound.accepted p q is_open.there r' r u g.rule num g.numbered z in g.fresh
                 (subst (Has state.done) w has)))) (λ o arg. argument r' u o num arg) h.holds;
             passed = h.passed;

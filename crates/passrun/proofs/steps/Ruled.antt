@@ -1,12 +1,10 @@
 -- Running a rule: the values of its arguments, and the slot of its value.
 use Rattle.std.specs.Prelude.{cond}
-use Rattle.std.proofs.Common.{ℕ, zero, suc, ◌≡◌, ◌≢◌, ◌+◌, ◌-◌, ◌<◌, ◌⊎◌, inl, inr, true, Bool, List, ◌∷◌, ◌++◌, Option, Some}
-use Rattle.std.proofs.Common.{None, All, slice_get, slice_index, get_or, length, drop, set, refl, ap, ◌∙◌, sym, subst, arith}
+use Rattle.std.proofs.Common.{ℕ, zero, suc, ◌≡◌, ◌≢◌, ◌+◌, ◌-◌, ◌<◌, ◌⊎◌, inl, inr, true, List, ◌∷◌, ◌++◌, Option, Some}
+use Rattle.std.proofs.Common.{None, slice_get, slice_index, get_or, length, drop, set, refl, ap, ◌∙◌, sym, subst, arith}
 use Rattle.std.proofs.lemmas.List.{drop_at, set-append_left, set-append_right}
-use Rattle.std.proofs.lemmas.List.Elements.{All-set}
 use Rattle.std.proofs.lemmas.Option.{get_or_from_slice_get, slice_get_within}
 use Rattle.ag_value.specs.declared.value.Value.{Value}
-use Rattle.ag_value.specs.Well.{IsWell}
 use Rattle.ag_grammar.specs.declared.grammar.Item.{Item}
 use Rattle.ag_grammar.specs.declared.grammar.Production.{Production}
 use Rattle.ag_grammar.specs.declared.grammar.Rule.{Rule}
@@ -19,8 +17,6 @@ use Rattle.ag_grammar.specs.expressions.Evaluation.{value_of}
 use Rattle.ag_grammar.proofs.expressions.Depending.{rule_has_one_value}
 use Rattle.treefile.specs.framing.ExpectedRecords.{Pending}
 use Rattle.treefile.specs.records.Records.{values_up_to}
-use Rattle.treefile.specs.framing.Writing as writing
-use Rattle.backreader.specs.BackState.{BackState}
 use Rattle.passcode.specs.declared.instr.Instr.{Instr}
 use Rattle.passcode.specs.Counts.{is_computation}
 use Rattle.passcode.specs.declared.phase.Phase.{Phase}
@@ -34,8 +30,7 @@ use Rattle.passrun.specs.passing.Ahead.{pending}
 use Rattle.passrun.specs.passing.Change as change
 use Rattle.pass_rows.specs.layouts.Layouts.{AreSlotsOf}
 use Rattle.pass_rows.specs.Nodes.{after_step}
-use Rattle.passrun.specs.Passed.{IsRunning}
-use Rattle.passrun.specs.passing.RunInvariant.{IsCurrent, IsActive, RunInvariant, Transcript, state_of}
+use Rattle.passrun.specs.passing.RunInvariant.{IsCurrent, RunInvariant, Transcript, state_of}
 use Rattle.pass_rows.specs.Places.{IsReached, AgreesSoFar, Table, copies, in_children, place_passes, stored}
 use Rattle.pass_rows.specs.layouts.Slots.{argument_slot, rank, stored_width, target_slot}
 use Rattle.passrun.proofs.course.Ahead.{after_same}
@@ -45,18 +40,13 @@ use Rattle.passrun.proofs.steps.RuleTargets.{argument_kind}
 use Rattle.passrun.proofs.steps.RuleRuns.{IsPlaced, open_after_rule}
 use Rattle.passrun.proofs.steps.Moves.{known_differs}
 use Rattle.passrun.proofs.places.Slots.{argument_at, has_copy, length_row, length_stored, own_at, own_set, row_at}
-use Rattle.passrun.proofs.steps.Steps.{IsGivingOf, give_next, rules_next, runs_next, same_production, stored_same}
+use Rattle.passrun.proofs.steps.Steps.{IsGivingOf, IsNext, give_next, rules_next, same_production, stored_same}
 use Rattle.passrun.proofs.places.Tables.{body_same, set_here, set_other}
 
 -- A rule has as many occurrences as arguments.
 pub rule_named : (c : Setting) → IsSound c → (p r : ℕ) (q : Production) (u : Rule) → IsProduction c.grammar p q
     → slice_get q.rules r ≡ Some u → (length u.expr.1 ≡ length u.args)
 rule_named c sound p r q u there num = (sound.accepted.named.rules_named p q there r u num).arguments.equally_long
-
--- A target that is the attribute a at place j has the same pass as this attribute.
-passed_at : (c : Setting) (q : Production) (j a : ℕ) (u : Rule) → u.target ≡ record { place = j; attr = a }
-    → HasPass c.passes q u.target c.write → HasPass c.passes q (record { place = j; attr = a }) c.write
-passed_at c q j a u is h = subst (λ t. HasPass c.passes q t c.write) is h
 
 -- The row of the child that was read last, after one of its values was replaced.
 abbrev IsRowNow : Setting → Production → ℕ → ℕ → Value → List Value → List Value → Type 0
@@ -72,9 +62,9 @@ current_stays : (c : Setting) (q : Production) (ph : Phase) (i : ℕ) (done : Li
     → IsCurrent c q ph i level p (change.set e j a v) of_child now old new count
 current_stays c q Between i done level p e of_child row now j a v old new count next pass placed (inl k) h = (h.0, h.1, cc)
 current_stays c q Between i done level p e of_child row now j a v old new count next pass placed (inr k) h =
-    absurd (elim placed [ inl x ↦ k.0 x | inr x ↦ (let y = x.phase_is in let bad : ⊥ = cc in bad) ])
+    absurd (elim placed [ inl x ↦ k.0 x | inr x ↦ (let y = x.phase_is in cc) ])
 current_stays c q Gone i done level p e of_child row now j a v old new count next pass placed (inr k) h =
-    absurd (elim placed [ inl x ↦ k.0 x | inr x ↦ (let y = x.phase_is in let bad : ⊥ = cc in bad) ])
+    absurd (elim placed [ inl x ↦ k.0 x | inr x ↦ (let y = x.phase_is in cc) ])
 current_stays c q Gone i done level p e of_child row now j a v old new count next pass placed (inl k) (g, nothing) = (
   record {
     item = g.item;
@@ -137,10 +127,9 @@ current_stays c q Got i done level p e of_child row now j a v old new count next
         let ps : place_passes c q j ≡ c.passes g.production.left = cc (there, g.left) in
         let at : slice_get (c.passes g.production.left) a ≡ Some c.write = cc pass in
         cc (own_set c g.production (e pl) (change.set e j a v pl) of_child a c.write v at (omega arith)
-        (ap (λ j. change.set e j a v pl a) here ∙ set_here e pl a v)
-        (λ b apart. set_other e j a v pl b (λ both. apart both.1)))
+        (ap (λ j. change.set e j a v pl a) here ∙ set_here e pl a v) (λ b apart. set_other e j a v pl b (λ both. apart both.1)))
 
-module _ (c : Setting) (sound : IsSound c) where
+module _ {c : Setting} (sound : IsSound c) where
   -- An argument is in its slot.
   pub argument_there : (p : ℕ) (q : Production) (state : State) (r : ℕ) (u : Rule) (e s : Table) (row : List Value)
       → IsProduction c.grammar p q → slice_get q.rules r ≡ Some u → AgreesSoFar c q (run_count state.phase state.turn) e s
@@ -158,7 +147,7 @@ module _ (c : Setting) (sound : IsSound c) where
           child : (z : Option Item) → item_at q (suc b) ≡ z → slice_get (item_passes c.passes z) o.attr ≡ Some n
               → slice_get (item_kinds c.grammar z) o.attr ≡ Some Synthesized
               → slice_get (stored c q (e 0) s ++ row) (argument_slot c q (suc b) o.attr) ≡ Some (e (suc b) o.attr)
-          child None is pass kind = absurd (let bad : ⊥ = cc in bad)
+          child None is pass kind = absurd cc
           child (Some x) is pass kind =
               let copy = has_copy c x o.attr n kind pass in
               cc (argument_at c q (e 0) s row b o.attr n x is copy le, shown b o.attr n x is copy le final)
@@ -212,49 +201,55 @@ module _ (c : Setting) (sound : IsSound c) where
         stored_same c q (e 0) (change.set e (suc b) a v 0) s (λ n. sym (set_other e (suc b) a v 0 n (λ both. omega arith))),
       )
 
-  -- A rule was run at the innermost open node, which has these values.
-  given_in : (s : ℕ) (f : ℕ → Value) (level : ℕ) (x : OpenNode) (under : List Value) (old : Transcript) (before : ℕ)
-      (others : Pending) (ph : Phase) (values new : List Value) (t : Transcript) (now : ℕ) (todo : Pending) (j a r : ℕ)
-      (v spare : Value) (z : Instr) (q0 : Production) (u0 : Rule) (slots : RuleSlots)
-      → IsGivingOf j a r z → slice_get (list_at c x.production) x.at ≡ Some z → IsProduction c.grammar x.production q0
+  -- A rule was run at the innermost open node.
+  pub step_give : (root : ℕ) {x : OpenNode} (xs : List OpenNode) (spare : Value) {values new : List Value} {t : Transcript}
+      {now : ℕ} {todo : Pending} {j a r : ℕ} {v : Value} {z : Instr} {q0 : Production} {u0 : Rule} {slots : RuleSlots}
+      → IsGivingOf j a r z → IsNext c x z → IsProduction c.grammar x.production q0
       → slice_get q0.rules r ≡ Some u0 → AreSlotsOf c q0 u0 slots
       → v ≡ value_of u0.expr.0 (λ k. get_or (drop x.base values) (slice_index slots.args k) spare)
       → new ≡ set values (x.base + slots.target) v
-      → IsActive c s f level x under old before others ph values t now todo
-      → IsActive c s f level (after_step x x.child) under old before others ph new t (now + 1) todo
-  given_in s f level x under old before others ph values new t now todo j a r v spare z q0 u0 slots giving at there0 num0 are0 is0
-      written o =
-      record {
-        production = q;
-        i = o.i;
-        done = r ∷ o.done;
-        table = change.set e j a v;
-        copied = o.copied;
-        of_child = o.of_child;
-        row = row_now;
-        trees = o.trees;
-        valuations = o.valuations;
-        mid = o.mid;
-        count = o.count;
-        is_open =
-            open_after_rule c sound s f level x.production q
-            (state_of ph o.i o.done) e o.trees o.valuations old o.mid j a r v g value_is next.1 o.is_open;
-        runs = next.3;
-        agreement = shown_set c q (run_count ph o.i) e o.copied j a v pass (fault_unless next.1) o.agreement;
-        current =
-            current_stays c q ph o.i o.done level x.child e o.of_child o.row row_now j a v o.mid t o.count sound.next pass next.1
-            (both j refl).1 o.current;
-        counted = let n = o.counted in let l = rules_next c x z at in
-            let one : ◌≡◌ {A = ℕ} (cond (is_computation z) 1 0) 1 = cc next.2 in omega arith;
-        values_are =
-            written ∙ ap (λ vs. set vs (x.base + slots.target) v) o.values_are ∙ ap (λ i. set (under ++ prefix) i v) sum
-            ∙ set-append_right under prefix (length under) (length under + target_slot c q j a) v refl (omega arith)
-            ∙ ap (λ i. under ++ set prefix i v)
-            (let minus : length under + target_slot c q j a - length under ≡ target_slot c q j a = omega arith in minus)
-            ∙ ap (λ vs. under ++ vs) (both j refl).0;
-        base = o.base;
-        todo_is = cc (coming_same ph);
-      }
+      → RunInvariant c root (x ∷ xs) values t now todo → RunInvariant c root (after_step x x.child ∷ xs) new t (now + 1) todo
+  step_give root {x} xs spare {values} {t = t} {j = j} {a} {r} {v} {z} {q0} {u0} {slots} giving at there num are0 is0 written
+      (s, f, under, old, before, others, waits, ph, o) = (
+        s,
+        f,
+        under,
+        old,
+        before,
+        others,
+        waits,
+        ph,
+        record {
+          production = q;
+          i = o.i;
+          done = r ∷ o.done;
+          table = change.set e j a v;
+          copied = o.copied;
+          of_child = o.of_child;
+          row = row_now;
+          trees = o.trees;
+          valuations = o.valuations;
+          mid = o.mid;
+          count = o.count;
+          is_open =
+              open_after_rule sound v g value_is next.1 o.is_open;
+          runs = next.3;
+          agreement = shown_set c q (run_count ph o.i) e o.copied j a v pass (fault_unless next.1) o.agreement;
+          current =
+              current_stays c q ph o.i o.done (suc (length xs)) x.child e o.of_child o.row row_now j a v o.mid t o.count
+              sound.next pass next.1 (both j refl).1 o.current;
+          counted = let n = o.counted in let l = rules_next c x at in
+              let one : ◌≡◌ {A = ℕ} (cond (is_computation z) 1 0) 1 = cc next.2 in omega arith;
+          values_are =
+              written ∙ ap (λ vs. set vs (x.base + slots.target) v) o.values_are ∙ ap (λ i. set (under ++ prefix) i v) sum
+              ∙ set-append_right under prefix (length under) (length under + target_slot c q j a) v refl (omega arith)
+              ∙ ap (λ i. under ++ set prefix i v)
+              (let minus : length under + target_slot c q j a - length under ≡ target_slot c q j a = omega arith in minus)
+              ∙ ap (λ vs. under ++ vs) (both j refl).0;
+          base = o.base;
+          todo_is = cc (coming_same ph);
+        },
+      )
     where
       q : Production
       q = o.production
@@ -268,18 +263,16 @@ module _ (c : Setting) (sound : IsSound c) where
       next : MayCompute c.passes q c.write (state_of ph o.i o.done) j a r × IsPlaced c q (state_of ph o.i o.done) j
           × (is_computation z ≡ true) × Runs c.passes q c.write (state_of ph o.i (r ∷ o.done))
           (drop (x.at + 1) (list_at c x.production))
-      next =
-          give_next c q ph o.i o.done j a r z (drop (x.at + 1) (list_at c x.production)) giving
-          (runs_next c x z at q ph o.i o.done o.runs)
+      next = give_next o giving at
 
       g : MayCompute c.passes q c.write (state_of ph o.i o.done) j a r
       g = next.0
 
       pass : HasPass c.passes q (record { place = j; attr = a }) c.write
-      pass = passed_at c q j a g.rule g.target g.passed
+      pass = rw g.target at g.passed
 
       qs : q0 ≡ q
-      qs = same_production c x.production q0 q there0 o.is_open.there
+      qs = same_production c x.production there o.is_open.there
 
       rules_same : u0 ≡ g.rule
       rules_same =
@@ -317,8 +310,8 @@ module _ (c : Setting) (sound : IsSound c) where
       both : (n : ℕ) → n ≡ j → (set prefix (target_slot c q j a) v ≡ stored c q (change.set e j a v 0) o.copied ++ row_now)
           × IsRowNow c q j a v o.row row_now
       both zero is = (
-        cc (put_own q e o.copied o.row a v (subst (λ n. HasPass c.passes q (record { place = n; attr = a }) c.write) (sym is)
-            pass)),
+        cc (put_own q e o.copied o.row a v (subst (λ n. HasPass c.passes q (record { place = n; attr = a }) c.write)
+            (sym is) pass)),
         inl (sym is, cc),
       )
       both (suc b) is = (
@@ -336,61 +329,9 @@ module _ (c : Setting) (sound : IsSound c) where
           (in_children (change.set e j a v))
       copied_same = sym (copies_set c q e j a v sound.next pass)
 
-      coming_same : (ph : Phase) → pending c q ph o.i x.child e o.of_child (suc level) others ≡ pending c q ph o.i x.child
-          (change.set e j a v) o.of_child (suc level) others
-      coming_same Between = after_same c q e (change.set e j a v) o.i (suc level) others copied_same
-      coming_same Got = cc (after_same c q e (change.set e j a v) (suc o.i) (suc level) others copied_same)
-      coming_same Gone = after_same c q e (change.set e j a v) (suc o.i) (suc level) others copied_same
+      coming_same : (ph : Phase) → pending c q ph o.i x.child e o.of_child (suc (suc (length xs))) others
+          ≡ pending c q ph o.i x.child (change.set e j a v) o.of_child (suc (suc (length xs))) others
+      coming_same Between = after_same c q e (change.set e j a v) o.i (suc (suc (length xs))) others copied_same
+      coming_same Got = cc (after_same c q e (change.set e j a v) (suc o.i) (suc (suc (length xs))) others copied_same)
+      coming_same Gone = after_same c q e (change.set e j a v) (suc o.i) (suc (suc (length xs))) others copied_same
       coming_same Ended = refl
-
-  pub step_give : (root : ℕ) (x : OpenNode) (xs : List OpenNode) (values new : List Value) (t : Transcript) (now : ℕ)
-      (todo : Pending) (j a r : ℕ) (v spare : Value) (z : Instr) (q : Production) (u : Rule) (slots : RuleSlots)
-      → IsGivingOf j a r z → slice_get (list_at c x.production) x.at ≡ Some z → IsProduction c.grammar x.production q
-      → slice_get q.rules r ≡ Some u → AreSlotsOf c q u slots
-      → v ≡ value_of u.expr.0 (λ k. get_or (drop x.base values) (slice_index slots.args k) spare)
-      → new ≡ set values (x.base + slots.target) v
-      → RunInvariant c root (x ∷ xs) values t now todo → RunInvariant c root (after_step x x.child ∷ xs) new t (now + 1) todo
-  step_give root x xs values new t now todo j a r v spare z q u slots giving at there num are is written
-      (s, f, under, old, before, others, waits, ph, o) = (
-        s,
-        f,
-        under,
-        old,
-        before,
-        others,
-        waits,
-        ph,
-        given_in s f (suc (length xs)) x under old before others ph values new t now todo j a r v spare z q u slots giving at
-            there num are is written o,
-      )
-
-  pub given_runs : (root : ℕ) (honest to_honest : Bool) (content to : List ℕ) (state : BackState) (out : writing.Progress)
-      (values new : List Value) (x : OpenNode) (xs : List OpenNode) (evals j a r : ℕ) (z : Instr) (q : Production) (u : Rule)
-      (slots : RuleSlots) (spare v : Value)
-      → IsGivingOf j a r z → slice_get (list_at c x.production) x.at ≡ Some z → IsProduction c.grammar x.production q
-      → slice_get q.rules r ≡ Some u → AreSlotsOf c q u slots
-      → v ≡ value_of u.expr.0 (λ k. get_or (drop x.base values) (slice_index slots.args k) spare) → IsWell v
-      → new ≡ set values (x.base + slots.target) v
-      → IsRunning c root honest content to_honest to state out values (x ∷ xs) evals
-      → IsRunning c root honest content to_honest to state out new (after_step x x.child ∷ xs) (evals + 1)
-  given_runs root honest to_honest content to state out values new x xs evals j a r z q u slots spare v giving at there num are is
-      well written run =
-      record {
-        transcript = run.transcript;
-        todo = run.todo;
-        invariant =
-            step_give root x xs values new run.transcript evals run.todo j a r v spare z q u slots giving at there num are is
-            written run.invariant;
-        over = run.over;
-        read = run.read;
-        records = run.records;
-        few = run.few;
-        put = run.put;
-        written = run.written;
-        version = run.version;
-        unbroken = run.unbroken;
-        whole = run.whole;
-        well = subst (All IsWell) (sym written) (All-set IsWell values (x.base + slots.target) v well run.well);
-        readable = run.readable;
-        ahead = run.ahead;
-      }

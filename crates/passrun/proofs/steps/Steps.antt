@@ -29,7 +29,7 @@ use Rattle.passcode.specs.declared.instr.Instr.TheVariants as instr
 use Rattle.passcode.specs.Counts.{is_computation}
 use Rattle.passcode.specs.declared.phase.Phase.{Phase}
 use Rattle.passcode.specs.declared.phase.Phase.TheVariants.{Between, Got, Gone}
-use Rattle.passcode.specs.Course.{MayCompute, MayRun, Runs, after_get, arity, place_of}
+use Rattle.passcode.specs.Course.{MayCompute, Runs, after_get, arity, place_of}
 use Rattle.passcode.proofs.Agreeing.{agrees}
 use Rattle.passcode.proofs.lists.Counting.{lists_evaluate_rules}
 use Rattle.passcode.specs.Settings.{Setting, pass_direction, list_at}
@@ -39,10 +39,10 @@ use Rattle.passrun.specs.passing.Ahead.{following, children_of, pending_of_child
 use Rattle.passrun.specs.passing.Change.{node_table, with_row}
 use Rattle.passrun.specs.Damage.{AreRecords, source}
 use Rattle.pass_rows.specs.Nodes.{first_at, left_at, after_step}
-use Rattle.passrun.specs.passing.RunInvariant.{Transcript, Keeps, IsEvaluatedTree, IsOpenNode, IsReady, IsActive, Expects}
+use Rattle.passrun.specs.passing.RunInvariant.{Transcript, Keeps, IsEvaluatedTree, IsOpenNode, IsReady, IsActive}
 use Rattle.passrun.specs.passing.RunInvariant.{RunInvariant, below, after_reading, put_of, root_body, root_number, rules_left}
 use Rattle.passrun.specs.passing.RunInvariant.{state_of}
-use Rattle.pass_rows.specs.Places.{Table, copied_passes, copies, in_children, rest_of, stored}
+use Rattle.pass_rows.specs.Places.{Table, copied_passes, copies, in_children, stored}
 use Rattle.pass_rows.specs.reading.Reading.{AgreeAt, IsNodeRead, IsTokenRead}
 use Rattle.pass_rows.specs.layouts.Slots.{copied_width, copy_start, stored_width}
 use Rattle.passrun.proofs.course.Ahead.{after_last, after_next, after_same, is_record, of_node_is}
@@ -65,8 +65,18 @@ next_is xs n x at = let m : n + 1 ≡ suc n = omega arith in cc (go xs n at)
     go (y ∷ ys) zero at = let e : y ≡ x = cc in cc
     go (y ∷ ys) (suc n) at = go ys n at
 
-pub same_production : (c : Setting) (p : ℕ) (q r : Production) → IsProduction c.grammar p q → IsProduction c.grammar p r → q ≡ r
-same_production c p q r a b = let e : Some q ≡ Some r = cc in cc
+-- The next instruction of a node.
+abbrev pub IsNext : Setting → OpenNode → Instr → Type 0
+IsNext c x z = slice_get (list_at c x.production) x.at ≡ Some z
+
+-- The next instruction z of a node is about the child at place j, an item x'. The node's production is q.
+pub record IsAtChild (c : Setting) (x : OpenNode) (z : Instr) (j : ℕ) (q : Production) (x' : Item) : Type 0 where
+  pub next : IsNext c x z
+  pub there : IsProduction c.grammar x.production q
+  pub occurs : item_at q j ≡ Some x'
+
+pub same_production : (c : Setting) (p : ℕ) {q r : Production} → IsProduction c.grammar p q → IsProduction c.grammar p r → q ≡ r
+same_production c p {q} {r} a b = let e : Some q ≡ Some r = cc in cc
 
 abbrev pub IsGivingOf : ℕ → ℕ → ℕ → Instr → Type 0
 IsGivingOf j a r z = (z ≡ instr.Set j a r) ⊎ ((z ≡ instr.Def a r) × (j ≡ 0))
@@ -81,22 +91,19 @@ abbrev pub HasAgreed : Setting → Production → OpenNode → ℕ → Item → 
 HasAgreed c q x j x' values h = (f : ℕ → Value) (rest : List Value)
     → drop (x.base + copy_start c q j) values ≡ values_up_to c.write (copied_passes c x') f ++ rest → AgreeAt c x' f h
 
--- A node continues after a record that was read.
-pub record ArrivesAtNode (c : Setting) (s : ℕ) (f : ℕ → Value) (level : ℕ) (x : OpenNode) (under : List Value) (old : Transcript)
-    (before : ℕ) (others : Pending) (phase : Phase) (values : List Value) (t : Transcript) (body : List ℕ) (now : ℕ)
-    (todo : Pending) : Type 0 where
-  pub next : Pending
-  pub records : AreRecords (source c) t.read todo → AreRecords (source c) (t.read ++ body ∷ []) next
-  pub opens : IsActive c s f level x under old before others phase values
-      (record { read = t.read ++ body ∷ []; put = t.put }) now next
+-- After a record was read, the pass continues with these open nodes.
+abbrev pub ReadsOn : Setting → ℕ → List OpenNode → List Value → Transcript → List ℕ → ℕ → Pending → Type 0
+ReadsOn c root xs values t body now todo = (next : Pending)
+    × (AreRecords (source c) t.read todo → AreRecords (source c) (t.read ++ body ∷ []) next)
+    × RunInvariant c root xs values (record { read = t.read ++ body ∷ []; put = t.put }) now next
 
 -- The copies at a place, in a row that comes after other values.
-pub copies_there : (c : Setting) (q : Production) (f : ℕ → Value) (s : Table) (under row : List Value) (b base : ℕ) (x : Item)
-    → base ≡ length under → slice_get (stored_items q.items) b ≡ Some x
+pub copies_there : (c : Setting) (q : Production) (f : ℕ → Value) (s : Table) (under row : List Value) (b : ℕ)
+    {base : ℕ} {x : Item} → base ≡ length under → slice_get (stored_items q.items) b ≡ Some x
     → (rest : List Value)
     × (drop (base + copy_start c q (suc b)) (under ++ (stored c q f s ++ row)) ≡ values_up_to c.write (copied_passes c x)
     (s (suc b)) ++ rest)
-copies_there c q f s under row b base x is at =
+copies_there c q f s under row b {base} {x} is at =
     let r = share_at c q f s row b x at in
     let start = copy_start c q (suc b) in
     let sum : base + start ≡ length under + start = omega arith in
@@ -106,19 +113,11 @@ copies_there c q f s under row b base x is at =
     beyond [] ys n = let z : 0 + n ≡ n = omega arith in cc
     beyond (x ∷ xs) ys n = let z : suc (length xs) + n ≡ suc (length xs + n) = omega arith in cc (beyond xs ys n)
 
-module _ (c : Setting) (x : OpenNode) (z : Instr) (at : slice_get (list_at c x.production) x.at ≡ Some z) where
-  -- The rest of the list, which may run, is the instruction z followed by those after it.
-  pub runs_next : (q : Production) (ph : Phase) (i : ℕ) (done : List ℕ)
-      → Runs c.passes q c.write (state_of ph i done) (rest_of c x)
-      → Runs c.passes q c.write (state_of ph i done) (z ∷ drop (x.at + 1) (list_at c x.production))
-  runs_next q ph i done runs =
-      subst (Runs c.passes q c.write (state_of ph i done)) (next_is (list_at c x.production) x.at z at) runs
-
-  -- If the instruction runs a rule, one rule fewer is left after it.
-  pub rules_next : rules_left c x ≡ cond (is_computation z) 1 0 + count_by is_computation
-      (drop (x.at + 1) (list_at c x.production))
-  rules_next =
-      cc (next_is (list_at c x.production) x.at z at, count_more is_computation z (drop (x.at + 1) (list_at c x.production)))
+-- If the next instruction runs a rule, one rule fewer is left after it.
+pub rules_next : (c : Setting) (x : OpenNode) {z : Instr} → IsNext c x z → rules_left c x ≡ cond (is_computation z) 1 0
+    + count_by is_computation (drop (x.at + 1) (list_at c x.production))
+rules_next c x {z} at =
+    cc (next_is (list_at c x.production) x.at z at, count_more is_computation z (drop (x.at + 1) (list_at c x.production)))
 
 -- The innermost open node is in the phase in which its next instruction may run.
 module _ {c : Setting} {s : ℕ} {f : ℕ → Value} {level : ℕ} {x : OpenNode} {under : List Value} {old : Transcript} {before : ℕ}
@@ -127,21 +126,42 @@ module _ {c : Setting} {s : ℕ} {f : ℕ → Value} {level : ℕ} {x : OpenNode
   abbrev pub IsIn : Phase → Type 0
   IsIn ph = IsActive c s f level x under old before others ph values t now todo
 
-  may_run : (z : Instr) → slice_get (list_at c x.production) x.at ≡ Some z
-      → MayRun c.passes o.production c.write (state_of ph o.i o.done) z
-  may_run z at = (runs_next c x z at o.production ph o.i o.done o.runs).0
+  -- The rest of the list, which may run, is the next instruction followed by those after it.
+  pub runs_next : {z : Instr} → IsNext c x z
+      → Runs c.passes o.production c.write (state_of ph o.i o.done) (z ∷ drop (x.at + 1) (list_at c x.production))
+  runs_next {z} at =
+      subst (Runs c.passes o.production c.write (state_of ph o.i o.done)) (next_is (list_at c x.production) x.at z at) o.runs
 
-  pub at_get : (j : ℕ) → slice_get (list_at c x.production) x.at ≡ Some (instr.Get j) → IsIn Between
-  at_get j at = subst IsIn (may_run (instr.Get j) at).phase_is o
+  pub at_get : {j : ℕ} → IsNext c x (instr.Get j) → IsIn Between
+  at_get at = subst IsIn (runs_next at).0.phase_is o
 
-  pub at_go : (j : ℕ) → slice_get (list_at c x.production) x.at ≡ Some (instr.Go j) → IsIn Got
-  at_go j at = subst IsIn (may_run (instr.Go j) at).0.phase_is o
+  pub at_go : {j : ℕ} → IsNext c x (instr.Go j) → IsIn Got
+  at_go at = subst IsIn (runs_next at).0.0.phase_is o
 
-  pub at_put : (j : ℕ) → slice_get (list_at c x.production) x.at ≡ Some (instr.Put j) → IsIn Gone
-  at_put j at = subst IsIn (may_run (instr.Put j) at).phase_is o
+  pub at_put : {j : ℕ} → IsNext c x (instr.Put j) → IsIn Gone
+  at_put at = subst IsIn (runs_next at).0.phase_is o
 
-  pub at_end : slice_get (list_at c x.production) x.at ≡ Some instr.End → IsIn Between
-  at_end at = subst IsIn (may_run instr.End at).0 o
+  pub at_end : IsNext c x instr.End → IsIn Between
+  at_end at = subst IsIn (runs_next at).0.0 o
+
+  -- The target of an instruction that runs a rule is at the node itself, or at the child whose record was read.
+  pub give_next : {j a r : ℕ} {z : Instr} → IsGivingOf j a r z → IsNext c x z
+      → MayCompute c.passes o.production c.write (state_of ph o.i o.done) j a r
+      × IsPlaced c o.production (state_of ph o.i o.done) j × (is_computation z ≡ true)
+      × Runs c.passes o.production c.write (state_of ph o.i (r ∷ o.done)) (drop (x.at + 1) (list_at c x.production))
+  give_next {j} {a} {r} giving at =
+      let runs = λ (z : Instr). Runs c.passes o.production c.write (state_of ph o.i o.done)
+      (z ∷ drop (x.at + 1) (list_at c x.production)) in
+      elim giving [
+        | inl is ↦ let g = subst runs is (runs_next at) in (g.0.1, inr g.0.0, cc, g.1)
+        | inr is ↦ (
+            let g = subst runs is.0 (runs_next at) in (
+              subst (λ j. MayCompute c.passes o.production c.write (state_of ph o.i o.done) j a r) (sym is.1) g.0.1,
+              inl is.1,
+              cc,
+              g.1,
+            ))
+      ]
 
   -- The node is done: its tree was read, and written except for its own record, whose values are the node's row.
   -- The others are still to be read.
@@ -156,24 +176,7 @@ module _ {c : Setting} {s : ℕ} {f : ℕ → Value} {level : ℕ} {x : OpenNode
     pub counted : now ≡ before + rules_of_pass c.passes c.write c.grammar (node x.production o.trees)
     pub todo_is : todo ≡ others
 
--- The target of an instruction that runs a rule is at the node itself, or at the child whose record was read.
-pub give_next : (c : Setting) (q : Production) (ph : Phase) (i : ℕ) (done : List ℕ) (j a r : ℕ) (z : Instr) (xs : List Instr)
-    → IsGivingOf j a r z → Runs c.passes q c.write (state_of ph i done) (z ∷ xs)
-    → MayCompute c.passes q c.write (state_of ph i done) j a r × IsPlaced c q (state_of ph i done) j × (is_computation z ≡ true)
-    × Runs c.passes q c.write (state_of ph i (r ∷ done)) xs
-give_next c q ph i done j a r z xs giving runs = elim giving [
-  | inl is ↦ let g = subst (λ z. Runs c.passes q c.write (state_of ph i done) (z ∷ xs)) is runs in
-      (g.0.1, inr g.0.0, cc, g.1)
-  | inr is ↦ (
-      let g = subst (λ z. Runs c.passes q c.write (state_of ph i done) (z ∷ xs)) is.0 runs in (
-        subst (λ j. MayCompute c.passes q c.write (state_of ph i done) j a r) (sym is.1) g.0.1,
-        inl is.1,
-        cc,
-        g.1,
-      ))
-]
-
-module _ (c : Setting) (sound : IsSound c) where
+module _ {c : Setting} (sound : IsSound c) where
   -- The list of a production has an instruction for each of its rules of the pass.
   rules_first : (p : ℕ) (q : Production) → IsProduction c.grammar p q
       → count_by is_computation (list_at c p) ≡ pass_rule_count c.passes c.write (Some q)
@@ -183,241 +186,24 @@ module _ (c : Setting) (sound : IsSound c) where
       (agrees c.passes q c.write (list_at c p) (omega arith) (sound.course p q there))
 
   -- At `End`, which is the last instruction of a list, no rule is left to be run.
-  rules_last : (x : OpenNode) (q : Production) → IsProduction c.grammar x.production q
-      → slice_get (list_at c x.production) x.at ≡ Some instr.End → rules_left c x ≡ 0
+  rules_last : (x : OpenNode) (q : Production) → IsProduction c.grammar x.production q → IsNext c x instr.End
+      → rules_left c x ≡ 0
   rules_last x q there at =
       let n = sound.next in
       let xs = list_at c x.production in
       let last = (agrees c.passes q c.write xs (omega arith) (sound.course x.production q there)).ends.last x.at at in
       let none = ap (count_by is_computation) (drop_all (x.at + 1) xs (omega arith)) in
-      let rest = rules_next c x instr.End at in
+      let rest = rules_next c x at in
       omega arith
 
-  -- The record of a node was read.
-  got_in : (s : ℕ) (f : ℕ → Value) (level : ℕ) (x : OpenNode) (under : List Value) (old : Transcript) (before : ℕ)
-      (others : Pending) (ph : Phase) (values new : List Value) (t : Transcript) (now : ℕ) (todo : Pending) (j p s' : ℕ)
-      (q0 : Production) (body : List ℕ) (read : IsNodeRead c s' p body values new)
-      → slice_get (list_at c x.production) x.at ≡ Some (instr.Get j) → IsProduction c.grammar x.production q0
-      → item_at q0 j ≡ Some (item.Symbol s') → level < max_depth → HasAgreed c q0 x j (item.Symbol s') new read.values
-      → IsActive c s f level x under old before others ph values t now todo
-      → ArrivesAtNode c s f level (after_step x p) under old before others Got new t body now todo
-  got_in s f level x under old before others ph values new t now todo j p s' q0 body read at there0 occurs0 deep agreed here =
-      let o = at_get here j at in
-      let q = o.production in
-      let next = runs_next c x (instr.Get j) at q Between o.i o.done o.runs in
-      let within = next.0.within in
-      let place = next.0.place in
-      let b = nth (pass_direction c) (arity q) o.i in
-      let pl = place_of q c.write o.i in
-      let h = read.values in
-      let e = with_row o.table pl h in
-      let of_child = first_row h read.table in
-      let same : q0 ≡ q = same_production c x.production q0 q there0 o.is_open.there in
-      let item_is : item_at q j ≡ Some (item.Symbol s') = cc in
-      let occurs : item_at q pl ≡ Some (item.Symbol s') = cc in
-      let child_row = stored c read.production h of_child in
-      let row : child_row ≡ values_up_to c.write (c.passes s') h ++ copies c c.write
-      (stored_items read.production.items) read.table = cc in
-      let whole : new ≡ under ++ (stored c q (o.table 0) o.copied ++ child_row) =
-      cc (append-nil (stored c q (o.table 0) o.copied), append_assoc under (stored c q (o.table 0) o.copied) child_row) in
-      let found = copies_there c q (o.table 0) o.copied under child_row b x.base (item.Symbol s') o.base occurs in
-      let slot : copy_start c q0 j ≡ copy_start c q pl = cc in
-      let agree =
-      agreed (o.copied pl) found.0 (cc whole) in
-      let agree' = agree_table c q o.i o.table o.copied b (item.Symbol s') h occurs sound.next o.agreement agree in
-      let copied = copies_row c q o.table b (item.Symbol s') h occurs agree' in
-      let copy = values_up_to c.read (copied_passes c (item.Symbol s')) (o.table pl) in
-      let rest = following c q o.table (suc o.i) (suc level) others in
-      let ys : List Child = children_of c read.production of_child in
-      let first : todo ≡ (suc level, (item.Symbol s', Some copy)) ∷ rest =
-      cc (after_next c q o.table o.i (suc level) others (item.Symbol s') within occurs) in
-      let next_todo = before_others (other (direction_of c.read)) (suc (suc level)) ys rest in
-      record {
-        next = next_todo;
-        records =
-            λ here. leaves_on (source c) (other (direction_of c.read)) t.read body (suc level) (item.Symbol s', Some copy) ys
-            (pending_root c.grammar) rest (subst (AreRecords (source c) t.read) first here) (omega arith)
-            (is_record c (item.Symbol s') p body values new read (Some copy) (cc));
-        opens = record {
-          production = q;
-          i = o.i;
-          done = o.done;
-          table = e;
-          copied = o.copied;
-          of_child = of_child;
-          row = child_row;
-          trees = o.trees;
-          valuations = o.valuations;
-          mid = o.mid;
-          count = 0;
-          is_open =
-              met_child c sound s f level x.production q Got o.i o.done o.table o.trees o.valuations old o.mid
-              (item.Symbol s') h within occurs agree' refl (λ j n k. k) o.is_open;
-          runs =
-              subst
-              (λ x'. Runs c.passes q c.write (state_of (after_get x') o.i o.done) (drop (x.at + 1) (list_at c x.production)))
-              item_is next.1;
-          agreement =
-              shown_row c q o.i o.i o.table o.copied b (item.Symbol s') h occurs agree sound.next (λ b apart k. k)
-              (λ a n at k. absurd (known_differs c q o.i pl within k refl)) o.agreement;
-          current = (
-            record {
-              symbol = s';
-              occurs = occurs;
-              production = read.production;
-              there = read.there;
-              left = read.left;
-              transcript = cc (with_is o.table pl h);
-              deep = deep;
-            },
-            refl,
-            cc (with_is o.table pl h),
-          );
-          counted = let n = o.counted in let m = o.current.1 in let l = rules_next c x (instr.Get j) at in omega arith;
-          values_are =
-              cc (whole, stored_same c q (o.table 0) (e 0) o.copied (λ a. sym (with_other o.table pl h 0 a (λ z. omega arith))));
-          base = o.base;
-          todo_is =
-              cc (
-                after_same c q e o.table (suc o.i) (suc level) others copied,
-                of_node_is c sound p read.production of_child (suc (suc level)) (following c q e (suc o.i) (suc level) others)
-                    read.there,
-              );
-        };
-      }
-
-  -- The record of a token was read.
-  leaf_in : (s : ℕ) (f : ℕ → Value) (level : ℕ) (x : OpenNode) (under : List Value) (old : Transcript) (before : ℕ)
-      (others : Pending) (ph : Phase) (values new : List Value) (t : Transcript) (now : ℕ) (todo : Pending) (j d : ℕ)
-      (q0 : Production) (body : List ℕ) (read : IsTokenRead d body values new)
-      → slice_get (list_at c x.production) x.at ≡ Some (instr.Get j) → IsProduction c.grammar x.production q0
-      → item_at q0 j ≡ Some (item.Terminal (Class d)) → level < max_depth
-      → HasAgreed c q0 x j (item.Terminal (Class d)) new (λ a. Text read.text)
-      → IsActive c s f level x under old before others ph values t now todo
-      → ArrivesAtNode c s f level (after_step x d) under old before others Gone values t body now todo
-  leaf_in s f level x under old before others ph values new t now todo j d q0 body read at there0 occurs0 deep agreed here =
-      let o = at_get here j at in
-      let q = o.production in
-      let next = runs_next c x (instr.Get j) at q Between o.i o.done o.runs in
-      let within = next.0.within in
-      let place = next.0.place in
-      let b = nth (pass_direction c) (arity q) o.i in
-      let pl = place_of q c.write o.i in
-      let x' = item.Terminal (Class d) in
-      let h : ℕ → Value = λ a. Text read.text in
-      let e = with_row o.table pl h in
-      let same : q0 ≡ q = same_production c x.production q0 q there0 o.is_open.there in
-      let item_is : item_at q j ≡ Some x' = cc in
-      let occurs : item_at q pl ≡ Some x' = cc in
-      let whole : new ≡ under ++ (stored c q (o.table 0) o.copied ++ Text read.text ∷ []) =
-      cc (
-        append-nil (stored c q (o.table 0) o.copied),
-        append_assoc under (stored c q (o.table 0) o.copied) (Text read.text ∷ []),
-      ) in
-      let found = copies_there c q (o.table 0) o.copied under (Text read.text ∷ []) b x.base x' o.base occurs in
-      let slot : copy_start c q0 j ≡ copy_start c q pl = cc in
-      let agree =
-      agreed (o.copied pl) found.0 (cc whole) in
-      let agree' = agree_table c q o.i o.table o.copied b x' h occurs sound.next o.agreement agree in
-      let copied = copies_row c q o.table b x' h occurs agree' in
-      let copy = values_up_to c.read (copied_passes c x') (o.table pl) in
-      let rest = following c q o.table (suc o.i) (suc level) others in
-      let first : todo ≡ (suc level, (x', Some copy)) ∷ rest =
-      cc (after_next c q o.table o.i (suc level) others x' within occurs) in
-      record {
-        next = rest;
-        records =
-            λ here. leaves_on (source c) (other (direction_of c.read)) t.read body (suc level) (x', Some copy) []
-            (pending_root c.grammar) rest (subst (AreRecords (source c) t.read) first here) (omega arith)
-            (is_record c x' d body values new (refl, read) (Some copy) (cc));
-        opens = record {
-          production = q;
-          i = o.i;
-          done = o.done;
-          table = e;
-          copied = o.copied;
-          of_child = o.of_child;
-          row = [];
-          trees = o.trees;
-          valuations = o.valuations;
-          mid = o.mid;
-          count = 0;
-          is_open =
-              met_child c sound s f level x.production q Gone o.i o.done o.table o.trees o.valuations old o.mid x' h within occurs
-              agree' refl (λ j n k. elim k [ inl l ↦ inl l | inr l ↦ inr (known_more c q o.i j l) ]) o.is_open;
-          runs =
-              subst
-              (λ x'. Runs c.passes q c.write (state_of (after_get x') o.i o.done) (drop (x.at + 1) (list_at c x.production)))
-              item_is next.1;
-          agreement =
-              shown_row c q o.i (suc o.i) o.table o.copied b x' h occurs agree sound.next
-              (λ b' apart k. elim (known_last c q o.i (suc b') k) [ inl l ↦ l | inr here ↦ absurd (apart (omega arith)) ])
-              (λ a n at k. zero_pass a n at) o.agreement;
-          current = (
-            record {
-              item = x';
-              occurs = occurs;
-              tree = leaf d read.text;
-              values = λ path. h;
-              evaluated = record { fits = (refl, read.fits); solved = refl; well = λ a p at le. read.well };
-              number = refl;
-              root = λ a. sym (with_here o.table pl h a);
-              read = cc;
-              put = cc (append-nil o.mid.put);
-              counted = refl;
-              deep = omega arith;
-            },
-            refl,
-          );
-          counted = let n = o.counted in let m = o.current.1 in let l = rules_next c x (instr.Get j) at in omega arith;
-          values_are =
-              cc (stored_same c q (o.table 0) (e 0) o.copied (λ a. sym (with_other o.table pl h 0 a (λ z. omega arith))));
-          base = o.base;
-          todo_is = sym (after_same c q e o.table (suc o.i) (suc level) others copied);
-        };
-      }
-    where
-      zero_pass : (a n : ℕ) → slice_get (0 ∷ []) a ≡ Some n → n < c.write
-      zero_pass zero n at = let e : 0 ≡ n = cc in let next = sound.next in omega arith
-      zero_pass (suc a) n at = absurd (let bad : ⊥ = cc in bad)
-
-  pub step_got : (root : ℕ) (x : OpenNode) (xs : List OpenNode) (values new : List Value) (t : Transcript) (now : ℕ)
-      (todo : Pending) (j p s' : ℕ) (q0 : Production) (body : List ℕ) (read : IsNodeRead c s' p body values new)
-      → slice_get (list_at c x.production) x.at ≡ Some (instr.Get j) → IsProduction c.grammar x.production q0
-      → item_at q0 j ≡ Some (item.Symbol s') → suc (length xs) < max_depth
-      → HasAgreed c q0 x j (item.Symbol s') new read.values
-      → RunInvariant c root (x ∷ xs) values t now todo
-      → (next : Pending) × (AreRecords (source c) t.read todo → AreRecords (source c) (t.read ++ body ∷ []) next)
-      × RunInvariant c root (after_step x p ∷ xs) new (record { read = t.read ++ body ∷ []; put = t.put }) now next
-  step_got root x xs values new t now todo j p s' q0 body read at there0 occurs0 deep agreed
-      (s, f, under, old, before, others, waits, ph, o) =
-      let on =
-      got_in s f (suc (length xs)) x under old before others ph values new t now todo j p s' q0 body read at there0 occurs0
-      deep agreed o in
-      (on.next, on.records, (s, f, under, old, before, others, waits, Got, on.opens))
-
-  pub step_leaf : (root : ℕ) (x : OpenNode) (xs : List OpenNode) (values new : List Value) (t : Transcript) (now : ℕ)
-      (todo : Pending) (j d : ℕ) (q0 : Production) (body : List ℕ) (read : IsTokenRead d body values new)
-      → slice_get (list_at c x.production) x.at ≡ Some (instr.Get j) → IsProduction c.grammar x.production q0
-      → item_at q0 j ≡ Some (item.Terminal (Class d)) → suc (length xs) < max_depth
-      → HasAgreed c q0 x j (item.Terminal (Class d)) new (λ a. Text read.text)
-      → RunInvariant c root (x ∷ xs) values t now todo
-      → (next : Pending) × (AreRecords (source c) t.read todo → AreRecords (source c) (t.read ++ body ∷ []) next)
-      × RunInvariant c root (after_step x d ∷ xs) values (record { read = t.read ++ body ∷ []; put = t.put }) now next
-  step_leaf root x xs values new t now todo j d q0 body read at there0 occurs0 deep agreed
-      (s, f, under, old, before, others, waits, ph, o) =
-      let on =
-      leaf_in s f (suc (length xs)) x under old before others ph values new t now todo j d q0 body read at there0 occurs0 deep
-      agreed o in
-      (on.next, on.records, (s, f, under, old, before, others, waits, Gone, on.opens))
-
   -- A node whose record was just read.
-  pub opened : (p s : ℕ) (q : Production) (f : ℕ → Value) (e : Table) (level base : ℕ) (under : List Value) (old : Transcript)
-      (before : ℕ) (others : Pending) → IsProduction c.grammar p q → q.left ≡ s → level ≤ max_depth → base ≡ length under
+  pub opened : (p : ℕ) {s : ℕ} {q : Production} (f : ℕ → Value) (e : Table) (level : ℕ) {base : ℕ} (under : List Value)
+      (old : Transcript) (before : ℕ) (others : Pending) → IsProduction c.grammar p q → q.left ≡ s → level ≤ max_depth
+      → base ≡ length under
       → IsActive c s f level (first_at p base) under old before others Between (under ++ stored c q f e)
       (after_reading c p f (copies c c.read (stored_items q.items) (in_children e)) old) before
       (following c q e 0 (suc level) others)
-  opened p s q f e level base under old before others there left deep is =
+  opened p {q = q} f e level {base} under old before others there left deep is =
       record {
         production = q;
         i = 0;
@@ -443,7 +229,7 @@ module _ (c : Setting) (sound : IsSound c) where
             deep = let d = deep in omega arith;
           };
           roots = λ b a l. absurd (omega arith);
-          held = λ r u has num. let z = has.1 in absurd (cc);
+          held = λ r u has num. let z = has.1 in absurd cc;
         };
         runs = sound.course p q there;
         agreement = λ j a p x at is le when. refl;
@@ -454,105 +240,16 @@ module _ (c : Setting) (sound : IsSound c) where
         todo_is = refl;
       }
 
-  gone_in : (root s : ℕ) (f : ℕ → Value) (x : OpenNode) (xs : List OpenNode) (under : List Value) (old : Transcript) (before : ℕ)
-      (others : Pending) (ph : Phase) (values : List Value) (t : Transcript) (now : ℕ) (todo : Pending) (j base : ℕ)
-      → slice_get (list_at c x.production) x.at ≡ Some (instr.Go j) → Expects c root xs s x.production f under old before others
-      → IsActive c s f (suc (length xs)) x under old before others ph values t now todo
-      → ((q : Production) → IsProduction c.grammar x.child q → base + stored_width c q ≡ length values)
-      → RunInvariant c root (first_at x.child base ∷ left_at x j ∷ xs) values t now todo
-  gone_in root s f x xs under old before others ph values t now todo j base at waits here is =
-      let o = at_go here j at in
-      let q = o.production in
-      let next = runs_next c x (instr.Go j) at q Got o.i o.done o.runs in
-      let pl = place_of q c.write o.i in
-      let g = o.current.0 in
-      let h = o.table pl in
-      let level = suc (length xs) in
-      let rest = under ++ stored c q (o.table 0) o.copied in
-      let child_row = stored c g.production h o.of_child in
-      let vs : values ≡ rest ++ child_row = cc (append_assoc under (stored c q (o.table 0) o.copied) child_row) in
-      let base' : base ≡ length rest =
-      let a = is g.production g.there in
-      let d = length_stored c g.production h o.of_child in
-      let l = length-append rest child_row in
-      let m = ap length vs in
-      omega arith in
-      let deep = g.deep in
-      let following_it = following c q o.table (suc o.i) (suc level) others in
-      let child =
-      opened x.child g.symbol g.production h o.of_child (suc level) base rest o.mid now following_it g.there g.left
-      (omega arith) base' in
-      let same_todo : todo ≡ following c g.production o.of_child 0 (suc (suc level)) following_it =
-      o.todo_is ∙ ap (λ p. pending_of_child c p o.of_child (suc (suc level)) following_it) g.there in (
-        g.symbol,
-        h,
-        rest,
-        o.mid,
-        now,
-        following_it,
-        (
-          s,
-          f,
-          under,
-          old,
-          before,
-          others,
-          waits,
-          record {
-            production = q;
-            i = o.i;
-            done = o.done;
-            table = o.table;
-            copied = o.copied;
-            trees = o.trees;
-            values = o.valuations;
-            is_open = o.is_open;
-            runs = next.1;
-            counted = let n = o.counted in let m = o.current.1 in let l = rules_next c x (instr.Go j) at in omega arith;
-            agreement = o.agreement;
-            within = next.0.0.within;
-            occurs = g.occurs;
-            place_is = next.0.0.place;
-            number = refl;
-            row_is = λ a. refl;
-            under_is = refl;
-            base = o.base;
-            deep = deep;
-            todo_is = refl;
-          },
-        ),
-        Between,
-        subst
-            (λ (z : Pending). IsActive c g.symbol h (suc level)
-            (first_at x.child base) rest o.mid now following_it Between values t now z) (sym same_todo)
-            (subst
-            (λ t. IsActive c g.symbol h (suc level) (first_at x.child base) rest o.mid now following_it Between values t now
-            (following c g.production o.of_child 0 (suc (suc level)) following_it)) (cc)
-            (subst
-            (λ vs. IsActive c g.symbol h (suc level) (first_at x.child base) rest o.mid now following_it Between vs
-            (after_reading c x.child h (copies c c.read (stored_items g.production.items) (in_children o.of_child)) o.mid)
-            now (following c g.production o.of_child 0 (suc (suc level)) following_it)) (sym vs) child)),
-      )
-
-  pub step_go : (root : ℕ) (x : OpenNode) (xs : List OpenNode) (values : List Value) (t : Transcript) (now : ℕ) (todo : Pending)
-      (j base : ℕ) → slice_get (list_at c x.production) x.at ≡ Some (instr.Go j)
-      → ((q : Production) → IsProduction c.grammar x.child q → base + stored_width c q ≡ length values)
-      → RunInvariant c root (x ∷ xs) values t now todo
-      → RunInvariant c root (first_at x.child base ∷ left_at x j ∷ xs) values t now todo
-  step_go root x xs values t now todo j base at is (s, f, under, old, before, others, waits, ph, o) =
-      gone_in root s f x xs under old before others ph values t now todo j base at waits o is
-
   -- The pass leaves the tree at the next place, all of which was written.
-  left_in : (s : ℕ) (f : ℕ → Value) (level : ℕ) (x : OpenNode) (under : List Value) (old : Transcript) (before : ℕ)
-      (others : Pending) (values : List Value) (t new : Transcript) (now : ℕ) (todo : Pending) (j : ℕ)
-      → slice_get (list_at c x.production) x.at ≡ Some (instr.Put j)
+  left_in : {s : ℕ} {f : ℕ → Value} {level : ℕ} {x : OpenNode} {under : List Value} {old : Transcript} {before : ℕ}
+      {others : Pending} {values : List Value} {t new : Transcript} {now : ℕ} {todo : Pending} {j : ℕ} → IsNext c x (instr.Put j)
       → (o : IsActive c s f level x under old before others Gone values t now todo) → new.read ≡ t.read
       → new.put ≡ o.mid.put ++ postfix (pass_direction c)
       (bodies_of version_two c.grammar c.passes c.write o.current.0.tree o.current.0.values)
       → IsActive c s f level (after_step x x.child) under old before others Between values new now todo
-  left_in s f level x under old before others values t new now todo j at o reads puts =
+  left_in {s} {f} {level} {x} {under} {old} {t = t} {new = new} at o reads puts =
       let q = o.production in
-      let next = runs_next c x (instr.Put j) at q Gone o.i o.done o.runs in
+      let next = runs_next o at in
       let g = o.current.0 in
       record {
         production = q;
@@ -567,132 +264,24 @@ module _ (c : Setting) (sound : IsSound c) where
         mid = new;
         count = 0;
         is_open =
-            put_child c sound s f level x.production x.child q o.i o.done o.table o.trees o.valuations old o.mid t new o.count
-            next.0.within g reads puts o.is_open;
+            put_child sound next.0.within g reads puts o.is_open;
         runs = next.1;
         agreement = o.agreement;
         current = (refl, refl, refl);
         counted = let n = o.counted in let m = g.counted in let k = rules_add (pass_direction c) c o.trees g.tree in
-            let l = rules_next c x (instr.Put j) at in omega arith;
+            let l = rules_next c x at in omega arith;
         values_are = cc;
         base = o.base;
         todo_is = o.todo_is;
       }
 
-  -- At the `Put` of a child that is a node nothing is written: its whole tree was written before.
-  put_node_in : (s : ℕ) (f : ℕ → Value) (level : ℕ) (x : OpenNode) (under : List Value) (old : Transcript) (before : ℕ)
-      (others : Pending) (ph : Phase) (values : List Value) (t : Transcript) (now : ℕ) (todo : Pending) (j s' : ℕ)
-      (q0 : Production)
-      → slice_get (list_at c x.production) x.at ≡ Some (instr.Put j) → IsProduction c.grammar x.production q0
-      → item_at q0 j ≡ Some (item.Symbol s')
-      → IsActive c s f level x under old before others ph values t now todo
-      → IsActive c s f level (after_step x x.child) under old before others Between values t now todo
-  put_node_in s f level x under old before others ph values t now todo j s' q0 at there0 occurs0 here =
-      let o = at_put here j at in
-      let q = o.production in
-      let place = (runs_next c x (instr.Put j) at q Gone o.i o.done o.runs).0.place in
-      let g = o.current.0 in
-      let same : q0 ≡ q = same_production c x.production q0 q there0 o.is_open.there in
-      let items : Some g.item ≡ Some (item.Symbol s') = cc in
-      let is : g.item ≡ item.Symbol s' = cc in
-      left_in s f level x under old before others values t t now todo j at o refl
-      (cc (whole g.tree g.values (subst (λ x. IsEvaluatedTree c x g.tree g.values) is g.evaluated)))
-    where
-      whole : (u : Tree) (w : Valuation) → IsEvaluatedTree c (item.Symbol s') u w
-          → put_of (pass_direction c) u (bodies_of version_two c.grammar c.passes c.write u w) ≡ postfix (pass_direction c)
-          (bodies_of version_two c.grammar c.passes c.write u w)
-      whole (leaf d text) w evaluated = elim evaluated.fits [ ]
-      whole (node p ts) w evaluated = refl
-
-  pub step_put_node : (root : ℕ) (x : OpenNode) (xs : List OpenNode) (values : List Value) (t : Transcript) (now : ℕ)
-      (todo : Pending) (j s' : ℕ) (q0 : Production) → slice_get (list_at c x.production) x.at ≡ Some (instr.Put j)
-      → IsProduction c.grammar x.production q0 → item_at q0 j ≡ Some (item.Symbol s')
-      → RunInvariant c root (x ∷ xs) values t now todo → RunInvariant c root (after_step x x.child ∷ xs) values t now todo
-  step_put_node root x xs values t now todo j s' q0 at there0 occurs0 (s, f, under, old, before, others, waits, ph, o) = (
-    s,
-    f,
-    under,
-    old,
-    before,
-    others,
-    waits,
-    Between,
-    put_node_in s f (suc (length xs)) x under old before others ph values t now todo j s' q0 at there0 occurs0 o,
-  )
-
-  -- The record of a token is written. The token's text is among the copies.
-  put_leaf_in : (s : ℕ) (f : ℕ → Value) (level : ℕ) (x : OpenNode) (under : List Value) (old : Transcript) (before : ℕ)
-      (others : Pending) (ph : Phase) (values : List Value) (t : Transcript) (now : ℕ) (todo : Pending) (j d : ℕ)
-      (q0 : Production) (text : List Value)
-      → slice_get (list_at c x.production) x.at ≡ Some (instr.Put j) → IsProduction c.grammar x.production q0
-      → item_at q0 j ≡ Some (item.Terminal (Class d)) → text ≡ take 1 (drop (x.base + copy_start c q0 j) values)
-      → IsActive c s f level x under old before others ph values t now todo
-      → IsActive c s f level (after_step x x.child) under old before others Between values
-      (record { read = t.read; put = t.put ++ body_of Token x.child text ∷ [] }) now todo
-  put_leaf_in s f level x under old before others ph values t now todo j d q0 text at there0 occurs0 is here =
-      let o = at_put here j at in
-      let q = o.production in
-      let place = (runs_next c x (instr.Put j) at q Gone o.i o.done o.runs).0.place in
-      let g = o.current.0 in
-      let b = nth (pass_direction c) (arity q) o.i in
-      let pl = place_of q c.write o.i in
-      let x' = item.Terminal (Class d) in
-      let same : q0 ≡ q = same_production c x.production q0 q there0 o.is_open.there in
-      let occurs : item_at q pl ≡ Some (item.Terminal (Class d)) = cc in
-      let items : Some g.item ≡ Some (item.Terminal (Class d)) = cc in
-      let item_is : g.item ≡ item.Terminal (Class d) = cc in
-      let found = copies_there c q (o.table 0) o.copied under o.row b x.base x' o.base occurs in
-      let slot : copy_start c q0 j ≡ copy_start c q pl = cc in
-      let first : text ≡ o.copied pl 0 ∷ [] =
-      is ∙ ap (λ n. take 1 (drop (x.base + n) values)) slot
-      ∙ ap (λ vs. take 1 (drop (x.base + copy_start c q pl) vs)) o.values_are ∙ ap (take 1) found.1
-      ∙ ap (λ b. take 1 (((if b then o.copied pl 0 ∷ [] else []) ++ []) ++ found.0))
-      (le-leb 0 c.write (omega arith)) in
-      let shown : o.copied pl 0 ≡ o.table pl 0 =
-      o.agreement b 0 0 x' occurs refl (omega arith) (inr (known_here c q o.i pl refl)) in
-      let evaluated = subst (λ x. IsEvaluatedTree c x g.tree g.values) item_is g.evaluated in
-      left_in s f level x under old before others values t
-      (record { read = t.read; put = t.put ++ body_of Token x.child text ∷ [] }) now todo j at o refl
-      (put_all g.tree g.values (o.mid.put) t.put text evaluated g.number g.put
-      (cc (first, g.root 0)))
-    where
-      put_all : (u : Tree) (w : Valuation) (before_it put : List (List ℕ)) (text : List Value)
-          → IsEvaluatedTree c (item.Terminal (Class d)) u w → root_number u ≡ x.child
-          → put ≡ before_it ++ put_of (pass_direction c) u (bodies_of version_two c.grammar c.passes c.write u w)
-          → text ≡ w [] 0 ∷ []
-          → put ++ body_of Token x.child text ∷ [] ≡ before_it ++ postfix (pass_direction c)
-          (bodies_of version_two c.grammar c.passes c.write u w)
-      put_all (node p ts) w before_it put text evaluated number is same = elim evaluated.fits [ ]
-      put_all (leaf e string) w before_it put text evaluated number is same = cc (append-nil before_it)
-
-  pub step_put_leaf : (root : ℕ) (x : OpenNode) (xs : List OpenNode) (values : List Value) (t : Transcript) (now : ℕ)
-      (todo : Pending) (j d : ℕ) (q0 : Production) (text : List Value)
-      → slice_get (list_at c x.production) x.at ≡ Some (instr.Put j) → IsProduction c.grammar x.production q0
-      → item_at q0 j ≡ Some (item.Terminal (Class d)) → text ≡ take 1 (drop (x.base + copy_start c q0 j) values)
-      → RunInvariant c root (x ∷ xs) values t now todo
-      → RunInvariant c root (after_step x x.child ∷ xs) values
-      (record { read = t.read; put = t.put ++ body_of Token x.child text ∷ [] }) now todo
-  step_put_leaf root x xs values t now todo j d q0 text at there0 occurs0 is (s, f, under, old, before, others, waits, ph, o) = (
-    s,
-    f,
-    under,
-    old,
-    before,
-    others,
-    waits,
-    Between,
-    put_leaf_in s f (suc (length xs)) x under old before others ph values t now todo j d q0 text at there0 occurs0 is o,
-  )
-
   -- A node is done, whose row is the last one.
-  node_done : (s : ℕ) (f : ℕ → Value) (level : ℕ) (x : OpenNode) (under : List Value) (old : Transcript) (before : ℕ)
-      (others : Pending) (values : List Value) (t : Transcript) (now : ℕ) (todo : Pending)
-      → slice_get (list_at c x.production) x.at ≡ Some instr.End → All IsWell values
-      → (o : IsActive c s f (suc level) x under old before others Between values t now todo)
-      → IsDone o
-  node_done s f level x under old before others values t now todo at well o =
+  node_done : {s : ℕ} {f : ℕ → Value} {level : ℕ} {x : OpenNode} {under : List Value} {old : Transcript} {before : ℕ}
+      {others : Pending} {values : List Value} {t : Transcript} {now : ℕ} {todo : Pending} → IsNext c x instr.End
+      → All IsWell values → (o : IsActive c s f (suc level) x under old before others Between values t now todo) → IsDone o
+  node_done {s} {f} {level} {x} {under} {old} {others = others} {values = values} {t = t} at well o =
       let q = o.production in
-      let next = (runs_next c x instr.End at q Between o.i o.done o.runs).0 in
+      let next = (runs_next o at).0 in
       let row = stored c q (o.table 0) o.copied in
       let whole : values ≡ under ++ row = cc (append-nil row) in
       let own = values_up_to c.write (c.passes q.left) (o.table 0) in
@@ -700,8 +289,7 @@ module _ (c : Setting) (sound : IsSound c) where
       let own_well : All IsWell own =
       All-before IsWell own copied (All-after IsWell under (own ++ copied) (subst (All IsWell) whole well)) in
       let done =
-      ended c sound s f level x.production q o.i o.done o.table o.copied o.trees o.valuations old t next.1 next.2 own_well
-      o.agreement
+      ended sound o.copied next.1 next.2 own_well o.agreement
       (subst (λ t. IsOpenNode c s f (suc level) x.production q (state_of Between o.i o.done) o.table o.trees o.valuations old t)
       (sym o.current.0) o.is_open) in
       record {
@@ -719,17 +307,17 @@ module _ (c : Setting) (sound : IsSound c) where
       }
 
   -- The root is done.
-  pub step_end_root : (root : ℕ) (x : OpenNode) (values : List Value) (t : Transcript) (now : ℕ) (todo : Pending)
-      → slice_get (list_at c x.production) x.at ≡ Some instr.End → All IsWell values
+  pub step_end_root : (root : ℕ) {x : OpenNode} {values : List Value} {t : Transcript} {now : ℕ} {todo : Pending}
+      → IsNext c x instr.End → All IsWell values
       → RunInvariant c root (x ∷ []) values t now todo → RunInvariant c root [] values t now todo
-  step_end_root root x values t now todo at well
+  step_end_root root {x} {values} {t} at well
       (s, f, under, old, before, others, (first, number, none_under, transcript, none_before, none_left), ph, here) =
       let o = at_end here at in
       let q = o.production in
       let row = stored c q (o.table 0) o.copied in
       let tree = node x.production o.trees in
       let values_at = graft (o.table 0) o.valuations in
-      let done = node_done s f 0 x under old before others values t now todo at well o in
+      let done = node_done at well o in
       let single_value : values ≡ row = done.whole ∙ ap (λ vs. vs ++ row) none_under in
       record {
         tree = tree;
@@ -747,14 +335,14 @@ module _ (c : Setting) (sound : IsSound c) where
 
   -- The values of a node's synthesized attributes were moved to their copies in the row of the parent,
   -- which waited.
-  moved_copies : (q : Production) (f : ℕ → Value) (s : Table) (under row others : List Value) (b : ℕ) (x : Item) (h : ℕ → Value)
-      (to count from : ℕ) (values : List Value)
+  moved_copies : (q : Production) (f : ℕ → Value) (s : Table) (under others : List Value) (b : ℕ) (h : ℕ → Value) {x : Item}
+      {to count from : ℕ} {row values : List Value}
       → slice_get (stored_items q.items) b ≡ Some x → to ≡ length under + copy_start c q (suc b) → count ≡ copied_width c x
       → from ≡ length (under ++ stored c q f s) → row ≡ values_up_to c.write (copied_passes c x) h ++ others
       → values ≡ (under ++ stored c q f s) ++ row
       → take to values ++ (take count (drop from values) ++ drop (to + count) (take from values)) ≡ under ++ stored c q f
       (with_row s (suc b) h)
-  moved_copies q f s under row others b x h to count from values at to_is count_is from_is row_is values_are =
+  moved_copies q f s under others b h {x} {to} {count} {from} {row} {values} at to_is count_is from_is row_is values_are =
       let xs = stored_items q.items in
       let ps = copied_passes c x in
       let r = shares c xs b x at (in_children s) in
@@ -792,24 +380,23 @@ module _ (c : Setting) (sound : IsSound c) where
       ) in cc
 
   -- A node is done, and another one waits for it.
-  pub step_end : (root : ℕ) (x y : OpenNode) (ys : List OpenNode) (values result : List Value) (t : Transcript) (now : ℕ)
-      (todo : Pending) (to count : ℕ) → slice_get (list_at c x.production) x.at ≡ Some instr.End → All IsWell values
+  pub step_end : (root : ℕ) {x y : OpenNode} (ys : List OpenNode) {values result : List Value} {t : Transcript} {now : ℕ}
+      {todo : Pending} {to count : ℕ} → IsNext c x instr.End → All IsWell values
       → ((q : Production) (x' : Item) → IsProduction c.grammar y.production q → item_at q y.place ≡ Some x'
       → (to ≡ y.base + copy_start c q y.place) × (count ≡ copied_width c x'))
       → result ≡ take to values ++ (take count (drop x.base values) ++ drop (to + count) (take x.base values))
       → RunInvariant c root (x ∷ y ∷ ys) values t now todo
       → RunInvariant c root (y ∷ ys) result
       (record { read = t.read; put = t.put ++ body_of Node x.production (drop x.base values) ∷ [] }) now todo
-  step_end root x y ys values result t now todo to count at well slots result_is
+  step_end root {x} {y} ys {values} {t = t} {to = to} {count = count} at well slots result_is
       (s, f, under, old, before, others, (s', f', under', old', before', others', waits, z), ph, here) =
       let o = at_end here at in
-      let done = node_done s f (suc (length ys)) x under old before others values t now todo at well o in
+      let done = node_done at well o in
       let h = o.table 0 in
       let q = z.production in
       let b = nth (pass_direction c) (arity q) z.i in
       let pl = place_of q c.write z.i in
       let e = with_row z.table pl h in
-      let tape : Transcript = record { read = t.read; put = t.put ++ body_of Node x.production (drop x.base values) ∷ [] } in
       let at_place : item_at q y.place ≡ Some (item.Symbol s) = cc in
       let slot = slots q (item.Symbol s) z.is_open.there at_place in
       let begins = begins_with_copy c (item.Symbol s) h in
@@ -819,7 +406,7 @@ module _ (c : Setting) (sound : IsSound c) where
       let row : child_row ≡ share ++ (begins.0 ++ copied_rest) = cc (append_assoc share begins.0 copied_rest) in
       let to_is : to ≡ length under' + copy_start c q pl = cc in
       let keeps' : Keeps c s (z.table pl) h = λ a n is le other. o.is_open.entered a n is le other ∙ sym (z.row_is a) in
-      let agree = kept_copy c sound s (z.table pl) h keeps' in
+      let agree = kept_copy sound s (z.table pl) h keeps' in
       let record_is =
       ap (λ vs. body_of Node x.production vs) (ap (drop x.base) done.whole ∙ drop_at under child_row x.base (sym o.base))
       ∙ sym done.record_is in
@@ -845,8 +432,7 @@ module _ (c : Setting) (sound : IsSound c) where
           mid = old;
           count = rules_of_pass c.passes c.write c.grammar (node x.production o.trees);
           is_open =
-              returned c sound s' f' (suc (length ys)) y.production q z.i z.done z.table z.trees z.values old' old s h z.within
-              z.occurs keeps' z.is_open;
+              returned sound z.within z.occurs keeps' z.is_open;
           runs = z.runs;
           agreement =
               shown_both c q z.i (suc z.i) z.table z.copied b h
@@ -876,57 +462,408 @@ module _ (c : Setting) (sound : IsSound c) where
           counted = let n = z.counted in let m = done.counted in omega arith;
           values_are =
               cc (
-                moved_copies q (z.table 0) z.copied under' child_row (begins.0 ++ copied_rest) b (item.Symbol s) h to count
-                    x.base values z.occurs to_is slot.1 (o.base ∙ ap length z.under_is) row
-                    (done.whole ∙ ap (λ vs. vs ++ child_row) z.under_is),
+                moved_copies q (z.table 0) z.copied under' (begins.0 ++ copied_rest) b h z.occurs to_is slot.1
+                    (o.base ∙ ap length z.under_is) row (done.whole ∙ ap (λ vs. vs ++ child_row) z.under_is),
                 stored_same c q (z.table 0) (e 0) (with_row z.copied pl h)
                     (λ a. sym (with_other z.table pl h 0 a (λ y. omega arith))),
                 append-nil (stored c q (e 0) (with_row z.copied pl h)),
               );
           base = z.base;
           todo_is =
-              cc (after_same c q e z.table (suc z.i) (suc (suc (length ys))) others'
-              (copies_row c q z.table b (item.Symbol s) h z.occurs agree));
+              cc (after_same c q e z.table (suc z.i) (suc (suc (length ys))) others' (copies_row c q z.table b h z.occurs agree));
         },
       )
     where
       whole : (d : Direction) (b : BodyTree) → below d b ++ root_body b ∷ [] ≡ postfix d b
       whole d (branch body ts) = refl
 
-  -- The first child to be read at a `Get`, with the copy of its values in the row of the node.
-  pub get_first : (root : ℕ) (x : OpenNode) (xs : List OpenNode) (values : List Value) (t : Transcript) (now : ℕ) (todo : Pending)
-      (j : ℕ) (q0 : Production) (x' : Item)
-      → slice_get (list_at c x.production) x.at ≡ Some (instr.Get j) → IsProduction c.grammar x.production q0
-      → item_at q0 j ≡ Some x' → RunInvariant c root (x ∷ xs) values t now todo
-      → (f : ℕ → Value) × (left : Pending)
-      × (todo ≡ (suc (suc (length xs)), (x', Some (values_up_to c.read (copied_passes c x') f))) ∷ left)
-      × ((row : List Value) → (rest : List Value)
-      × (drop (x.base + copy_start c q0 j) (values ++ row) ≡ values_up_to c.write (copied_passes c x') f ++ rest))
-  get_first root x xs values t now todo j q0 x' at there0 occurs0 (s, f, under, old, before, others, waits, ph, here) =
-      let o = at_get here j at in
-      let q = o.production in
-      let level = suc (suc (length xs)) in
-      let turn = (runs_next c x (instr.Get j) at q Between o.i o.done o.runs).0 in
-      let b = nth (pass_direction c) (arity q) o.i in
-      let pl = place_of q c.write o.i in
-      let same : q0 ≡ q = same_production c x.production q0 q there0 o.is_open.there in
-      let occurs : item_at q pl ≡ Some x' = cc in
-      let n = sound.next in
-      let copies_same : values_up_to c.read (copied_passes c x') (o.table pl) ≡ values_up_to c.read (copied_passes c x')
-      (o.copied pl) =
-      same_values c.read (copied_passes c x') (o.table pl) (o.copied pl)
-      (λ a p is le. sym (o.agreement b a p x' occurs is (omega arith) (inl (omega arith)))) in
-      let slot : copy_start c q0 j ≡ copy_start c q pl = cc in
-      let kept : values ≡ under ++ stored c q (o.table 0) o.copied = cc (append-nil (stored c q (o.table 0) o.copied)) in (
-        o.copied pl,
-        following c q o.table (suc o.i) level others,
-        cc (after_next c q o.table o.i level others x' turn.within occurs),
-        (λ row.
-            let found = copies_there c q (o.table 0) o.copied under row b x.base x' o.base occurs in (
-              found.0,
-              cc (append_assoc under (stored c q (o.table 0) o.copied) row),
-            )),
-      )
-    where
-      first : ℕ → List Value → Pending → Pending
-      first level vs left = (level, (x', Some vs)) ∷ left
+  module _ (root : ℕ) {x : OpenNode} (xs : List OpenNode) {values : List Value} {t : Transcript} {now : ℕ} {todo : Pending} where
+    -- The record of a node was read.
+    pub step_got : {new : List Value} {j p s' : ℕ} {q0 : Production} {body : List ℕ} (read : IsNodeRead c s' p body values new)
+        → IsAtChild c x (instr.Get j) j q0 (item.Symbol s') → suc (length xs) < max_depth
+        → HasAgreed c q0 x j (item.Symbol s') new read.values → RunInvariant c root (x ∷ xs) values t now todo
+        → ReadsOn c root (after_step x p ∷ xs) new t body now todo
+    step_got {new} {j} {p} {s'} {q0} {body} read there deep agreed (s, f, under, old, before, others, waits, ph, here) =
+        let o = at_get here there.next in
+        let level = suc (length xs) in
+        let q = o.production in
+        let next = runs_next o there.next in
+        let within = next.0.within in
+        let place = next.0.place in
+        let b = nth (pass_direction c) (arity q) o.i in
+        let pl = place_of q c.write o.i in
+        let h = read.values in
+        let e = with_row o.table pl h in
+        let of_child = first_row h read.table in
+        let same : q0 ≡ q = same_production c x.production there.there o.is_open.there in
+        let item_is : item_at q j ≡ Some (item.Symbol s') = cc there.occurs in
+        let occurs : item_at q pl ≡ Some (item.Symbol s') = cc in
+        let child_row = stored c read.production h of_child in
+        let row : child_row ≡ values_up_to c.write (c.passes s') h ++ copies c c.write
+        (stored_items read.production.items) read.table = cc in
+        let whole : new ≡ under ++ (stored c q (o.table 0) o.copied ++ child_row) =
+        cc (append-nil (stored c q (o.table 0) o.copied), append_assoc under (stored c q (o.table 0) o.copied) child_row) in
+        let found = copies_there c q (o.table 0) o.copied under child_row b o.base occurs in
+        let slot : copy_start c q0 j ≡ copy_start c q pl = cc in
+        let agree =
+        agreed (o.copied pl) found.0 (cc whole) in
+        let agree' = agree_table c q o.i o.table o.copied b (item.Symbol s') h occurs sound.next o.agreement agree in
+        let copied = copies_row c q o.table b h occurs agree' in
+        let copy = values_up_to c.read (copied_passes c (item.Symbol s')) (o.table pl) in
+        let rest = following c q o.table (suc o.i) (suc level) others in
+        let ys : List Child = children_of c read.production of_child in
+        let first : todo ≡ (suc level, (item.Symbol s', Some copy)) ∷ rest =
+        cc (after_next c q o.table o.i (suc level) others within occurs) in
+        let next_todo = before_others (other (direction_of c.read)) (suc (suc level)) ys rest in (
+          next_todo,
+          (λ expected. leaves_on (source c) (other (direction_of c.read)) t.read body (suc level) (item.Symbol s', Some copy) ys
+              (pending_root c.grammar) rest (subst (AreRecords (source c) t.read) first expected) (omega arith)
+              (is_record c (item.Symbol s') p body values new read (Some copy) (cc))),
+          (
+            s,
+            f,
+            under,
+            old,
+            before,
+            others,
+            waits,
+            Got,
+            record {
+              production = q;
+              i = o.i;
+              done = o.done;
+              table = e;
+              copied = o.copied;
+              of_child = of_child;
+              row = child_row;
+              trees = o.trees;
+              valuations = o.valuations;
+              mid = o.mid;
+              count = 0;
+              is_open =
+                  met_child sound h within occurs agree' refl (λ j n k. k) o.is_open;
+              runs =
+                  subst
+                  (λ x'. Runs c.passes q c.write (state_of (after_get x') o.i o.done) (drop (x.at + 1) (list_at c x.production)))
+                  item_is next.1;
+              agreement =
+                  shown_row c q o.i o.i o.table o.copied b (item.Symbol s') h occurs agree sound.next (λ b apart k. k)
+                  (λ a n at k. absurd (known_differs c q o.i pl within k refl)) o.agreement;
+              current = (
+                record {
+                  symbol = s';
+                  occurs = occurs;
+                  production = read.production;
+                  there = read.there;
+                  left = read.left;
+                  transcript = cc (with_is o.table pl h);
+                  deep = deep;
+                },
+                refl,
+                cc (with_is o.table pl h),
+              );
+              counted = let n = o.counted in let m = o.current.1 in let l = rules_next c x there.next in omega arith;
+              values_are =
+                  cc (
+                    whole,
+                    stored_same c q (o.table 0) (e 0) o.copied (λ a. sym (with_other o.table pl h 0 a (λ z. omega arith))),
+                  );
+              base = o.base;
+              todo_is =
+                  cc (
+                    after_same c q e o.table (suc o.i) (suc level) others copied,
+                    of_node_is sound p read.production of_child (suc (suc level))
+                        (following c q e (suc o.i) (suc level) others) read.there,
+                  );
+            },
+          ),
+        )
+
+    -- The record of a token was read.
+    pub step_leaf : {new : List Value} {j d : ℕ} {q0 : Production} {body : List ℕ} (read : IsTokenRead d body values new)
+        → IsAtChild c x (instr.Get j) j q0 (item.Terminal (Class d)) → suc (length xs) < max_depth
+        → HasAgreed c q0 x j (item.Terminal (Class d)) new (λ a. Text read.text)
+        → RunInvariant c root (x ∷ xs) values t now todo → ReadsOn c root (after_step x d ∷ xs) values t body now todo
+    step_leaf {new} {j} {d} {q0} {body} read there deep agreed (s, f, under, old, before, others, waits, ph, here) =
+        let o = at_get here there.next in
+        let level = suc (length xs) in
+        let q = o.production in
+        let next = runs_next o there.next in
+        let within = next.0.within in
+        let place = next.0.place in
+        let b = nth (pass_direction c) (arity q) o.i in
+        let pl = place_of q c.write o.i in
+        let x' = item.Terminal (Class d) in
+        let h : ℕ → Value = λ a. Text read.text in
+        let e = with_row o.table pl h in
+        let same : q0 ≡ q = same_production c x.production there.there o.is_open.there in
+        let item_is : item_at q j ≡ Some x' = cc there.occurs in
+        let occurs : item_at q pl ≡ Some x' = cc in
+        let whole : new ≡ under ++ (stored c q (o.table 0) o.copied ++ Text read.text ∷ []) =
+        cc (
+          append-nil (stored c q (o.table 0) o.copied),
+          append_assoc under (stored c q (o.table 0) o.copied) (Text read.text ∷ []),
+        ) in
+        let found = copies_there c q (o.table 0) o.copied under (Text read.text ∷ []) b o.base occurs in
+        let slot : copy_start c q0 j ≡ copy_start c q pl = cc in
+        let agree =
+        agreed (o.copied pl) found.0 (cc whole) in
+        let agree' = agree_table c q o.i o.table o.copied b x' h occurs sound.next o.agreement agree in
+        let copied = copies_row c q o.table b h occurs agree' in
+        let copy = values_up_to c.read (copied_passes c x') (o.table pl) in
+        let rest = following c q o.table (suc o.i) (suc level) others in
+        let first : todo ≡ (suc level, (x', Some copy)) ∷ rest =
+        cc (after_next c q o.table o.i (suc level) others within occurs) in (
+          rest,
+          (λ expected. leaves_on (source c) (other (direction_of c.read)) t.read body (suc level) (x', Some copy) []
+              (pending_root c.grammar) rest (subst (AreRecords (source c) t.read) first expected) (omega arith)
+              (is_record c x' d body values new (refl, read) (Some copy) (cc))),
+          (
+            s,
+            f,
+            under,
+            old,
+            before,
+            others,
+            waits,
+            Gone,
+            record {
+              production = q;
+              i = o.i;
+              done = o.done;
+              table = e;
+              copied = o.copied;
+              of_child = o.of_child;
+              row = [];
+              trees = o.trees;
+              valuations = o.valuations;
+              mid = o.mid;
+              count = 0;
+              is_open =
+                  met_child sound h within occurs
+                  agree' refl (λ j n k. elim k [ inl l ↦ inl l | inr l ↦ inr (known_more c q o.i j l) ]) o.is_open;
+              runs =
+                  subst
+                  (λ x'. Runs c.passes q c.write (state_of (after_get x') o.i o.done) (drop (x.at + 1) (list_at c x.production)))
+                  item_is next.1;
+              agreement =
+                  shown_row c q o.i (suc o.i) o.table o.copied b x' h occurs agree sound.next
+                  (λ b' apart k. elim (known_last c q o.i (suc b') k) [ inl l ↦ l | inr here ↦ absurd (apart (omega arith)) ])
+                  (λ a n at k. zero_pass a n at) o.agreement;
+              current = (
+                record {
+                  item = x';
+                  occurs = occurs;
+                  tree = leaf d read.text;
+                  values = λ path. h;
+                  evaluated = record { fits = (refl, read.fits); solved = refl; well = λ a p at le. read.well };
+                  number = refl;
+                  root = λ a. sym (with_here o.table pl h a);
+                  read = cc;
+                  put = cc (append-nil o.mid.put);
+                  counted = refl;
+                  deep = omega arith;
+                },
+                refl,
+              );
+              counted = let n = o.counted in let m = o.current.1 in let l = rules_next c x there.next in omega arith;
+              values_are =
+                  cc (stored_same c q (o.table 0) (e 0) o.copied (λ a. sym (with_other o.table pl h 0 a (λ z. omega arith))));
+              base = o.base;
+              todo_is = sym (after_same c q e o.table (suc o.i) (suc level) others copied);
+            },
+          ),
+        )
+      where
+        zero_pass : (a n : ℕ) → slice_get (0 ∷ []) a ≡ Some n → n < c.write
+        zero_pass zero n at = let e : 0 ≡ n = cc in let next = sound.next in omega arith
+        zero_pass (suc a) n at = absurd cc
+
+    pub step_go : {j base : ℕ} → IsNext c x (instr.Go j)
+        → ((q : Production) → IsProduction c.grammar x.child q → base + stored_width c q ≡ length values)
+        → RunInvariant c root (x ∷ xs) values t now todo
+        → RunInvariant c root (first_at x.child base ∷ left_at x j ∷ xs) values t now todo
+    step_go {j} {base} at is (s, f, under, old, before, others, waits, ph, here) =
+        let o = at_go here at in
+        let q = o.production in
+        let next = runs_next o at in
+        let pl = place_of q c.write o.i in
+        let g = o.current.0 in
+        let h = o.table pl in
+        let level = suc (length xs) in
+        let rest = under ++ stored c q (o.table 0) o.copied in
+        let child_row = stored c g.production h o.of_child in
+        let vs : values ≡ rest ++ child_row = cc (append_assoc under (stored c q (o.table 0) o.copied) child_row) in
+        let base' : base ≡ length rest = let a = is g.production g.there in
+        let d = length_stored c g.production h o.of_child in
+        let l = length-append rest child_row in
+        let m = ap length vs in
+        omega arith in
+        let deep = g.deep in
+        let following_it = following c q o.table (suc o.i) (suc level) others in
+        let child = opened x.child h o.of_child (suc level) rest o.mid now following_it g.there g.left (omega arith) base' in
+        let same_todo : todo ≡ following c g.production o.of_child 0 (suc (suc level)) following_it =
+        o.todo_is ∙ ap (λ p. pending_of_child c p o.of_child (suc (suc level)) following_it) g.there in (
+          g.symbol,
+          h,
+          rest,
+          o.mid,
+          now,
+          following_it,
+          (
+            s,
+            f,
+            under,
+            old,
+            before,
+            others,
+            waits,
+            record {
+              production = q;
+              i = o.i;
+              done = o.done;
+              table = o.table;
+              copied = o.copied;
+              trees = o.trees;
+              values = o.valuations;
+              is_open = o.is_open;
+              runs = next.1;
+              counted = let n = o.counted in let m = o.current.1 in let l = rules_next c x at in omega arith;
+              agreement = o.agreement;
+              within = next.0.0.within;
+              occurs = g.occurs;
+              place_is = next.0.0.place;
+              number = refl;
+              row_is = λ a. refl;
+              under_is = refl;
+              base = o.base;
+              deep = deep;
+              todo_is = refl;
+            },
+          ),
+          Between,
+          subst
+              (λ (z : Pending). IsActive c g.symbol h (suc level)
+              (first_at x.child base) rest o.mid now following_it Between values t now z) (sym same_todo)
+              (subst
+              (λ t. IsActive c g.symbol h (suc level) (first_at x.child base) rest o.mid now following_it Between values t now
+              (following c g.production o.of_child 0 (suc (suc level)) following_it)) (cc)
+              (subst
+              (λ vs. IsActive c g.symbol h (suc level) (first_at x.child base) rest o.mid now following_it Between vs
+              (after_reading c x.child h (copies c c.read (stored_items g.production.items) (in_children o.of_child)) o.mid)
+              now (following c g.production o.of_child 0 (suc (suc level)) following_it)) (sym vs) child)),
+        )
+
+    -- At the `Put` of a child that is a node nothing is written: its whole tree was written before.
+    pub step_put_node : {j s' : ℕ} {q0 : Production} → IsAtChild c x (instr.Put j) j q0 (item.Symbol s')
+        → RunInvariant c root (x ∷ xs) values t now todo → RunInvariant c root (after_step x x.child ∷ xs) values t now todo
+    step_put_node {j} {s'} {q0} there (s, f, under, old, before, others, waits, ph, here) =
+        let o = at_put here there.next in
+        let q = o.production in
+        let place = (runs_next o there.next).0.place in
+        let g = o.current.0 in
+        let same : q0 ≡ q = same_production c x.production there.there o.is_open.there in
+        let items : Some g.item ≡ Some (item.Symbol s') = cc there.occurs in
+        let is : g.item ≡ item.Symbol s' = cc in (
+          s,
+          f,
+          under,
+          old,
+          before,
+          others,
+          waits,
+          Between,
+          left_in there.next o refl
+              (cc (whole g.tree g.values (subst (λ x. IsEvaluatedTree c x g.tree g.values) is g.evaluated))),
+        )
+      where
+        whole : (u : Tree) (w : Valuation) → IsEvaluatedTree c (item.Symbol s') u w
+            → put_of (pass_direction c) u (bodies_of version_two c.grammar c.passes c.write u w) ≡ postfix (pass_direction c)
+            (bodies_of version_two c.grammar c.passes c.write u w)
+        whole (leaf d text) w evaluated = elim evaluated.fits [ ]
+        whole (node p ts) w evaluated = refl
+
+    -- The record of a token is written. The token's text is among the copies.
+    pub step_put_leaf : {j d : ℕ} {q0 : Production} {text : List Value}
+        → IsAtChild c x (instr.Put j) j q0 (item.Terminal (Class d)) → text ≡ take 1 (drop (x.base + copy_start c q0 j) values)
+        → RunInvariant c root (x ∷ xs) values t now todo
+        → RunInvariant c root (after_step x x.child ∷ xs) values
+        (record { read = t.read; put = t.put ++ body_of Token x.child text ∷ [] }) now todo
+    step_put_leaf {j} {d} {q0} {text} there is (s, f, under, old, before, others, waits, ph, here) =
+        let o = at_put here there.next in
+        let q = o.production in
+        let place = (runs_next o there.next).0.place in
+        let g = o.current.0 in
+        let b = nth (pass_direction c) (arity q) o.i in
+        let pl = place_of q c.write o.i in
+        let x' = item.Terminal (Class d) in
+        let same : q0 ≡ q = same_production c x.production there.there o.is_open.there in
+        let occurs : item_at q pl ≡ Some (item.Terminal (Class d)) = cc there.occurs in
+        let items : Some g.item ≡ Some (item.Terminal (Class d)) = cc occurs in
+        let item_is : g.item ≡ item.Terminal (Class d) = cc in
+        let found = copies_there c q (o.table 0) o.copied under o.row b o.base occurs in
+        let slot : copy_start c q0 j ≡ copy_start c q pl = cc in
+        let first : text ≡ o.copied pl 0 ∷ [] =
+        is ∙ ap (λ n. take 1 (drop (x.base + n) values)) slot
+        ∙ ap (λ vs. take 1 (drop (x.base + copy_start c q pl) vs)) o.values_are ∙ ap (take 1) found.1
+        ∙ ap (λ b. take 1 (((if b then o.copied pl 0 ∷ [] else []) ++ []) ++ found.0)) (le-leb 0 c.write (omega arith)) in
+        let shown : o.copied pl 0 ≡ o.table pl 0 =
+        o.agreement b 0 0 x' occurs refl (omega arith) (inr (known_here c q o.i pl refl)) in
+        let evaluated = subst (λ x. IsEvaluatedTree c x g.tree g.values) item_is g.evaluated in (
+          s,
+          f,
+          under,
+          old,
+          before,
+          others,
+          waits,
+          Between,
+          left_in there.next o refl
+              (put_all g.tree g.values (o.mid.put) t.put text evaluated g.number g.put
+              (cc (first, g.root 0))),
+        )
+      where
+        put_all : (u : Tree) (w : Valuation) (before_it put : List (List ℕ)) (text : List Value)
+            → IsEvaluatedTree c (item.Terminal (Class d)) u w → root_number u ≡ x.child
+            → put ≡ before_it ++ put_of (pass_direction c) u (bodies_of version_two c.grammar c.passes c.write u w)
+            → text ≡ w [] 0 ∷ []
+            → put ++ body_of Token x.child text ∷ [] ≡ before_it ++ postfix (pass_direction c)
+            (bodies_of version_two c.grammar c.passes c.write u w)
+        put_all (node p ts) w before_it put text evaluated number is same = elim evaluated.fits [ ]
+        put_all (leaf e string) w before_it put text evaluated number is same = cc (append-nil before_it)
+
+    -- The first child to be read at a `Get`, with the copy of its values in the row of the node.
+    pub get_first : {j : ℕ} {q0 : Production} {x' : Item} → IsAtChild c x (instr.Get j) j q0 x'
+        → RunInvariant c root (x ∷ xs) values t now todo
+        → (f : ℕ → Value) × (left : Pending)
+        × (todo ≡ (suc (suc (length xs)), (x', Some (values_up_to c.read (copied_passes c x') f))) ∷ left)
+        × ((row : List Value) → (rest : List Value)
+        × (drop (x.base + copy_start c q0 j) (values ++ row) ≡ values_up_to c.write (copied_passes c x') f ++ rest))
+    get_first {j} {q0} {x'} there (s, f, under, old, before, others, waits, ph, here) =
+        let o = at_get here there.next in
+        let q = o.production in
+        let level = suc (suc (length xs)) in
+        let turn = (runs_next o there.next).0 in
+        let b = nth (pass_direction c) (arity q) o.i in
+        let pl = place_of q c.write o.i in
+        let same : q0 ≡ q = same_production c x.production there.there o.is_open.there in
+        let occurs : item_at q pl ≡ Some x' = cc there.occurs in
+        let n = sound.next in
+        let copies_same : values_up_to c.read (copied_passes c x') (o.table pl) ≡ values_up_to c.read (copied_passes c x')
+        (o.copied pl) =
+        same_values c.read (copied_passes c x') (o.table pl) (o.copied pl)
+        (λ a p is le. sym (o.agreement b a p x' occurs is (omega arith) (inl (omega arith)))) in
+        let slot : copy_start c q0 j ≡ copy_start c q pl = cc in
+        let kept : values ≡ under ++ stored c q (o.table 0) o.copied = cc (append-nil (stored c q (o.table 0) o.copied)) in (
+          o.copied pl,
+          following c q o.table (suc o.i) level others,
+          cc (after_next c q o.table o.i level others turn.within occurs),
+          (λ row.
+              let found = copies_there c q (o.table 0) o.copied under row b o.base occurs in (
+                found.0,
+                cc (append_assoc under (stored c q (o.table 0) o.copied) row),
+              )),
+        )
+      where
+        first : ℕ → List Value → Pending → Pending
+        first level vs left = (level, (x', Some vs)) ∷ left

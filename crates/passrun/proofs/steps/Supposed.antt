@@ -6,10 +6,10 @@ use Rattle.pass_rows.specs.declared.open_node.OpenNode.{OpenNode}
 use Rattle.passrun.specs.passing.Running.{Runs, RunsFrom, LeadsFrom, LeadsTo}
 use Rattle.std.specs.Prelude.{Option}
 
-pub runs_supposed : (c : Setting) (honest honest' to_honest to_honest' : Bool) (content to : List ℕ) (meter : ℕ) (m : Machine)
-    (next : Option OpenNode) → (honest' ≡ true → honest ≡ true) → (to_honest' ≡ true → to_honest ≡ true)
+pub runs_supposed : {c : Setting} {honest honest' to_honest to_honest' : Bool} {content to : List ℕ} {meter : ℕ} {m : Machine}
+    {next : Option OpenNode} → (honest' ≡ true → honest ≡ true) → (to_honest' ≡ true → to_honest ≡ true)
     → Runs c honest content to_honest to meter m next → Runs c honest' content to_honest' to meter m next
-runs_supposed c honest honest' to_honest to_honest' content to meter m next before to_before r =
+runs_supposed before to_before r =
     let is = r.running in
     record {
       running =
@@ -34,21 +34,17 @@ runs_supposed c honest honest' to_honest to_honest' content to meter m next befo
       low = r.low;
     }
 
-pub from_supposed : (c : Setting) (honest honest' : Bool) (content : List ℕ) (m : Machine) (next : Option OpenNode)
+pub from_supposed : {c : Setting} {honest honest' : Bool} {content : List ℕ} {m : Machine} {next : Option OpenNode}
     → (honest' ≡ true → honest ≡ true) → RunsFrom c honest content m next → RunsFrom c honest' content m next
-from_supposed c honest honest' content m next before (to_honest, to, meter, r) =
-    (to_honest, to, meter, runs_supposed c honest honest' to_honest to_honest content to meter m next before (λ h. h) r)
+from_supposed before (to_honest, to, meter, r) = (to_honest, to, meter, runs_supposed before (λ h. h) r)
 
-pub leads_from : (c : Setting) (honest honest' : Bool) (content content' : List ℕ) (old new : Machine)
-    (node next : Option OpenNode) → (honest' ≡ true → honest ≡ true)
+pub leads_from : {c : Setting} {honest honest' : Bool} {content content' : List ℕ} {old new : Machine}
+    {node next : Option OpenNode} → (honest' ≡ true → honest ≡ true)
     → LeadsFrom c honest' honest' content content' old new node next
     → LeadsFrom c honest honest' content content' old new node next
-leads_from c honest honest' content content' old new node next before turns to_honest to meter r =
-    turns to_honest to meter (runs_supposed c honest honest' to_honest to_honest content to meter old node before (λ h. h) r)
+leads_from before turns to_honest to meter r = turns to_honest to meter (runs_supposed before (λ h. h) r)
 
-pub leads_to : (c : Setting) (honest honest' : Bool) (content content' : List ℕ) (old new : Machine) (node next : Option OpenNode)
+pub leads_to : {c : Setting} {honest honest' : Bool} {content content' : List ℕ} {old new : Machine} {node next : Option OpenNode}
     → (honest' ≡ true → honest ≡ true) → LeadsTo c honest' honest' content content' old new node next
     → LeadsTo c honest honest' content content' old new node next
-leads_to c honest honest' content content' old new node next before turns from_honest from meter r =
-    turns from_honest from meter
-    (runs_supposed c from_honest from_honest honest honest' from content meter old node (λ h. h) before r)
+leads_to before turns from_honest from meter r = turns from_honest from meter (runs_supposed (λ h. h) before r)

@@ -1,17 +1,11 @@
-use Rattle.std.proofs.Common.{◌≡◌, inl, subst, sym}
+use Rattle.std.proofs.Common.{inl}
 use Rattle.pass_rows.specs.Settings.{pass_setting}
-use Rattle.treefile.specs.framing.Beginning.{LeavesBeginning}
-use Rattle.passrun.specs.declared.last.Last.{Last}
-use Rattle.passrun.specs.Rounds.{last_content, other_content}
 use Rattle.passrun.proofs.course.Stepping.{err_more, passed_from_a, passed_from_b, refused_from_a, refused_from_b, some_left}
 use Rattle.passrun.proofs.passes.next_pass.Goals as goal
 
 pub returns-in-A-clause-passed : goal.returns-in-A-clause-passed
 returns-in-A-clause-passed g c = λ ha hb.
-    passed_from_a (pass_setting c.args.next.now.setting) (g.D.Device.content c.args.a.now)
-    (g.D.Device.content c.args.b.now) (g.D.Device.content c.run_pass.new.from)
-    (g.D.Device.content c.run_pass.new.to) _ c.args.next.now.last c.in-A.is c.run_pass.result (c.run_pass.ensures.passed ha hb)
-    (c.run_pass.ensures.content ha)
+    passed_from_a _ _ _ _ _ c.in-A.is c.run_pass.result (c.run_pass.ensures.passed ha hb) (c.run_pass.ensures.content ha)
 
 pub returns-in-A-clause-refused : goal.returns-in-A-clause-refused
 returns-in-A-clause-refused g c =
@@ -21,9 +15,7 @@ returns-in-A-clause-refused g c =
 
 pub returns-in-B-clause-passed : goal.returns-in-B-clause-passed
 returns-in-B-clause-passed g c = λ ha hb.
-    passed_from_b (pass_setting c.args.next.now.setting) (g.D.Device.content c.args.a.now)
-    (g.D.Device.content c.args.b.now) (g.D.Device.content c.run_pass-in-B.new.to)
-    (g.D.Device.content c.run_pass-in-B.new.from) _ c.args.next.now.last c.in-B.is c.run_pass-in-B.result
+    passed_from_b _ _ _ _ _ c.in-B.is c.run_pass-in-B.result
     (c.run_pass-in-B.ensures.passed hb ha) (c.run_pass-in-B.ensures.content hb)
 
 pub returns-in-B-clause-refused : goal.returns-in-B-clause-refused
@@ -35,39 +27,18 @@ returns-in-B-clause-refused g c =
 
 pub returns-in-A-clause-kept : goal.returns-in-A-clause-kept
 returns-in-A-clause-kept g c = λ ha hb.
-    subst
-    (λ (l : Last). last_content l (g.D.Device.content c.run_pass.new.from) (g.D.Device.content c.run_pass.new.to)
-    ≡ last_content l (g.D.Device.content c.args.a.now) (g.D.Device.content c.args.b.now)) (sym c.in-A.is)
-    (c.run_pass.ensures.content ha)
+    rw c.in-A.is (c.run_pass.ensures.content ha)
 
 pub returns-in-A-clause-left : goal.returns-in-A-clause-left
-returns-in-A-clause-left g c =
-    err_more _ _ c.run_pass.result
-    (λ left ha hb.
-    subst
-    (λ (l : Last). LeavesBeginning c.args.next.now.setting.pass
-    (other_content l (g.D.Device.content c.args.a.now) (g.D.Device.content c.args.b.now))
-    (other_content l (g.D.Device.content c.run_pass.new.from) (g.D.Device.content c.run_pass.new.to)))
-    (sym c.in-A.is) (left hb))
-    c.run_pass.ensures.left
+returns-in-A-clause-left g c = err_more _ _ c.run_pass.result (λ left ha hb. rw c.in-A.is (left hb)) c.run_pass.ensures.left
 
 pub returns-in-B-clause-kept : goal.returns-in-B-clause-kept
 returns-in-B-clause-kept g c = λ ha hb.
-    subst
-    (λ (l : Last). last_content l (g.D.Device.content c.run_pass-in-B.new.to) (g.D.Device.content c.run_pass-in-B.new.from)
-    ≡ last_content l (g.D.Device.content c.args.a.now) (g.D.Device.content c.args.b.now)) (sym c.in-B.is)
-    (c.run_pass-in-B.ensures.content hb)
+    rw c.in-B.is (c.run_pass-in-B.ensures.content hb)
 
 pub returns-in-B-clause-left : goal.returns-in-B-clause-left
 returns-in-B-clause-left g c =
-    err_more _ _ c.run_pass-in-B.result
-    (λ left ha hb.
-    subst
-    (λ (l : Last). LeavesBeginning c.args.next.now.setting.pass
-    (other_content l (g.D.Device.content c.args.a.now) (g.D.Device.content c.args.b.now))
-    (other_content l (g.D.Device.content c.run_pass-in-B.new.to) (g.D.Device.content c.run_pass-in-B.new.from)))
-    (sym c.in-B.is) (left ha))
-    c.run_pass-in-B.ensures.left
+    err_more _ _ c.run_pass-in-B.result (λ left ha hb. rw c.in-B.is (left ha)) c.run_pass-in-B.ensures.left
 
 -- The content of each honest device, for any other device.
 pub returns-in-A-clause-a_left : goal.returns-in-A-clause-a_left
@@ -76,13 +47,12 @@ returns-in-A-clause-a_left g c = λ h. (c.args.next.now.setting.pass, inl (c.run
 pub returns-in-A-clause-b_left : goal.returns-in-A-clause-b_left
 returns-in-A-clause-b_left g c =
     some_left c.args.next.now.setting.pass (g.D.Device.is_honest c.run_pass.new.to) (g.D.Device.content c.args.b.now)
-    (g.D.Device.content c.run_pass.new.to) c.run_pass.result c.run_pass.ensures.begins c.run_pass.ensures.left
+    c.run_pass.result c.run_pass.ensures.begins c.run_pass.ensures.left
 
 pub returns-in-B-clause-a_left : goal.returns-in-B-clause-a_left
 returns-in-B-clause-a_left g c =
     some_left c.args.next.now.setting.pass (g.D.Device.is_honest c.run_pass-in-B.new.to) (g.D.Device.content c.args.a.now)
-    (g.D.Device.content c.run_pass-in-B.new.to) c.run_pass-in-B.result c.run_pass-in-B.ensures.begins
-    c.run_pass-in-B.ensures.left
+    c.run_pass-in-B.result c.run_pass-in-B.ensures.begins c.run_pass-in-B.ensures.left
 
 pub returns-in-B-clause-b_left : goal.returns-in-B-clause-b_left
 returns-in-B-clause-b_left g c = λ h. (c.args.next.now.setting.pass, inl (c.run_pass-in-B.ensures.content h))

@@ -1,10 +1,6 @@
-use Rattle.std.proofs.Common.{ℕ, List, inl, sym, suc, ◌≡◌, ◌+◌, ◌-◌, refl, subst, ◌∙◌, arith}
+use Rattle.std.proofs.Common.{inl, suc, ◌≡◌, ◌+◌, ◌-◌, refl, ◌∙◌, arith}
 use Rattle.std.proofs.lemmas.Result.{err_from_is_err_and}
-use Rattle.passassign.specs.Rows.{passes_of}
-use Rattle.treefile.specs.Runs.{RunsPasses}
-use Rattle.treefile.specs.records.TreeFile.{version_two}
-use Rattle.passrun.specs.Rounds.{HasRunAll, last_content, other_content}
-use Rattle.passrun.specs.declared.last.Last.{Last}
+use Rattle.passrun.specs.Rounds.{other_content}
 use Rattle.passrun.specs.declared.last.Last.TheVariants.{A}
 use Rattle.passrun.proofs.course.Stepping.{all_goes_on, all_refused, all_starts, greatest_most, left_again, persists_on}
 use Rattle.passrun.proofs.course.Stepping.{persists_still}
@@ -14,7 +10,7 @@ use Rattle.passrun.proofs.passes.run_all.Goals as goal
 pub loop-done-init : goal.loop-done-init
 loop-done-init g c =
     let given = c.requires.last in
-    let most = greatest_most c.args.plan.now.0 given.0 c.last_pass-passes.result given.1 c.last_pass-passes.ensures in
+    let most = greatest_most given.1 c.last_pass-passes.ensures in
     let few = given.2 in
     record {
       low = omega arith;
@@ -30,9 +26,7 @@ loop-done-init g c =
       b_left = λ h. (0, inl refl);
       far = λ same. refl;
       runs =
-          λ ha hb. all_starts c.args.grammar.now (passes_of c.args.plan.now.0) (c.args.first - 1) (c.args.first - 1)
-          (g.D.Device.content c.args.a.now) (g.D.Device.content c.args.b.now) (c.args.meter.now - c.args.meter.now) refl
-          (omega arith);
+          λ ha hb. all_starts refl (omega arith);
     }
 
 pub loop-done-preserved : goal.loop-done-preserved
@@ -53,56 +47,42 @@ loop-done-preserved g c =
     record {
       low = omega arith;
       high = omega arith;
-      a_persists = persists_on _ _ _ _ _ _ old.a_persists c.in_ok-passed.ensures.devices.first;
-      b_persists = persists_on _ _ _ _ _ _ old.b_persists c.in_ok-passed.ensures.devices.second;
+      a_persists = persists_on old.a_persists c.in_ok-passed.ensures.devices.first;
+      b_persists = persists_on old.b_persists c.in_ok-passed.ensures.devices.second;
       meter_low = omega arith;
       meter_high = omega arith;
       nodes = rw sum few;
       read = rw sum (omega arith);
       written = rw sum (omega arith);
       a_left = λ h.
-          left_again (g.D.Device.content c.args.a.now) (g.D.Device.content c.loop-done.a) (g.D.Device.content c.next_pass.new.a)
-          (old.a_left (c.in_ok-passed.ensures.devices.first.honest h)) (c.next_pass.ensures.a_left h);
+          left_again _ _ _ (old.a_left (c.in_ok-passed.ensures.devices.first.honest h)) (c.next_pass.ensures.a_left h);
       b_left = λ h.
-          left_again (g.D.Device.content c.args.b.now) (g.D.Device.content c.loop-done.b) (g.D.Device.content c.next_pass.new.b)
-          (old.b_left (c.in_ok-passed.ensures.devices.second.honest h)) (c.next_pass.ensures.b_left h);
+          left_again _ _ _ (old.b_left (c.in_ok-passed.ensures.devices.second.honest h)) (c.next_pass.ensures.b_left h);
       far = λ same. absurd (omega arith);
       runs = λ ha hb.
           let next : c.loop-done.done + 1 ≡ suc c.loop-done.done = omega arith in
           let total : c.next_pass.new.meter - c.args.meter.now ≡ (c.loop-done.meter - c.args.meter.now)
           + (c.next_pass.new.meter - c.loop-done.meter) = omega arith in
-          all_goes_on c.args.grammar.now c.args.plan.now (c.args.first - 1) c.loop-done.done (c.loop-done.done + 1)
-          (g.D.Device.content c.args.a.now) (g.D.Device.content c.loop-done.a) (g.D.Device.content c.loop-done.b)
-          (g.D.Device.content c.next_pass.new.a) (g.D.Device.content c.next_pass.new.b) c.loop-done.last
-          (c.loop-done.meter - c.args.meter.now)
-          (c.next_pass.new.meter - c.loop-done.meter) c.loop-done.sum c.in_ok-passed.passed
-          c.start-start.ensures.accepted c.requires.plan.legal low next
+          all_goes_on c.args.plan.now c.in_ok-passed.passed c.start-start.ensures.accepted c.requires.plan.legal low next
           (old.runs (c.in_ok-passed.ensures.devices.first.honest ha)
           (c.in_ok-passed.ensures.devices.second.honest hb))
-          (c.in_ok-passed.ensures.passed ha hb) same_read same_written
-          (c.next_pass.new.meter - c.args.meter.now) c.other-last.result c.one_more-sum.result total c.other-last.ensures sum;
+          (c.in_ok-passed.ensures.passed ha hb) same_read same_written total c.other-last.ensures sum;
     }
 
 pub returns-clause-passed : goal.returns-clause-passed
 returns-clause-passed g c = λ passes is ha hb.
-    let a = greatest_most c.args.plan.now.0 passes c.last_pass-passes.result is c.last_pass-passes.ensures in
-    let b = greatest_most c.args.plan.now.0 c.last_pass-passes.result passes c.last_pass-passes.ensures is in
+    let a = greatest_most is c.last_pass-passes.ensures in
+    let b = greatest_most c.last_pass-passes.ensures is in
     let high = c.loop-done.invariant.high in
     let end = c.loop-done-test.false in
     let same : c.loop-done.done ≡ passes = omega arith in
-    subst
-    (λ n. HasRunAll c.args.grammar.now (passes_of c.args.plan.now.0) (c.args.first - 1) n
-    (g.D.Device.content c.args.a.now) c.loop-done.last (g.D.Device.content c.loop-done.a)
-    (g.D.Device.content c.loop-done.b) (c.loop-done.meter - c.args.meter.now) c.loop-done.sum) same
-    (c.loop-done.invariant.runs ha hb)
+    rw (← same) (c.loop-done.invariant.runs ha hb)
 
 -- From pass 1 on, the passes compute the solution.
 pub returns-clause-solution : goal.returns-clause-solution
 returns-clause-solution g c = λ one passes is ha hb.
     let first : c.args.first - 1 ≡ 0 = omega arith in
-    solutions_left c.args.grammar.now (passes_of c.args.plan.now.0) (c.args.first - 1) passes
-    (g.D.Device.content c.args.a.now) c.loop-done.last (g.D.Device.content c.loop-done.a) (g.D.Device.content c.loop-done.b)
-    (c.loop-done.meter - c.args.meter.now) c.loop-done.sum c.start-start.ensures.accepted c.requires.plan.legal
+    solutions_left c.start-start.ensures.accepted c.requires.plan.legal
     (greatest_is_last passes c.args.plan.now.0 is) first (returns-clause-passed g c passes is ha hb)
 
 pub returns-in_err-passed-clause-refused : goal.returns-in_err-passed-clause-refused
@@ -112,21 +92,19 @@ returns-in_err-passed-clause-refused g c =
     let old = c.loop-done.invariant in
     let said = c.in_err-passed.ensures.refused in
     rw (p.1, p.2) (λ ha hb.
-    all_refused c.args.grammar.now c.args.plan.now c.args.first c.loop-done.done (c.loop-done.done + 1)
-    (g.D.Device.content c.args.a.now) (g.D.Device.content c.loop-done.a) (g.D.Device.content c.loop-done.b) c.loop-done.last
-    (c.loop-done.meter - c.args.meter.now) c.loop-done.sum next c.requires.first old.low
+    all_refused c.args.plan.now c.args.first next c.requires.first old.low
     (old.runs (c.in_err-passed.ensures.devices.first.honest ha) (c.in_err-passed.ensures.devices.second.honest hb))
     c.in_err-passed.field-0.0 (said ha hb))
 
 pub returns-in_err-passed-clause-a_left : goal.returns-in_err-passed-clause-a_left
 returns-in_err-passed-clause-a_left g c = λ h.
-    left_again (g.D.Device.content c.args.a.now) (g.D.Device.content c.loop-done.a) (g.D.Device.content c.next_pass.new.a)
-    (c.loop-done.invariant.a_left (c.in_err-passed.ensures.devices.first.honest h)) (c.in_err-passed.ensures.a_left h)
+    left_again _ _ _ (c.loop-done.invariant.a_left (c.in_err-passed.ensures.devices.first.honest h))
+    (c.in_err-passed.ensures.a_left h)
 
 pub returns-in_err-passed-clause-b_left : goal.returns-in_err-passed-clause-b_left
 returns-in_err-passed-clause-b_left g c = λ h.
-    left_again (g.D.Device.content c.args.b.now) (g.D.Device.content c.loop-done.b) (g.D.Device.content c.next_pass.new.b)
-    (c.loop-done.invariant.b_left (c.in_err-passed.ensures.devices.second.honest h)) (c.in_err-passed.ensures.b_left h)
+    left_again _ _ _ (c.loop-done.invariant.b_left (c.in_err-passed.ensures.devices.second.honest h))
+    (c.in_err-passed.ensures.b_left h)
 
 pub returns-in_err-passed-clause-left : goal.returns-in_err-passed-clause-left
 returns-in_err-passed-clause-left g c =
@@ -145,18 +123,13 @@ returns-in_err-passed-clause-left g c =
       before = other_content last a b;
       far = old.low;
       runs =
-          subst
-          (λ (now : List ℕ). RunsPasses version_two c.args.grammar.now (passes_of c.args.plan.now.0)
-          (c.args.first - 1) c.loop-done.done (g.D.Device.content c.args.a.now) now (other_content last a b))
-          (sym (kept ha hb)) ran.runs;
+          rw (kept ha hb) ran.runs;
       held = ran.held;
       none = λ same.
           let first : last ≡ A = (ran.nothing same).0 in (
             first,
-            subst
-                (λ (w : Last). last_content w (g.D.Device.content c.next_pass.new.a) (g.D.Device.content c.next_pass.new.b)
-                ≡ g.D.Device.content c.args.a.now) first (kept ha hb ∙ ran.fresh same),
-            subst (λ (w : Last). other_content w a b ≡ g.D.Device.content c.args.b.now) (sym first) (old.far same),
+            rw first at (kept ha hb ∙ ran.fresh same),
+            rw first (old.far same),
           );
       left = left ha hb;
     })

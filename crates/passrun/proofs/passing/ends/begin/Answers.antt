@@ -17,15 +17,11 @@ returns-clause-runs g c =
     let start = c.in_ok-back.ensures in
     let begin = c.in_ok-writer.ensures in
     let root = c.in_ok-root.ensures in
-    begun_runs (setting c.args.context.now) c.requires.context.sound c.in_ok-root.root c.args.meter.now c.count.result
-    c.start-2.result (g.D.Device.is_honest c.fetch.new.from) (g.D.Device.is_honest c.fetch.new.from)
-    (g.E.Device.is_honest c.begin.new.device) (g.D.Device.content c.start.new.device)
-    (g.D.Device.content c.fetch.new.from) (g.E.Device.content c.begin.new.device)
-    c.in_ok-back.back c.fetch.new.back c.in_ok-writer.writer c.new-values.result c.fetch.new.values c.new.result
+    begun_runs c.requires.context.sound c.new-values.result
     c.new-values.ensures.items c.new.ensures.items c.start-2.ensures.value c.count.ensures root.fetched refl root.content
     (λ w. let z = root.persists.honest w in
     subst (IsReadable (source (setting c.args.context.now))) (sym (start.content z))
-    (readable (source (setting c.args.context.now)) (decidable (setting c.args.context.now) c.requires.context.sound)
+    (readable (source (setting c.args.context.now)) (decidable c.requires.context.sound)
     (g.D.Device.content c.args.from.now) c.in_ok-back.back.progress.pass (start.exact z)
     (cc)))
     (λ w. let z = root.persists.honest w in
@@ -37,7 +33,7 @@ pub returns-in_err-back-clause-refused : goal.returns-in_err-back-clause-refused
 returns-in_err-back-clause-refused g c =
     let p = err_from_is_err_and c.from_residual.result c.from_residual.ensures.1 in
     rw (p.1, p.2)
-    (λ honest. not_started (setting c.args.context.now) c.requires.context.sound (g.D.Device.content c.args.from.now)
+    (λ honest. not_started c.requires.context.sound (g.D.Device.content c.args.from.now)
     (λ back. back.progress.pass) c.in_err-back.field-0.0 (c.in_err-back.ensures.exact honest))
 
 pub returns-in_err-root-clause-refused : goal.returns-in_err-root-clause-refused
@@ -50,10 +46,10 @@ returns-in_err-root-clause-refused g c =
     let z = c.in_err-root.ensures.persists.honest honest in
     let same = start.content z in
     subst (λ (bytes : List ℕ). IsRunFault context bytes f) same
-    (root_unfetched context c.requires.context.sound c.start-2.result
-    (g.D.Device.content c.start.new.device) c.in_ok-back.back f c.start-2.ensures.value
+    (root_unfetched c.requires.context.sound
+    c.in_ok-back.back f c.start-2.ensures.value
     (subst (IsReadable (source context)) (sym same)
-    (readable (source context) (decidable context c.requires.context.sound)
+    (readable (source context) (decidable c.requires.context.sound)
     (g.D.Device.content c.args.from.now) c.in_ok-back.back.progress.pass (start.exact z)
     (cc)))
     (cc (start.started.end z)) start.started.fresh
@@ -62,7 +58,7 @@ returns-in_err-root-clause-refused g c =
 pub returns-then-pass-file_pass-clause-refused : goal.returns-then-pass-file_pass-clause-refused
 returns-then-pass-file_pass-clause-refused g c = λ honest.
     let small : c.args.context.now.setting.pass - 1 < 65536 = omega (arith, c.file_pass.ensures, c.file_pass.type_inv) in
-    other_pass (source (setting c.args.context.now)) (decidable (setting c.args.context.now) c.requires.context.sound)
+    other_pass (source (setting c.args.context.now)) (decidable c.requires.context.sound)
     (g.D.Device.content c.args.from.now) c.in_ok-back.back.progress.pass small (c.in_ok-back.ensures.exact honest)
     (λ same. c.if-pass-file_pass.true (cc))
 
@@ -71,8 +67,7 @@ returns-in_err-writer-clause-left g c =
     let p = err_from_is_err_and c.from_residual-in_err-writer.result c.from_residual-in_err-writer.ensures.1 in
     rw p.1
     (λ h. not_begun c.args.context.now.setting.pass (g.E.Device.content c.args.to.now)
-    (g.E.Device.content c.begin.new.device) c.in_err-writer.field-0.0
-    (λ failed. c.in_err-writer.ensures.device (cc) h)
+    (g.E.Device.content c.begin.new.device) c.in_err-writer.field-0.0 (λ failed. c.in_err-writer.ensures.device (cc) h)
     (λ resource. c.in_err-writer.ensures.memory (cc) h))
 
 pub returns-in_err-root-clause-left : goal.returns-in_err-root-clause-left

@@ -20,66 +20,44 @@ body_of = option_map (λ (body : Bor (List ℕ)). body.now)
 
 pub put_record-requires-clause-few : goal.put_record-requires-clause-few
 put_record-requires-clause-few g c =
-    let r =
-    ready_of (setting c.args.context.now) c.requires.context.sound (g.D.Device.is_honest c.args.from.now)
-    (g.D.Device.content c.args.from.now) (g.E.Device.is_honest c.args.to.now)
-    (g.E.Device.content c.args.to.now) c.args.machine.now c.requires.runs in
+    let r = ready_of c.requires.context.sound c.requires.runs in
     let few = r.0 in
     let n = ap length c.as_slice-values.ensures.value in
     omega arith
 
 pub put_record-requires-clause-room : goal.put_record-requires-clause-room
 put_record-requires-clause-room g c =
-    let r =
-    ready_of (setting c.args.context.now) c.requires.context.sound (g.D.Device.is_honest c.args.from.now)
-    (g.D.Device.content c.args.from.now) (g.E.Device.is_honest c.args.to.now)
-    (g.E.Device.content c.args.to.now) c.args.machine.now c.requires.runs in
+    let r = ready_of c.requires.context.sound c.requires.runs in
     r.2
 
 pub returns-clause-passed : goal.returns-clause-passed
 returns-clause-passed g c = λ meter r is to_is.
-    let context = setting c.args.context.now in
-    let to' = g.E.Device.content c.put_record.new.to in
     let end : next_before version_two (g.D.Device.content c.args.from.now) c.args.machine.now.back.progress.at ≡ Ok None =
     (rw r.running.version at (c.in_ok-back.ensures.exact r.running.unbroken is))
     ∙ ap Ok (none_lent c.in_ok-back.field-0 (cc)) in
-    passed context c.requires.context.sound (g.D.Device.is_honest c.back.new.device) (g.D.Device.content c.args.from.now)
-    (g.E.Device.is_honest c.put_record.new.to)
-    (g.E.Device.content c.args.to.now) to' c.args.machine.now c.put_record.new.writer c.as_slice-values.result.now meter
-    c.records.result
-    (runs_supposed context (g.D.Device.is_honest c.args.from.now) (g.D.Device.is_honest c.back.new.device)
-    (g.E.Device.is_honest c.args.to.now) (g.E.Device.is_honest c.put_record.new.to)
-    (g.D.Device.content c.args.from.now)
-    (g.E.Device.content c.args.to.now) meter c.args.machine.now None
+    passed c.requires.context.sound
+    (runs_supposed
     c.in_ok-back.ensures.persists.honest c.in_ok-put_record.ensures.persists.honest r) is to_is
     c.as_slice-values.ensures.value c.in_ok-put_record.ensures.put end
-    (cc (reader_kept _ _ c.args.machine.now.back c.back.follows.lender-at-none c.back.result c.in_ok-back.field-0
-    c.back.follows.holds-at-none c.in_ok-back.was (sym c.is_some.ensures ∙ c.if-is_some.false)))
+    (cc (reader_kept c.back.follows.holds-at-none c.in_ok-back.was (sym c.is_some.ensures ∙ c.if-is_some.false)))
 
 pub returns-clause-counts : goal.returns-clause-counts
 returns-clause-counts g c =
-    let n =
-    as_many (setting c.args.context.now) c.requires.context.sound (g.D.Device.is_honest c.args.from.now)
-    (g.D.Device.content c.args.from.now) (g.E.Device.is_honest c.args.to.now)
-    (g.E.Device.content c.args.to.now) c.args.machine.now c.requires.runs in
+    let n = as_many c.requires.context.sound c.requires.runs in
     let a = n.0 in
     let p = c.back.follows.lender-at-none.progress.records in
     let same : p ≡ c.args.machine.now.back.progress.records =
-    cc (reader_kept _ _ c.args.machine.now.back c.back.follows.lender-at-none c.back.result c.in_ok-back.field-0
-    c.back.follows.holds-at-none c.in_ok-back.was (sym c.is_some.ensures ∙ c.if-is_some.false)) in
+    cc (reader_kept c.back.follows.holds-at-none c.in_ok-back.was (sym c.is_some.ensures ∙ c.if-is_some.false)) in
     let w = ap (λ w. w.written) c.in_ok-put_record.ensures.put.counted in
     (cc, omega arith)
 
 pub returns-clause-few : goal.returns-clause-few
 returns-clause-few g c =
-    let n =
-    as_many (setting c.args.context.now) c.requires.context.sound (g.D.Device.is_honest c.args.from.now)
-    (g.D.Device.content c.args.from.now) (g.E.Device.is_honest c.args.to.now)
-    (g.E.Device.content c.args.to.now) c.args.machine.now c.requires.runs in
+    let n = as_many c.requires.context.sound c.requires.runs in
     let few = n.1 in
     let same =
     ap (λ p. p.records)
-    (reader_kept _ _ c.args.machine.now.back c.back.follows.lender-at-none c.back.result c.in_ok-back.field-0
+    (reader_kept
     c.back.follows.holds-at-none c.in_ok-back.was (cc)) in
     let read = c.records.ensures in
     omega arith
@@ -87,38 +65,26 @@ returns-clause-few g c =
 pub returns-in_err-back-clause-refused : goal.returns-in_err-back-clause-refused
 returns-in_err-back-clause-refused g c =
     let p = err_from_is_err_and c.from_residual-in_err-back.result c.from_residual-in_err-back.ensures.1 in
-    let context = setting c.args.context.now in
-    let honest = g.D.Device.is_honest c.args.from.now in
     let content = g.D.Device.content c.args.from.now in
-    let to_honest = g.E.Device.is_honest c.args.to.now in
-    let to = g.E.Device.content c.args.to.now in
     let m = c.args.machine.now in
     rw (p.1, p.2) (λ is.
-    let come =
-    end_come context c.requires.context.sound honest content to_honest to m c.requires.runs
-    (c.in_err-back.ensures.persists.honest is) in
-    end_refused context c.requires.context.sound content m.back.progress.at body_of c.in_err-back.field-0.0 come.0 come.1
-    (rw (end_version context c.requires.context.sound honest content to_honest to m c.requires.runs) at
+    let come = end_come c.requires.context.sound c.requires.runs (c.in_err-back.ensures.persists.honest is) in
+    end_refused c.requires.context.sound content m.back.progress.at body_of c.in_err-back.field-0.0 come.0 come.1
+    (rw (end_version c.requires.context.sound c.requires.runs) at
     (c.in_err-back.ensures.exact
-    (end_unbroken context c.requires.context.sound honest content to_honest to m c.requires.runs) is)))
+    (end_unbroken c.requires.context.sound c.requires.runs) is)))
 
 pub returns-then-is_some-clause-refused : goal.returns-then-is_some-clause-refused
 returns-then-is_some-clause-refused g c = λ is.
     let context = setting c.args.context.now in
-    let honest = g.D.Device.is_honest c.args.from.now in
     let content = g.D.Device.content c.args.from.now in
-    let to_honest = g.E.Device.is_honest c.args.to.now in
-    let to = g.E.Device.content c.args.to.now in
-    let m = c.args.machine.now in
     let some = some_lent c.in_ok-back.field-0 (cc) in
-    let come =
-    end_come context c.requires.context.sound honest content to_honest to m c.requires.runs
-    (c.in_ok-back.ensures.persists.honest is) in
+    let come = end_come c.requires.context.sound c.requires.runs (c.in_ok-back.ensures.persists.honest is) in
     subst (IsDamaged (source context) content) (sym c.end-end.ensures)
-    (left_over context c.requires.context.sound content m.back.progress.at some.0 come.0 come.1
-    ((rw (end_version context c.requires.context.sound honest content to_honest to m c.requires.runs) at
+    (left_over c.requires.context.sound come.0 come.1
+    ((rw (end_version c.requires.context.sound c.requires.runs) at
     (c.in_ok-back.ensures.exact
-    (end_unbroken context c.requires.context.sound honest content to_honest to m c.requires.runs) is))
+    (end_unbroken c.requires.context.sound c.requires.runs) is))
     ∙ ap Ok some.1))
 
 pub returns-in_err-back-clause-left : goal.returns-in_err-back-clause-left

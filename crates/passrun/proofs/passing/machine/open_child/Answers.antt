@@ -1,4 +1,4 @@
-use Rattle.std.proofs.Common.{◌∷◌, reverse, subst, sym, arith}
+use Rattle.std.proofs.Common.{[], ◌∷◌, ◌++◌, ◌∙◌, ap, reverse, subst, sym, arith}
 use Rattle.std.proofs.lemmas.Option.{slice_get_within}
 use Rattle.pass_rows.specs.declared.open_node.OpenNode.{OpenNode}
 use Rattle.pass_rows.specs.layouts.Contexts.{setting}
@@ -8,16 +8,12 @@ use Rattle.passrun.proofs.passing.machine.open_child.Goals as goal
 
 pub width-width-requires-clause-there : goal.width-width-requires-clause-there
 width-width-requires-clause-there c =
-    let h =
-    child_of (setting c.args.context.now) c.requires.context.sound c.args.node
-    (reverse c.args.waiting.now.items) c.args.values.now c.args.place c.requires.next c.requires.passing in
+    let h = child_of (reverse c.args.waiting.now.items) c.requires.next c.requires.passing in
     slice_get_within c.args.context.now.setting.grammar.now.productions c.args.node.child h.production h.there
 
 pub overflow_sub-values : goal.overflow_sub-values
 overflow_sub-values c =
-    let h =
-    child_of (setting c.args.context.now) c.requires.context.sound c.args.node
-    (reverse c.args.waiting.now.items) c.args.values.now c.args.place c.requires.next c.requires.passing in
+    let h = child_of (reverse c.args.waiting.now.items) c.requires.next c.requires.passing in
     let w = c.width-width.ensures h.production h.there in
     let z = h.width in
     omega arith
@@ -28,6 +24,6 @@ returns-clause-goes c =
     (λ (child : OpenNode). ContinuesAs (setting c.args.context.now)
     (c.args.node ∷ reverse c.args.waiting.now.items) c.args.values.now
     (child ∷ reverse c.push.new.self.items) c.args.values.now) (sym c.begun.ensures)
-    (goes (setting c.args.context.now) c.requires.context.sound c.args.node c.args.waiting.now.items c.push.new.self.items
+    (goes c.requires.context.sound c.args.node c.args.waiting.now.items c.push.new.self.items
     c.args.values.now c.args.place c.width-width.result c.requires.next c.width-width.ensures
-    (cc (c.in_ok-push.ensures.items, c.left_at.ensures)))
+    (c.in_ok-push.ensures.items ∙ ap (λ (x : OpenNode). c.args.waiting.now.items ++ x ∷ []) c.left_at.ensures))

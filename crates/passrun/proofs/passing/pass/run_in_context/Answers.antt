@@ -1,5 +1,4 @@
 use Rattle.std.proofs.Common.{arith}
-use Rattle.pass_rows.specs.layouts.Contexts.{setting}
 use Rattle.passrun.proofs.course.Metered.{meter_few, on_err, on_ok, on_ok_more}
 use Rattle.std.proofs.Common.{Err, Ok, inr}
 use Rattle.std.proofs.lemmas.Result.{err_from_is_err_and}
@@ -11,7 +10,7 @@ use Rattle.passrun.proofs.passing.pass.run_in_context.Goals as goal
 pub returns-clause-meter : goal.returns-clause-meter
 returns-clause-meter g c =
     let few =
-    meter_few (setting c.args.context.now) c.requires.context.sound (g.D.Device.is_honest c.run.new.from)
+    meter_few c.requires.context.sound (g.D.Device.is_honest c.run.new.from)
     (g.D.Device.content c.run.new.from) (g.E.Device.is_honest c.run.new.to)
     (g.E.Device.content c.run.new.to) c.run.new.meter c.run.new.machine c.in_ok-run.ensures.runs in
     let now = c.in_ok-run.ensures.begun in

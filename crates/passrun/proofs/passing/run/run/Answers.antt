@@ -28,6 +28,6 @@ loop-next-preserved g c =
       meter = omega arith;
       begun = cc;
       content = λ h. next.content h ∙ old.content (next.devices.first.honest h);
-      from_persists = persists_on _ _ _ _ _ _ old.from_persists next.devices.first;
-      to_persists = persists_on _ _ _ _ _ _ old.to_persists next.devices.second;
+      from_persists = persists_on old.from_persists next.devices.first;
+      to_persists = persists_on old.to_persists next.devices.second;
     }

@@ -1,4 +1,4 @@
-use Rattle.std.proofs.Common.{◌≡◌, ◌+◌, ◌∙◌, Some, ap, refl, drop, length, length-drop, vec_len, arith}
+use Rattle.std.proofs.Common.{◌≡◌, ◌∙◌, Some, ap, refl, drop, length, length-drop, vec_len, arith}
 use Rattle.std.proofs.lemmas.List.Elements.{All-drop, All-same}
 use Rattle.std.proofs.lemmas.Option.{slice_get_within}
 use Rattle.ag_value.specs.Well.{IsWell}
@@ -15,14 +15,13 @@ returns-in_default-clause-runs g c =
     let m = c.args.self.now in
     let n : vec_len m.waiting ≡ 0 = none_popped _ _ _ c.pop.result c.pop.ensures.cases c.in_default.is in
     let none = popped_none m.waiting.items c.pop.new.self.items c.in_default.ensures.items (omega (arith, m.waiting.ok.0)) in
-    root_leads (setting c.args.context.now) c.requires.context.sound m c.pop.new.self (g.E.Device.is_honest c.args.to.now)
-    (g.E.Device.content c.args.to.now) c.args.node c.requires.next none.0 none.1
+    root_leads c.requires.context.sound c.requires.next none.0 none.1
 
 pub put_record-requires-clause-few : goal.put_record-requires-clause-few
 put_record-requires-clause-few g c =
     let context = setting c.args.context.now in
     let m = c.args.self.now in
-    let own = own_of context c.requires.context.sound m c.args.node c.requires.runs c.requires.next in
+    let own = own_of c.requires.runs c.requires.next in
     let few = few_values context c.requires.context.sound c.args.node.production own.production own.there in
     let n =
     ap length (c.following-values.ensures ∙ ap (drop c.args.node.base) c.as_slice.ensures.value)
@@ -32,66 +31,44 @@ put_record-requires-clause-few g c =
 
 pub put_record-requires-clause-well : goal.put_record-requires-clause-well
 put_record-requires-clause-well g c =
-    let w =
-    (whole_of (setting c.args.context.now) c.requires.context.sound c.args.self.now (Some c.args.node) c.requires.runs).1 in
+    let w = (whole_of c.requires.runs).1 in
     All-same IsWell c.following-values.result.now (drop c.args.node.base c.args.self.now.values.items)
     (cc)
     (All-drop IsWell c.args.node.base c.args.self.now.values.items w)
 
 pub put_record-requires-clause-room : goal.put_record-requires-clause-room
-put_record-requires-clause-room g c =
-    put_room (setting c.args.context.now) c.requires.context.sound c.args.self.now c.args.node c.requires.runs
+put_record-requires-clause-room g c = put_room c.requires.context.sound c.requires.runs
 
 pub row-layout-requires-clause-there : goal.row-layout-requires-clause-there
 row-layout-requires-clause-there g c =
-    let h =
-    waited_for (setting c.args.context.now) c.requires.context.sound c.args.self.now c.pop.new.self.items c.args.node
-    c.in-Some.outer c.requires.runs c.requires.next c.in-Some.ensures.items in
+    let h = waited_for c.pop.new.self.items c.requires.runs c.requires.next c.in-Some.ensures.items in
     slice_get_within c.args.context.now.setting.grammar.now.productions c.in-Some.outer.production h.production h.there
 
 pub place-row-requires-clause-there : goal.place-row-requires-clause-there
 place-row-requires-clause-there g c =
-    let context = setting c.args.context.now in
-    let h =
-    waited_for context c.requires.context.sound c.args.self.now c.pop.new.self.items c.args.node c.in-Some.outer
-    c.requires.runs c.requires.next c.in-Some.ensures.items in
-    waited_within context c.requires.context.sound c.in-Some.outer c.args.node.base c.args.self.now.values.items
-    c.row-layout.result.now h c.row-layout.ensures
+    let h = waited_for c.pop.new.self.items c.requires.runs c.requires.next c.in-Some.ensures.items in
+    waited_within c.row-layout.result.now h c.row-layout.ensures
 
 pub move_copies-requires-clause-prefix : goal.move_copies-requires-clause-prefix
 move_copies-requires-clause-prefix g c =
-    let context = setting c.args.context.now in
-    let h =
-    waited_for context c.requires.context.sound c.args.self.now c.pop.new.self.items c.args.node c.in-Some.outer
-    c.requires.runs c.requires.next c.in-Some.ensures.items in
-    (waited_place context c.requires.context.sound c.in-Some.outer c.args.node.base c.args.self.now.values.items
-    c.place-row.result h c.place-row.ensures).0
+    let h = waited_for c.pop.new.self.items c.requires.runs c.requires.next c.in-Some.ensures.items in
+    (waited_place h c.place-row.ensures).0
 
 pub move_copies-requires-clause-row : goal.move_copies-requires-clause-row
 move_copies-requires-clause-row g c =
-    let context = setting c.args.context.now in
-    let h =
-    waited_for context c.requires.context.sound c.args.self.now c.pop.new.self.items c.args.node c.in-Some.outer
-    c.requires.runs c.requires.next c.in-Some.ensures.items in
-    (waited_place context c.requires.context.sound c.in-Some.outer c.args.node.base c.args.self.now.values.items
-    c.place-row.result h c.place-row.ensures).1
+    let h = waited_for c.pop.new.self.items c.requires.runs c.requires.next c.in-Some.ensures.items in
+    (waited_place h c.place-row.ensures).1
 
 pub returns-clause-runs : goal.returns-clause-runs
 returns-clause-runs g c =
-    leads_to (setting c.args.context.now) (g.E.Device.is_honest c.args.to.now) (g.E.Device.is_honest c.put_record.new.to)
-    (g.E.Device.content c.args.to.now) (g.E.Device.content c.put_record.new.to) c.args.self.now _
-    (Some c.args.node) _ c.in_ok-put_record.ensures.persists.honest
-    (ended_leads (setting c.args.context.now) c.requires.context.sound c.args.self.now c.move_copies.new.values c.pop.new.self
-    c.put_record.new.writer (g.E.Device.is_honest c.put_record.new.to) (g.E.Device.is_honest c.put_record.new.to)
-    (g.E.Device.content c.args.to.now)
-    (g.E.Device.content c.put_record.new.to) c.args.node c.in-Some.outer c.place-row.result
-    c.following-values.result.now (c.in-Some.outer.base + c.place-row.result.start)
+    leads_to c.in_ok-put_record.ensures.persists.honest
+    (ended_leads c.requires.context.sound
     c.requires.runs c.requires.next c.in-Some.ensures.items c.place-row.ensures refl
     (cc) c.in_ok-put_record.ensures.put refl
     c.move_copies.ensures)
 
 pub returns-clause-less : goal.returns-clause-less
 returns-clause-less g c =
-    ended_less (setting c.args.context.now) c.requires.context.sound c.args.self.now c.move_copies.new.values c.pop.new.self
-    c.put_record.new.writer c.args.node (Some c.in-Some.outer) c.requires.runs c.in-Some.ensures.items
+    ended_less c.requires.context.sound c.move_copies.new.values c.pop.new.self
+    c.put_record.new.writer (Some c.in-Some.outer) c.requires.runs c.in-Some.ensures.items
     (λ is. absurd (some_is c.in-Some.outer is))

@@ -1,4 +1,4 @@
-use Rattle.std.proofs.Common.{◌≡◌, ◌+◌, Some, ap, refl, ◌∙◌, sym, subst, drop, take, length, length-append, arith}
+use Rattle.std.proofs.Common.{◌≡◌, ◌+◌, ap, refl, ◌∙◌, sym, subst, take, length, length-append, arith}
 use Rattle.std.proofs.lemmas.List.{take_at}
 use Rattle.std.proofs.lemmas.Result.{err_from_is_err_and}
 use Rattle.passrun.specs.Damage.{IsDamaged, source}
@@ -10,40 +10,30 @@ use Rattle.passrun.proofs.course.Working.{got_less}
 use Rattle.passrun.proofs.passing.machine.Machine.get.Goals as goal
 
 pub place-row-requires-clause-there : goal.place-row-requires-clause-there
-place-row-requires-clause-there g c =
-    item_within (setting c.args.context.now) c.requires.context.sound (g.D.Device.is_honest c.args.from.now)
-    (g.D.Device.content c.args.from.now) c.args.self.now c.args.node c.args.place c.row-layout.result.now c.requires.runs
-    c.requires.next c.row-layout.ensures
+place-row-requires-clause-there g c = item_within c.row-layout.result.now c.requires.runs c.requires.next c.row-layout.ensures
 
 pub returns-in_err-number-clause-refused : goal.returns-in_err-number-clause-refused
 returns-in_err-number-clause-refused g c =
     let p = err_from_is_err_and c.from_residual.result c.from_residual.ensures.1 in
-    let context = setting c.args.context.now in
     let count : c.len-open_count.result + 1 ≡ length c.args.self.now.waiting.items + 1 =
     omega (arith, c.args.self.now.waiting.ok.0) in
     rw (p.1, p.2)
-    (get_refused context c.requires.context.sound (g.D.Device.is_honest c.fetch.new.from)
-    (g.D.Device.content c.args.from.now) c.args.self.now c.args.node c.args.place
-    (c.len-open_count.result + 1) c.place-row.result c.in_err-number.field-0.0
-    (from_supposed context (g.D.Device.is_honest c.args.from.now) (g.D.Device.is_honest c.fetch.new.from)
-    (g.D.Device.content c.args.from.now) c.args.self.now
-    (Some c.args.node) c.in_err-number.ensures.persists.honest c.requires.runs) c.requires.next
+    (get_refused c.requires.context.sound
+    c.in_err-number.field-0.0
+    (from_supposed
+    c.in_err-number.ensures.persists.honest c.requires.runs) c.requires.next
     c.place-row.ensures count c.in_err-number.ensures.refused)
 
 pub matches_copy-requires-clause-known : goal.matches_copy-requires-clause-known
 matches_copy-requires-clause-known g c =
-    (got_place (setting c.args.context.now) c.requires.context.sound (g.D.Device.is_honest c.args.from.now)
-    (g.D.Device.content c.args.from.now) c.args.self.now c.args.node c.args.place c.place-row.result c.requires.runs
+    (got_place c.requires.runs
     c.requires.next c.place-row.ensures).known
 
 pub matches_copy-requires-clause-copied : goal.matches_copy-requires-clause-copied
 matches_copy-requires-clause-copied g c =
     let context = setting c.args.context.now in
     let m = c.args.self.now in
-    let i =
-    got_place context c.requires.context.sound (g.D.Device.is_honest c.args.from.now)
-    (g.D.Device.content c.args.from.now) m c.args.node c.args.place c.place-row.result c.requires.runs c.requires.next
-    c.place-row.ensures in
+    let i = got_place c.requires.runs c.requires.next c.place-row.ensures in
     let h = c.in_ok-number.ensures.fetched in
     let more =
     read_row context c.place-row.result.item c.in_ok-number.number h.body m.values.items c.fetch.new.values.items h.taken in
@@ -70,17 +60,13 @@ returns-then-not-matches_copy-clause-refused g c = λ honest.
     let m = c.args.self.now in
     let row = c.place-row.result in
     let content = g.D.Device.content c.args.from.now in
-    let read = c.fetch.new.values.items in
-    let vs = c.as_slice.result.now in
     let copied = c.args.node.base + row.start in
     let start : c.len-start.result ≡ length m.values.items = omega (arith, m.values.ok.0) in
     subst (IsDamaged (source context) content) (sym c.end-end.ensures)
-    (get_differs context c.requires.context.sound
-    (g.D.Device.is_honest c.fetch.new.from) content m c.args.node c.args.place c.in_ok-number.number
-    (c.len-open_count.result + 1) row c.fetch.new.back read (drop copied vs)
-    (drop c.len-start.result vs) copied c.len-start.result c.matches_copy.result
-    (from_supposed context (g.D.Device.is_honest c.args.from.now) (g.D.Device.is_honest c.fetch.new.from) content m
-    (Some c.args.node) c.in_ok-number.ensures.persists.honest c.requires.runs) c.requires.next c.place-row.ensures
+    (get_differs c.requires.context.sound
+    c.matches_copy.result
+    (from_supposed
+    c.in_ok-number.ensures.persists.honest c.requires.runs) c.requires.next c.place-row.ensures
     (omega (arith, m.waiting.ok.0)) c.in_ok-number.ensures.fetched c.matches_copy.ensures
     (λ yes. let z = sym c.if-not-matches_copy.true ∙ yes in cc) (cc)
     (cc) refl start honest)
@@ -98,26 +84,16 @@ returns-clause-runs g c =
     let more = read_row context row.item c.in_ok-number.number h.body m.values.items read h.taken in
     let old : take c.len-start.result read ≡ m.values.items =
     cc (take_at m.values.items more.0 c.len-start.result (sym start)) in
-    leads_from context (g.D.Device.is_honest c.args.from.now) (g.D.Device.is_honest c.fetch.new.from)
-    (g.D.Device.content c.args.from.now) (g.D.Device.content c.fetch.new.from) m _
-    (Some c.args.node) _ c.in_ok-number.ensures.persists.honest
-    (got_leads context c.requires.context.sound m c.fetch.new.back c.truncate_row.new.values
-    (g.D.Device.is_honest c.fetch.new.from) (g.D.Device.is_honest c.fetch.new.from) (g.D.Device.content c.args.from.now)
-    (g.D.Device.content c.fetch.new.from) c.args.node c.after_step.result c.args.place c.in_ok-number.number
-    (c.len-open_count.result + 1) row read
+    leads_from c.in_ok-number.ensures.persists.honest
+    (got_leads c.requires.context.sound
     c.requires.next c.place-row.ensures h (omega (arith, m.waiting.ok.0))
     (λ q there begins. has_agreed context q c.args.node c.args.place row.item c.in_ok-number.number h.body m.values.items read
-    (drop copied vs) (drop c.len-start.result vs) copied c.len-start.result c.matches_copy.result h.taken
-    c.matches_copy.ensures c.if-not-matches_copy.false
-    (cc) (cc)
-    (cc) start)
+    {from = copied} {start = c.len-start.result} c.matches_copy.result h.taken c.matches_copy.ensures
+    c.if-not-matches_copy.false (cc) (cc) (cc) start)
     (cc) refl c.in_ok-number.ensures.content
     c.after_step.ensures)
 
 pub returns-clause-less : goal.returns-clause-less
 returns-clause-less g c =
-    got_less (setting c.args.context.now) c.requires.context.sound c.args.self.now c.fetch.new.back c.truncate_row.new.values
-    c.fetch.new.values.items (g.D.Device.is_honest c.fetch.new.from)
-    (g.D.Device.content c.args.from.now) c.args.node c.after_step.result c.args.place c.in_ok-number.number
-    (c.len-open_count.result + 1) c.place-row.result.item
+    got_less c.requires.context.sound c.args.self.now c.truncate_row.new.values c.args.node
     c.requires.next c.in_ok-number.ensures.fetched c.after_step.ensures

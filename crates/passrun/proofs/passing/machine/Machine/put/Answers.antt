@@ -1,66 +1,49 @@
 use Rattle.std.proofs.Common.{ap, refl, ◌+◌, drop, take, length, arith}
 use Rattle.std.proofs.lemmas.List.Elements.{All-drop, All-take, All-same}
 use Rattle.ag_value.specs.Well.{IsWell}
-use Rattle.pass_rows.specs.layouts.Contexts.{setting}
 use Rattle.passrun.proofs.steps.Supposed.{leads_to}
 use Rattle.passrun.proofs.steps.MachineSteps.{left_leads, row_within, put_room, put_leads, symbol_there, text_within, whole_of}
 use Rattle.passrun.proofs.course.Working.{put_less}
-use Rattle.std.proofs.Common.{Some}
 use Rattle.passrun.proofs.passing.machine.Machine.put.Goals as goal
 
 pub place-row-requires-clause-there : goal.place-row-requires-clause-there
-place-row-requires-clause-there g c =
-    row_within (setting c.args.context.now) c.requires.context.sound c.args.self.now c.args.node c.args.place
-    c.row-layout.result.now c.requires.runs c.requires.next c.row-layout.ensures
+place-row-requires-clause-there g c = row_within c.row-layout.result.now c.requires.runs c.requires.next c.row-layout.ensures
 
 pub returns-in_default-clause-runs : goal.returns-in_default-clause-runs
 returns-in_default-clause-runs g c =
     let s = symbol_there c.place-row.result.item c.in_default.not-Terminal in
-    left_leads (setting c.args.context.now) c.requires.context.sound c.args.self.now (g.E.Device.is_honest c.args.to.now)
-    (g.E.Device.content c.args.to.now) c.args.node c.after_step.result c.args.place s.0 c.place-row.result c.requires.runs
-    c.requires.next c.place-row.ensures s.1 c.after_step.ensures
+    left_leads c.requires.context.sound s.0 c.requires.runs c.requires.next c.place-row.ensures s.1 c.after_step.ensures
 
 pub returns-in_default-clause-less : goal.returns-in_default-clause-less
 returns-in_default-clause-less g c =
-    put_less (setting c.args.context.now) c.requires.context.sound c.args.self.now c.args.self.now.writer c.args.node
-    c.after_step.result c.args.place c.requires.runs c.requires.next c.after_step.ensures
+    put_less c.requires.context.sound c.args.self.now.writer c.requires.runs c.requires.next c.after_step.ensures
 
 pub single_value-values-requires : goal.single_value-values-requires
 single_value-values-requires g c =
-    let within =
-    text_within (setting c.args.context.now) c.requires.context.sound c.args.self.now c.args.node c.args.place c.place-row.result
-    c.in-Terminal.field-0 c.requires.runs c.requires.next c.place-row.ensures c.in-Terminal.is in
+    let within = text_within c.in-Terminal.field-0 c.requires.runs c.requires.next c.place-row.ensures c.in-Terminal.is in
     let n = ap length c.as_slice.ensures.value in
     omega arith
 
 pub put_record-requires-clause-well : goal.put_record-requires-clause-well
 put_record-requires-clause-well g c =
-    let w =
-    (whole_of (setting c.args.context.now) c.requires.context.sound c.args.self.now (Some c.args.node) c.requires.runs).1 in
+    let w = (whole_of c.requires.runs).1 in
     let text = c.args.node.base + c.place-row.result.start in
     All-same IsWell c.single_value-values.result.now (take 1 (drop text c.args.self.now.values.items))
     (cc)
     (All-take IsWell 1 (drop text c.args.self.now.values.items) (All-drop IsWell text c.args.self.now.values.items w))
 
 pub put_record-requires-clause-room : goal.put_record-requires-clause-room
-put_record-requires-clause-room g c =
-    put_room (setting c.args.context.now) c.requires.context.sound c.args.self.now c.args.node c.requires.runs
+put_record-requires-clause-room g c = put_room c.requires.context.sound c.requires.runs
 
 pub returns-clause-runs : goal.returns-clause-runs
 returns-clause-runs g c =
     let text = c.args.node.base + c.place-row.result.start in
-    leads_to (setting c.args.context.now) (g.E.Device.is_honest c.args.to.now) (g.E.Device.is_honest c.put_record.new.to)
-    (g.E.Device.content c.args.to.now) (g.E.Device.content c.put_record.new.to) c.args.self.now _
-    (Some c.args.node) _ c.in_ok-put_record.ensures.persists.honest
-    (put_leads (setting c.args.context.now) c.requires.context.sound c.args.self.now c.put_record.new.writer
-    (g.E.Device.is_honest c.put_record.new.to) (g.E.Device.is_honest c.put_record.new.to) (g.E.Device.content c.args.to.now)
-    (g.E.Device.content c.put_record.new.to) c.args.node c.after_step-2.result c.args.place c.place-row.result
-    c.in-Terminal.field-0 c.single_value-values.result.now
-    c.requires.runs c.requires.next c.place-row.ensures c.in-Terminal.is
+    leads_to c.in_ok-put_record.ensures.persists.honest
+    (put_leads c.requires.context.sound
+    c.in-Terminal.field-0 c.requires.runs c.requires.next c.place-row.ensures c.in-Terminal.is
     (cc) c.in_ok-put_record.ensures.put
     refl c.after_step-2.ensures)
 
 pub returns-clause-less : goal.returns-clause-less
 returns-clause-less g c =
-    put_less (setting c.args.context.now) c.requires.context.sound c.args.self.now c.put_record.new.writer c.args.node
-    c.after_step-2.result c.args.place c.requires.runs c.requires.next c.after_step-2.ensures
+    put_less c.requires.context.sound c.put_record.new.writer c.requires.runs c.requires.next c.after_step-2.ensures

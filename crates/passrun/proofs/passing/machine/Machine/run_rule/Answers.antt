@@ -1,106 +1,71 @@
-use Rattle.std.proofs.Common.{Some, drop, get_or, slice_index, pos, refl, arith}
+use Rattle.std.proofs.Common.{drop, get_or, slice_index, pos, refl, arith}
 use Rattle.ag_grammar.specs.expressions.Evaluation.{value_of}
 use Rattle.ag_value.specs.declared.value.Value.{Num}
-use Rattle.pass_rows.specs.layouts.Contexts.{setting}
-use Rattle.pass_rows.proofs.places.Entries.{slots_found, slots_less}
-use Rattle.passrun.proofs.steps.MachineSteps.{rule_leads, giver, meter_of, rule_less, slots_within, well_of}
+use Rattle.pass_rows.proofs.places.Entries.{slots_less}
+use Rattle.passrun.proofs.steps.MachineSteps.{are_slots, rule_leads, giver, meter_of, rule_less, slots_within, well_of}
 use Rattle.passrun.proofs.course.Working.{given_less}
 use Rattle.passrun.proofs.passing.machine.Machine.run_rule.Goals as goal
 
 pub bounds-as_slice-rule : goal.bounds-as_slice-rule
 bounds-as_slice-rule c =
-    rule_less (setting c.args.context.now) c.requires.context.sound c.args.self.now c.args.node c.args.meter.now c.args.rule
-    c.productions.result.now c.index-productions-node.result c.as_slice.result.now c.productions.ensures.lent
+    rule_less c.requires.context.sound c.args.rule c.productions.ensures.lent
     c.index-productions-node.is c.as_slice.ensures c.requires.runs c.requires.next
 
 pub bounds-as_slice-rule-2 : goal.bounds-as_slice-rule-2
 bounds-as_slice-rule-2 c =
-    let context = setting c.args.context.now in
     let h =
-    giver context c.requires.context.sound c.args.self.now c.args.node c.args.meter.now c.args.rule c.productions.result.now
-    c.index-productions-node.result c.as_slice.result.now c.index-as_slice-rule.result c.productions.ensures.lent
-    c.index-productions-node.is c.as_slice.ensures c.index-as_slice-rule.is c.requires.runs c.requires.next in
-    slots_less context c.args.node.production c.args.rule c.index-productions-node.result c.index-as_slice-rule.result
-    c.row-layout.result.now c.as_slice-2.result.now
-    (c.row-layout.ensures c.index-productions-node.result h.there) h.numbered c.as_slice-2.ensures
+    giver c.requires.context.sound c.productions.ensures.lent c.index-productions-node.is c.as_slice.ensures
+    c.index-as_slice-rule.is c.requires.runs c.requires.next in
+    slots_less _ _ _ _ _ _ _ (c.row-layout.ensures _ h.there) h.numbered c.as_slice-2.ensures
 
 pub put_rule_value-requires-clause-slots : goal.put_rule_value-requires-clause-slots
 put_rule_value-requires-clause-slots c =
-    let context = setting c.args.context.now in
     let h =
-    giver context c.requires.context.sound c.args.self.now c.args.node c.args.meter.now c.args.rule c.productions.result.now
-    c.index-productions-node.result c.as_slice.result.now c.index-as_slice-rule.result c.productions.ensures.lent
-    c.index-productions-node.is c.as_slice.ensures c.index-as_slice-rule.is c.requires.runs c.requires.next in
-    let are =
-    slots_found context c.args.node.production c.args.rule c.index-productions-node.result c.index-as_slice-rule.result
-    c.row-layout.result.now c.as_slice-2.result.now c.index-as_slice-rule-2.result
-    (c.row-layout.ensures c.index-productions-node.result h.there) h.numbered c.as_slice-2.ensures
-    c.index-as_slice-rule-2.is in cc
+    giver c.requires.context.sound c.productions.ensures.lent c.index-productions-node.is c.as_slice.ensures
+    c.index-as_slice-rule.is c.requires.runs c.requires.next in
+    let are = are_slots h (c.row-layout.ensures _ h.there) c.as_slice-2.ensures c.index-as_slice-rule-2.is in cc
 
 pub put_rule_value-requires-clause-well : goal.put_rule_value-requires-clause-well
-put_rule_value-requires-clause-well c =
-    well_of (setting c.args.context.now) c.requires.context.sound c.args.self.now
-    (Some c.args.node) c.args.meter.now c.requires.runs
+put_rule_value-requires-clause-well c = well_of c.requires.runs
 
 pub put_rule_value-requires-clause-not_full : goal.put_rule_value-requires-clause-not_full
-put_rule_value-requires-clause-not_full c =
-    meter_of (setting c.args.context.now) c.requires.context.sound c.args.self.now c.args.node c.args.meter.now c.requires.runs
+put_rule_value-requires-clause-not_full c = meter_of c.requires.context.sound c.requires.runs
 
 pub put_rule_value-requires-clause-target : goal.put_rule_value-requires-clause-target
 put_rule_value-requires-clause-target c =
-    let context = setting c.args.context.now in
     let h =
-    giver context c.requires.context.sound c.args.self.now c.args.node c.args.meter.now c.args.rule c.productions.result.now
-    c.index-productions-node.result c.as_slice.result.now c.index-as_slice-rule.result c.productions.ensures.lent
-    c.index-productions-node.is c.as_slice.ensures c.index-as_slice-rule.is c.requires.runs c.requires.next in
-    let are =
-    slots_found context c.args.node.production c.args.rule c.index-productions-node.result c.index-as_slice-rule.result
-    c.row-layout.result.now c.as_slice-2.result.now c.index-as_slice-rule-2.result
-    (c.row-layout.ensures c.index-productions-node.result h.there) h.numbered c.as_slice-2.ensures
-    c.index-as_slice-rule-2.is in
+    giver c.requires.context.sound c.productions.ensures.lent c.index-productions-node.is c.as_slice.ensures
+    c.index-as_slice-rule.is c.requires.runs c.requires.next in
+    let are = are_slots h (c.row-layout.ensures _ h.there) c.as_slice-2.ensures c.index-as_slice-rule-2.is in
     let target = are.target in
     let within = h.within in
     omega (arith, c.args.self.now.values.ok.0)
 
 pub put_rule_value-requires-clause-arguments : goal.put_rule_value-requires-clause-arguments
 put_rule_value-requires-clause-arguments c =
-    let context = setting c.args.context.now in
     let h =
-    giver context c.requires.context.sound c.args.self.now c.args.node c.args.meter.now c.args.rule c.productions.result.now
-    c.index-productions-node.result c.as_slice.result.now c.index-as_slice-rule.result c.productions.ensures.lent
-    c.index-productions-node.is c.as_slice.ensures c.index-as_slice-rule.is c.requires.runs c.requires.next in
-    let are =
-    slots_found context c.args.node.production c.args.rule c.index-productions-node.result c.index-as_slice-rule.result
-    c.row-layout.result.now c.as_slice-2.result.now c.index-as_slice-rule-2.result
-    (c.row-layout.ensures c.index-productions-node.result h.there) h.numbered c.as_slice-2.ensures
-    c.index-as_slice-rule-2.is in
-    slots_within context c.requires.context.sound c.args.self.now c.args.node c.args.rule c.index-productions-node.result
-    c.index-as_slice-rule.result c.index-as_slice-rule-2.result h are
+    giver c.requires.context.sound c.productions.ensures.lent c.index-productions-node.is c.as_slice.ensures
+    c.index-as_slice-rule.is c.requires.runs c.requires.next in
+    let are = are_slots h (c.row-layout.ensures _ h.there) c.as_slice-2.ensures c.index-as_slice-rule-2.is in
+    slots_within h are
 
 pub returns-clause-runs : goal.returns-clause-runs
 returns-clause-runs c =
-    let context = setting c.args.context.now in
     let m = c.args.self.now in
     let base = c.args.node.base in
     let h =
-    giver context c.requires.context.sound c.args.self.now c.args.node c.args.meter.now c.args.rule c.productions.result.now
-    c.index-productions-node.result c.as_slice.result.now c.index-as_slice-rule.result c.productions.ensures.lent
-    c.index-productions-node.is c.as_slice.ensures c.index-as_slice-rule.is c.requires.runs c.requires.next in
+    giver c.requires.context.sound c.productions.ensures.lent c.index-productions-node.is c.as_slice.ensures
+    c.index-as_slice-rule.is c.requires.runs c.requires.next in
     let slots = c.index-as_slice-rule-2.result in
-    let are =
-    slots_found context c.args.node.production c.args.rule c.index-productions-node.result c.index-as_slice-rule.result
-    c.row-layout.result.now c.as_slice-2.result.now c.index-as_slice-rule-2.result
-    (c.row-layout.ensures c.index-productions-node.result h.there) h.numbered c.as_slice-2.ensures
-    c.index-as_slice-rule-2.is in
+    let are = are_slots h (c.row-layout.ensures _ h.there) c.as_slice-2.ensures c.index-as_slice-rule-2.is in
     let v =
     value_of c.index-as_slice-rule.result.expr.0
     (λ k. get_or (drop base m.values.items) (slice_index slots.args k) (Num (pos 0))) in
-    rule_leads context c.requires.context.sound m c.put_rule_value.new.values c.args.node c.after_step.result c.args.meter.now
-    c.put_rule_value.new.meter c.args.rule c.index-productions-node.result c.index-as_slice-rule.result slots
-    (Num (pos 0)) v c.requires.next h.there h.numbered are refl c.in_ok-put_rule_value.ensures.well
+    rule_leads c.requires.context.sound c.args.rule
+    (Num (pos 0)) c.requires.next h.there h.numbered are refl c.in_ok-put_rule_value.ensures.well
     c.in_ok-put_rule_value.ensures.value c.in_ok-put_rule_value.ensures.counted c.after_step.ensures
 
 pub returns-clause-less : goal.returns-clause-less
 returns-clause-less c =
-    given_less (setting c.args.context.now) c.requires.context.sound c.args.self.now c.put_rule_value.new.values c.args.node
-    c.after_step.result c.args.rule c.requires.next c.after_step.ensures
+    given_less c.requires.context.sound c.args.self.now c.put_rule_value.new.values
+    c.args.node c.args.rule c.requires.next c.after_step.ensures
