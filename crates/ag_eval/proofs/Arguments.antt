@@ -1,12 +1,9 @@
 -- Arguments none of which is an error; the value of an operator if an argument is an error.
-use Rattle.std.proofs.Common.{◌≡◌, ℤ, [], ◌∷◌, Option, Some, None, ap, refl, sym, ◌∙◌}
-use Rattle.ag_value.specs.declared.value.ErrorCode.{ErrorCode}
-use Rattle.ag_value.specs.declared.value.Value.{Value}
-use Rattle.ag_value.specs.declared.value.Value.TheVariants as value
-use Rattle.ag_value.specs.declared.value.Value.TheVariants.{outs-Fault, outs-Num}
-use Rattle.ag_grammar.specs.declared.syntax.node.Operator.{Operator}
-use Rattle.ag_value.specs.operations.Arguments.{fault_at, fault_of, fault_or, first_fault, leftmost}
-use Rattle.ag_grammar.specs.values.Operators.{operation_result, operator_result}
+use Rattle.ag_eval.proofs.Common
+use Common.{◌≡◌, ℤ, [], ◌∷◌, Option, Some, None, ap, refl, sym, ◌∙◌, ErrorCode, Value, outs-Fault, outs-Num, Operator, fault_or}
+use Common.{operation_result, operator_result}
+use Common.value
+use Rattle.ag_value.specs.operations.Arguments.{fault_at, fault_of, first_fault, leftmost}
 
 parts : (f g : Option ErrorCode) → first_fault f g ≡ None → (f ≡ None) × (g ≡ None)
 parts None g h = (refl, h)

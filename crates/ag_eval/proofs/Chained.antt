@@ -1,13 +1,7 @@
 -- One more operand of a chain of values.
-use Rattle.std.proofs.Common.{ℕ, ◌≡◌, ◌+◌, ◌<◌, true, List, ◌∷◌, drop, get_or, length, map, ap, sym, ◌∙◌}
-use Rattle.std.proofs.lemmas.Bool.{and_parts}
-use Rattle.std.proofs.lemmas.List.{drop_more}
-use Rattle.ag_value.specs.declared.value.Value.{Value}
-use Rattle.ag_grammar.specs.declared.syntax.node.Node.{Node}
-use Rattle.ag_grammar.specs.declared.syntax.node.Operator.{Operator}
-use Rattle.ag_grammar.specs.expressions.Evaluation.{Meaning, chain_value, value_in}
-use Rattle.ag_grammar.specs.expressions.Trees.{all_below, is_within}
-use Rattle.ag_grammar.specs.values.Operators.{operation_result}
+use Rattle.ag_eval.proofs.Common
+use Common.{ℕ, ◌≡◌, ◌+◌, ◌<◌, true, List, ◌∷◌, drop, get_or, length, map, ap, sym, ◌∙◌, and_parts, drop_more, Value, Node}
+use Common.{Operator, Meaning, chain_value, value_in, all_below, is_within, operation_result}
 
 module _ (others : List (Operator × Node)) (i : ℕ) (x : Operator × Node) (lt : i < length others) where
   -- the rest begins with the operand

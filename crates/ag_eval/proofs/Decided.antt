@@ -1,10 +1,7 @@
 -- The decision of a condition agrees with the choice by it.
-use Rattle.std.proofs.Common.{◌≡◌, zero, suc, pos, negsuc, Bool, cond, Result, refl, subst, sym}
-use Rattle.std.specs.Result.{MatchResult}
-use Rattle.ag_value.specs.declared.value.ErrorCode.{ErrorCode}
-use Rattle.ag_value.specs.declared.value.Value.{Value, out-Value}
-use Rattle.ag_value.specs.declared.value.Value.TheOpen.{Value-F}
-use Rattle.ag_value.specs.declared.value.Value.TheVariants as value
+use Rattle.ag_eval.proofs.Common
+use Common.{◌≡◌, zero, suc, pos, negsuc, Bool, cond, Result, refl, subst, sym, MatchResult, ErrorCode, Value, out-Value, Value-F}
+use Common.value
 use Rattle.ag_grammar.specs.values.Calls.{choice_of, chosen_at}
 use Rattle.ag_eval.specs.Conditions.{decision, decision_at}
 

@@ -1,7 +1,7 @@
 -- The values of bindings without the innermost one.
-use Rattle.std.proofs.Common.{Some, ◌≡◌, ◌≢◌, ℕ, zero, suc, ◌<◌, List, [], ◌∷◌, ◌++◌, length, map, slice_get, refl, sym, ap}
-use Rattle.std.proofs.Common.{subst, ◌∙◌, arith}
-use Rattle.std.proofs.lemmas.List.{length-map, map-append}
+use Rattle.ag_eval.proofs.Common
+use Common.{Some, ◌≡◌, ◌≢◌, ℕ, zero, suc, ◌<◌, List, [], ◌∷◌, ◌++◌, length, map, slice_get, refl, sym, ap, subst, ◌∙◌, arith}
+use Common.{length-map, map-append}
 
 -- without the innermost binding the outer ones have the same numbers
 pub stays : {A : Type 0} (outer : List A) (innermost : A) (k : ℕ) → k < length (outer ++ innermost ∷ []) → k ≢ length outer

@@ -1,18 +1,15 @@
 -- The index of a key among those of a table, present or not.
-use Rattle.std.proofs.Common.{◌≡◌, ℕ, zero, suc, ◌<◌, ◌≤◌, Bool, true, false, cond, nat_cmp, List, [], ◌∷◌, ◌++◌, length, map}
-use Rattle.std.proofs.Common.{get_or, filter, find, None, bytes_eq, refl, sym, ap, ◌∙◌, subst, arith}
-use Rattle.std.proofs.lemmas.Bool.{and_parts}
+use Rattle.ag_eval.proofs.Common
+use Common.{◌≡◌, ℕ, zero, suc, ◌<◌, ◌≤◌, Bool, true, false, cond, nat_cmp, List, [], ◌∷◌, ◌++◌, length, map, get_or, filter, find}
+use Common.{None, bytes_eq, refl, sym, ap, ◌∙◌, subst, arith, and_parts, bytes_eq-Decides, Value, is_before, is_ascending, key_of}
+use Common.{IsIndex, with_pair}
 use Rattle.std.proofs.lemmas.Cmp.{nat_list_cmp_total, tied_itself}
 use Rattle.std.proofs.lemmas.Map.Text.{is_eq-slice_cmp}
-use Rattle.std.proofs.lemmas.Slice.Eq.{bytes_eq-Decides}
 use Rattle.std.specs.Cmp.Lexicographic.{slice_cmp}
 use Rattle.std.specs.List.Sorted.{IsPartitionPoint, IsPartitionedBy}
 use Rattle.std.specs.Ordering.{is_eq, is_lt, ordering_reverse}
 use Rattle.std.specs.declared.cmp.Ordering.{Ordering}
 use Rattle.std.specs.declared.cmp.Ordering.TheVariants.{Less, Equal, Greater}
-use Rattle.ag_value.specs.declared.value.Value.{Value}
-use Rattle.ag_value.specs.Well.{is_before, is_ascending, key_of}
-use Rattle.ag_value.specs.operations.Tables.{IsIndex, with_pair}
 
 abbrev Pair : Type 0
 Pair = List ℕ × Value

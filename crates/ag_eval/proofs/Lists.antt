@@ -1,16 +1,9 @@
 -- Lists within the limits and beyond them.
-use Rattle.std.proofs.Common.{◌≡◌, ◌≤◌, ◌<◌, ◌+◌, List, [], ◌∷◌, ◌++◌, ap, arith}
+use Rattle.ag_eval.proofs.Common
+use Common.{◌≡◌, ◌≤◌, ◌<◌, ◌+◌, List, [], ◌∷◌, ◌++◌, ap, arith, IsWell, Big, Deep, Value, Value-F, outs-List, fit, append_result}
+use Common.{appended_at, depth-one, depth-together, weight-one, weight-together, big_next, deep_first, fits}
+use Common.value
 use Rattle.ag_value.specs.Measure.{depth_of, max_value_depth, max_weight, weight_of}
-use Rattle.ag_value.specs.Well.{IsWell}
-use Rattle.ag_value.specs.declared.value.ErrorCode.TheVariants.{Big, Deep}
-use Rattle.ag_value.specs.declared.value.Value.{Value}
-use Rattle.ag_value.specs.declared.value.Value.TheOpen.{Value-F}
-use Rattle.ag_value.specs.declared.value.Value.TheVariants as value
-use Rattle.ag_value.specs.declared.value.Value.TheVariants.{outs-List}
-use Rattle.ag_value.specs.operations.Fitting.{fit}
-use Rattle.ag_value.specs.operations.Lists.{append_result, appended_at}
-use Rattle.ag_value.proofs.operations.Growing.{depth-one, depth-together, weight-one, weight-together}
-use Rattle.ag_grammar.proofs.values.Worked.{big_next, deep_first, fits}
 
 -- two lists together are not too deep if neither of them is
 shallow : (xs ys : List Value) → IsWell (value.List xs) → IsWell (value.List ys)

@@ -1,23 +1,15 @@
 -- A table with a pair added.
-use Rattle.std.proofs.Common.{◌≡◌, ℕ, zero, suc, ◌+◌, ◌<◌, ◌≤◌, max, min, Bool, true, false, cond, List, [], ◌∷◌, ◌++◌, length}
-use Rattle.std.proofs.Common.{map, sum, get_or, pos, set, take, drop, filter, slice_get, Some, refl, sym, ap, ◌∙◌, arith}
-use Rattle.std.proofs.lemmas.Bool.{and_parts}
+use Rattle.ag_eval.proofs.Common
+use Common.{◌≡◌, ℕ, zero, suc, ◌+◌, ◌<◌, ◌≤◌, max, min, Bool, true, false, cond, List, [], ◌∷◌, ◌++◌, length, map, sum, get_or}
+use Common.{pos, set, take, drop, filter, slice_get, Some, refl, sym, ap, ◌∙◌, arith, and_parts, map-append, same_Some}
+use Common.{slice_get-get_or, bytes_eq-Decides, insert, is_utf8, Value, IsWell, all_true, are_keys, is_before, is_item}
+use Common.{is_item_pair, is_ascending, key_of, IsIndex, has_key, with_pair, all_true-append, Pair, item_table, table_parts}
 use mathlib.Core.List.{map-map}
-use Rattle.std.proofs.lemmas.List.{map-append}
 use Rattle.std.proofs.lemmas.List.Sums.{sum_by-cons}
-use Rattle.std.proofs.lemmas.Option.{same_Some, slice_get-get_or}
-use Rattle.std.proofs.lemmas.Slice.Eq.{bytes_eq-Decides}
-use Rattle.std.specs.List.{insert}
-use Rattle.std.specs.Str.{is_utf8}
-use Rattle.ag_value.specs.declared.value.Value.{Value}
 use Rattle.ag_value.specs.declared.value.Value.TheVariants as v
 use Rattle.ag_value.specs.Measure.{depth_of, greatest, weight_of, weight_of_pair}
-use Rattle.ag_value.specs.Well.{IsWell, all_true, are_keys, is_before, is_item, is_item_pair, is_ascending, key_of}
 use Rattle.ag_value.proofs.Layers.{depth-Table, item-Table, weight-Table}
-use Rattle.ag_value.specs.operations.Tables.{IsIndex, has_key, with_pair}
-use Rattle.ag_value.proofs.operations.Growing.{all_true-append}
 use Rattle.ag_eval.proofs.Keys.{rising_with}
-use Rattle.ag_value.proofs.operations.Tables.{Pair, item_table, table_parts}
 
 -- a property of all elements holds of those that pass a test
 all_filter : {A : Type 0} (f test : A → Bool) (xs : List A) → all_true (map f xs) ≡ true

@@ -1,19 +1,12 @@
 -- Values that are texts, and their concatenation.
-use Rattle.std.proofs.Common.{◌≡◌, ◌≤◌, ◌<◌, ◌+◌, ℕ, true, List, [], ◌∷◌, ◌++◌, length, None, ap, arith, refl, sym, ◌∙◌}
+use Rattle.ag_eval.proofs.Common
+use Common.{◌≡◌, ◌≤◌, ◌<◌, ◌+◌, ℕ, true, List, [], ◌∷◌, ◌++◌, length, None, ap, arith, refl, sym, ◌∙◌, Big, Value, out-Value}
+use Common.{roll-Value, roll-out-Value, Value-F, rolls-Text, fault_or, leftmost, fit, concatenated_at, concatenation}
+use Common.{operation_result, bytes_at, bytes_of, is_text, is_text_at, big_next, fits}
+use Common.value
 use Rattle.ag_value.specs.Measure.{max_weight, weight_of}
-use Rattle.ag_value.specs.declared.value.ErrorCode.TheVariants.{Big}
-use Rattle.ag_value.specs.declared.value.Value.{Value, out-Value, roll-Value, roll-out-Value}
-use Rattle.ag_value.specs.declared.value.Value.TheOpen.{Value-F}
-use Rattle.ag_value.specs.declared.value.Value.TheVariants as value
-use Rattle.ag_value.specs.declared.value.Value.TheVariants.{rolls-Text}
 use Rattle.ag_value.proofs.Layers.{depth-Text, weight-Text}
 use Rattle.ag_grammar.specs.declared.syntax.node.Operator.TheVariants as operator
-use Rattle.ag_value.specs.operations.Arguments.{fault_or, leftmost}
-use Rattle.ag_value.specs.operations.Fitting.{fit}
-use Rattle.ag_value.specs.operations.Lists.{concatenated_at, concatenation}
-use Rattle.ag_grammar.specs.values.Operators.{operation_result}
-use Rattle.ag_value.specs.operations.Texts.{bytes_at, bytes_of, is_text, is_text_at}
-use Rattle.ag_grammar.proofs.values.Worked.{big_next, fits}
 
 layer : (x : Value-F Value) → is_text_at x ≡ true → x ≡ Value-F.Text (bytes_at x)
 layer (Value-F.Text text) e = refl

@@ -1,3 +1,4 @@
+pub mod Common
 pub mod reading
 pub mod language
 pub mod Scopes

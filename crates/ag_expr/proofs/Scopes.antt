@@ -1,8 +1,7 @@
 -- The names in scope, as the code keeps them.
-use Rattle.std.proofs.lemmas.List.{map-append}
-use Rattle.std.proofs.Common.{◌∙◌, length, option_to_list, arith, append-nil, ◌≡◌, ℕ, ◌+◌, List, [], ◌∷◌, ◌++◌, map, Option, Some}
-use Rattle.std.proofs.Common.{None, Bor, bytes_eq, cond, refl}
-use Rattle.ag_expr.specs.language.Names.{Names, last_from, binding_in, without_innermost}
+use Rattle.ag_expr.proofs.Common
+use Common.{map-append, ◌∙◌, length, option_to_list, arith, append-nil, ◌≡◌, ℕ, ◌+◌, List, [], ◌∷◌, ◌++◌, map, Option, Some, None}
+use Common.{Bor, bytes_eq, cond, refl, Names, last_from, binding_in, without_innermost}
 
 last_map : (name : List ℕ) (at : ℕ) (found : Option ℕ) (ys : List (Bor (List ℕ)))
     → last_from (λ y. bytes_eq y name) at found (map (λ y. y.now) ys) ≡ last_from (λ y. bytes_eq y.now name) at found ys

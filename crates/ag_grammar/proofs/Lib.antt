@@ -1,3 +1,4 @@
+pub mod Common
 pub mod expressions
 pub mod grammars
 pub mod values

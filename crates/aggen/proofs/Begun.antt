@@ -1,10 +1,8 @@
 -- A prefix of some text was written, also an empty one.
-use Rattle.std.proofs.Common.{◌≡◌, ℕ, List, [], Option, Some, None, refl, sym, subst, append-nil, arith}
-use Rattle.std.specs.Io.KnownBytes.{Appends}
+use Rattle.aggen.proofs.Common
+use Common.{◌≡◌, ℕ, List, [], Option, Some, None, refl, sym, subst, append-nil, arith, Appends, AppendsBeginning, IsWellText}
 use Rattle.std.proofs.lemmas.Str.{IsUtf8-nil, is_utf8-from_IsUtf8}
 use Rattle.ag_value.proofs.operations.Wells.{well_text}
-use Rattle.agoutput.specs.Writing.{AppendsBeginning}
-use Rattle.roottext.specs.Roots.{IsWellText}
 use Rattle.aggen.specs.Translation.{BeginsText, WritesText}
 
 nothing : (known : Option (List ℕ)) → Appends known known []

@@ -1,24 +1,16 @@
 -- The meaning of the faults of building a translator for the text, and the plan of a translator.
-use Rattle.std.proofs.Common.{◌≡◌, ℕ, List, Result, Err, refl, subst, sym, ◌∙◌}
-use Rattle.std.specs.Prelude.{IsErrOf}
+use Rattle.aggen.proofs.Common
+use Common.{◌≡◌, ℕ, List, Result, Err, refl, subst, sym, ◌∙◌, IsErrOf, Grammar, IsLeast, passes_of, Lists, IsPlan, IsBuildFault}
+use Common.{IsLeastPlan, IsGrammarOf, build_fault_of_table, listing_fault_of, Fault}
+use Common.fault
 use Rattle.agoutput.specs.declared.fault.ListingFault.{ListingFault}
 use Rattle.agoutput.specs.declared.fault.ListingFault.TheVariants as listing
-use Rattle.ag_grammar.specs.grammars.AttributeGrammar.{Grammar}
 use Rattle.llparse.specs.table.Tables.{IsLeastConflict}
 use Rattle.llparse.specs.declared.ahead.Ahead.{Ahead}
 use Rattle.llparse.specs.declared.table.fault.TableFault.{TableFault}
 use Rattle.llparse.specs.declared.table.fault.TableFault.TheVariants as table
-use Rattle.passassign.specs.Least.{IsLeast}
-use Rattle.passassign.specs.Rows.{passes_of}
 use Rattle.passcode.specs.Listing.{AreGeneratedLists}
-use Rattle.passcode.specs.Rows.{Lists}
-use Rattle.planchecker.specs.Plans.{IsPlan}
-use Rattle.aggen.specs.Building.{IsBuildFault, IsLeastPlan}
-use Rattle.aggen.specs.Checking.{IsGrammarOf}
 use Rattle.aggen.specs.Listing.{HoldsOfPlan}
-use Rattle.ag_fault.specs.Faults.{build_fault_of_table, listing_fault_of}
-use Rattle.ag_fault.specs.declared.fault.Fault.{Fault}
-use Rattle.ag_fault.specs.declared.fault.Fault.TheVariants as fault
 
 -- a conflict of the grammar of a text is one of the text
 pub conflict_exact : (t : List ℕ) (g : Grammar) → IsGrammarOf t g → (f : TableFault)

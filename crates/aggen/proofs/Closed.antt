@@ -1,14 +1,12 @@
 -- Texts that don't read as an expression without occurrences, and the meaning of their faults.
-use Rattle.std.proofs.Common.{◌≡◌, ℕ, List, [], Some, None, inl, ap, ◌∙◌}
+use Rattle.aggen.proofs.Common.{◌≡◌, ℕ, List, [], Some, None, inl, ap, ◌∙◌, Value, expr_fault_of}
 use Rattle.ag_expr.specs.declared.fault.ExprFault.{ExprFault}
 use Rattle.ag_expr.specs.declared.fault.ExprFault.TheVariants.{NoToken, Unexpected, NumberTooLarge, TooDeep, NoMemory}
 use Rattle.ag_grammar.specs.declared.syntax.node.Node.{Node}
 use Rattle.ag_grammar.specs.declared.syntax.occurrence.Occ.{Occ}
 use Rattle.ag_expr.specs.language.Expression.{IsFaultOf, IsRefused, ReadsAsExpr, ReadsAsNone}
 use Rattle.ag_expr.proofs.language.Texts.{one_expression}
-use Rattle.ag_value.specs.declared.value.Value.{Value}
 use Rattle.aggen.specs.Showing.{HasNoValue, HasValue, IsExplained, IsExprFault, IsUnexpectedAt, OccursAt, first_offset}
-use Rattle.ag_fault.specs.Faults.{expr_fault_of}
 
 none_closed : (text : List ℕ) → ReadsAsNone text → HasNoValue text
 none_closed text none is has = none (has.tree, []) has.reads

@@ -1,43 +1,17 @@
 -- A sentence is translated: its files are those of the one solution, and the text that is written is the
 -- root's.
-use Rattle.std.proofs.Common.{◌≡◌, ℕ, ◌-◌, ◌≤◌, Bool, true, List, [], ◌∷◌, ◌++◌, length, map, Option, Some, Result, Ok, Err}
-use Rattle.std.proofs.Common.{slice_get, refl, sym, subst, ◌∙◌, arith}
-use Rattle.std.specs.Io.KnownBytes.{Appends}
-use Rattle.ag_value.specs.declared.value.Value.{Text}
-use Rattle.ag_grammar.specs.Lists.{Each}
-use Rattle.ag_grammar.specs.grammars.Accepted.{IsAccepted, out_name}
-use Rattle.ag_grammar.specs.grammars.AttributeGrammar.{Grammar, Inherited, Kind, Synthesized, symbol_kinds}
-use Rattle.ag_grammar.specs.grammars.Passes.{IsLegal, Passes}
-use Rattle.ag_grammar.specs.grammars.Solution.{IsTranslation}
-use Rattle.ag_grammar.specs.grammars.Tree.{IsWithinLimits, Tree, IsTreeOf, max_depth, max_nodes, node_count}
-use Rattle.passassign.specs.Rows.{IsGreatest, passes_of}
-use Rattle.passcode.specs.Rows.{Lists}
-use Rattle.planchecker.specs.Plans.{IsPlan}
-use Rattle.treefile.specs.devices.Device.{WhenHonest}
-use Rattle.treefile.proofs.records.Texts.{texts_are_given}
-use Rattle.treefile.specs.records.FirstFile.{IsFirstFile}
-use Rattle.treefile.specs.records.TreeFile.{version_two}
-use Rattle.aggen.specs.Building.{IsLeastPlan}
-use Rattle.aggen.specs.Sentences.{IsTreeOfSentence}
-use Rattle.agoutput.specs.Writing.{AppendsBeginning}
-use Rattle.passrun.specs.declared.passing.ends.Passed.{Passed}
-use Rattle.aggen.specs.declared.translations.report.Report.{Report}
-use Rattle.pass_rows.specs.declared.run_fault.RunFault.{RunFault}
-use Rattle.pass_rows.specs.declared.run_fault.RunFault.TheVariants as run
-use Rattle.agoutput.specs.declared.out_fault.OutFault.{OutFault}
-use Rattle.agoutput.specs.declared.out_fault.OutFault.TheVariants as out
-use Rattle.ag_fault.specs.Faults.{out_fault_of, run_fault_of}
+use Rattle.aggen.proofs.Common
+use Common.{◌≡◌, ℕ, ◌-◌, ◌≤◌, Bool, true, List, [], ◌∷◌, ◌++◌, length, map, Option, Some, Result, Ok, Err, slice_get, refl, sym}
+use Common.{subst, ◌∙◌, arith, Appends, Text, Each, IsAccepted, out_name, Grammar, Inherited, Kind, Synthesized, symbol_kinds}
+use Common.{IsLegal, Passes, IsTranslation, IsWithinLimits, Tree, IsTreeOf, max_depth, max_nodes, node_count, IsGreatest}
+use Common.{passes_of, Lists, IsPlan, WhenHonest, texts_are_given, IsFirstFile, version_two, IsLeastPlan, IsTreeOfSentence}
+use Common.{AppendsBeginning, Passed, Report, RunFault, OutFault, out_fault_of, run_fault_of, last_content, IsRootText}
+use Common.{MatchesRoot, HasCounted, HasRunAll, IsLastPass, IsRunFault, setting_of, run_is_the_solution, greatest_is_last}
+use Common.run
+use Common.out
 use Rattle.aggen.specs.Translation.{BeginsTranslation, IsOneTree}
-use Rattle.passrun.specs.Rounds.{last_content}
-use Rattle.roottext.specs.Roots.{IsRootText, MatchesRoot}
-use Rattle.passrun.specs.Rounds.{HasCounted, HasRunAll}
-use Rattle.ag_grammar.specs.grammars.Running.{IsLastPass}
-use Rattle.passrun.specs.passing.Ahead.{IsRunFault}
-use Rattle.passcode.specs.Settings.{setting_of}
 use Rattle.aggen.specs.Translating.{AreLeft, IsFaultBeforeText, IsTranslationFault, LeavesFiles, TranslatesSentence}
 use Rattle.ag_grammar.proofs.grammars.Counting.{passes_have_all_rules}
-use Rattle.ag_grammar.proofs.grammars.Running.{run_is_the_solution}
-use Rattle.passrun.proofs.Totals.{greatest_is_last}
 
 some_of : (ps : List ℕ) (last : ℕ) → 1 ≤ length ps → Each (λ k. 1 ≤ k) ps → Each (λ k. k ≤ last) ps → 1 ≤ last
 some_of [] last few one most = absurd (omega arith)

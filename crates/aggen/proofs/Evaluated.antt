@@ -1,48 +1,20 @@
 -- The tree of a file is evaluated: the files are those of its one solution, and a fault is true of its
 -- content.
-use Rattle.std.proofs.Common.{◌≡◌, ℕ, suc, ◌-◌, ◌+◌, ◌*◌, ◌≤◌, Bool, List, Option, Result, Ok, Err, refl, ap, sym, subst}
-use Rattle.std.proofs.Common.{◌∙◌, true, arith}
-use Rattle.std.specs.Io.KnownBytes.{Appends}
-use Rattle.ag_value.specs.declared.value.Value.{Text}
-use Rattle.ag_grammar.specs.grammars.Accepted.{IsAccepted}
-use Rattle.ag_grammar.specs.grammars.AttributeGrammar.{Grammar}
-use Rattle.ag_grammar.specs.grammars.Counts.{rules_of_pass, sum_of_passes}
-use Rattle.ag_grammar.specs.grammars.Running.{IsLastPass}
-use Rattle.ag_grammar.specs.grammars.Solution.{IsTranslation}
-use Rattle.ag_grammar.specs.grammars.Tree.{Tree, depth_of, max_depth, max_nodes, node_count}
+use Rattle.aggen.proofs.Common
+use Common.{◌≡◌, ℕ, suc, ◌-◌, ◌+◌, ◌*◌, ◌≤◌, Bool, List, Option, Result, Ok, Err, refl, ap, sym, subst, ◌∙◌, true, arith, Appends}
+use Common.{Text, IsAccepted, Grammar, rules_of_pass, sum_of_passes, IsLastPass, IsTranslation, Tree, depth_of, max_depth}
+use Common.{max_nodes, node_count, run_is_the_solution, WhenHonest, version_two_usable, IsFileOfTree, HasRun, version_two}
+use Common.{first_file_of, texts_are_given, IsGreatest, passes_of, Lists, IsPlan, setting_of, Passed, Last, RunFault, IsRunFault}
+use Common.{IsPassed, HasRunAll, last_content, other_content, other_last, greatest_is_last, AppendsBeginning, IsRootText}
+use Common.{MatchesRoot, OutFault, IsLeastPlan, out_fault_of, run_fault_of, Report}
+use Common.run
+use Common.out
 use Rattle.ag_grammar.proofs.grammars.Counting.{passes_have_all_rules}
-use Rattle.ag_grammar.proofs.grammars.Running.{run_is_the_solution}
-use Rattle.treefile.specs.devices.Device.{WhenHonest}
-use Rattle.treefile.specs.framing.Ending.{version_two_usable}
-use Rattle.treefile.specs.records.Records.{IsFileOfTree}
-use Rattle.treefile.specs.Runs.{HasRun}
-use Rattle.treefile.specs.records.TreeFile.{version_two}
 use Rattle.treefile.proofs.records.Fitting.{fits_version_two}
 use Rattle.treefile.proofs.records.OneTree.{one_file}
-use Rattle.treefile.proofs.records.FirstFile.{first_file_of}
-use Rattle.treefile.proofs.records.Texts.{texts_are_given}
-use Rattle.passassign.specs.Rows.{IsGreatest, passes_of}
-use Rattle.passcode.specs.Rows.{Lists}
-use Rattle.planchecker.specs.Plans.{IsPlan}
-use Rattle.passcode.specs.Settings.{setting_of}
-use Rattle.passrun.specs.declared.passing.ends.Passed.{Passed}
-use Rattle.passrun.specs.declared.last.Last.{Last}
 use Rattle.passrun.specs.declared.last.Last.TheVariants.{A, B}
-use Rattle.pass_rows.specs.declared.run_fault.RunFault.{RunFault}
-use Rattle.pass_rows.specs.declared.run_fault.RunFault.TheVariants as run
-use Rattle.passrun.specs.passing.Ahead.{IsRunFault}
-use Rattle.passrun.specs.Passed.{IsPassed}
-use Rattle.passrun.specs.Rounds.{HasRunAll, last_content, other_content, other_last}
-use Rattle.passrun.proofs.Totals.{greatest_is_last}
-use Rattle.agoutput.specs.Writing.{AppendsBeginning}
-use Rattle.roottext.specs.Roots.{IsRootText, MatchesRoot}
-use Rattle.agoutput.specs.declared.out_fault.OutFault.{OutFault}
-use Rattle.agoutput.specs.declared.out_fault.OutFault.TheVariants as out
-use Rattle.aggen.specs.Building.{IsLeastPlan}
 use Rattle.aggen.specs.Evaluating.{AreLeftOfTree, EvaluatesTree, IsEvaluationFault, IsTreeFaultBeforeText, LeavesFilesOfTree}
-use Rattle.ag_fault.specs.Faults.{out_fault_of, run_fault_of}
 use Rattle.aggen.specs.Translation.{BeginsTranslation, IsTreeInFile, before_last}
-use Rattle.aggen.specs.declared.translations.report.Report.{Report}
 use Rattle.aggen.proofs.Composed.{some_pass}
 use Rattle.aggen.proofs.Joined.{before_of_more, before_of_one, counts_joined, joined}
 

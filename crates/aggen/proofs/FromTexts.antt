@@ -1,10 +1,8 @@
 -- The grammar that a text reads as has readable literals and known classes.
-use Rattle.std.proofs.Common.{ℕ, zero, suc, ◌≡◌, ◌≤◌, ◌<◌, ◌==◌, Bool, true, false, not, cond, ◌||◌, List, [], ◌∷◌, length}
-use Rattle.std.proofs.Common.{Option, Some, None, slice_get, refl, sym, subst, arith}
-use Rattle.std.proofs.lemmas.Bool.{and_parts}
+use Rattle.aggen.proofs.Common
+use Common.{ℕ, zero, suc, ◌≡◌, ◌≤◌, ◌<◌, ◌==◌, Bool, true, false, not, cond, ◌||◌, List, [], ◌∷◌, length, Option, Some, None}
+use Common.{slice_get, refl, sym, subst, arith, and_parts, Each, IsSeparator, class_count, TextsAreReadable}
 use Rattle.std.specs.List.{list_any}
-use Rattle.ag_grammar.specs.Lists.{Each}
-use Rattle.ag_grammar.specs.grammars.Accepted.{IsSeparator, class_count}
 use Rattle.ag_tokens.specs.PlacedToken.{PlacedToken}
 use Rattle.ag_tokens.specs.GrammarToken.{GrammarToken}
 use Rattle.ag_tokens.specs.GrammarToken as token
@@ -18,7 +16,6 @@ use Rattle.ag_tokens.specs.Languages.{Many, none, more}
 use Rattle.ag_text.specs.Syntax.{IsProduction, IsGrammar, one}
 use Rattle.ag_text.specs.Meanings.{class_of, class_or_name, is_literal, item_in, named, some_if}
 use Rattle.normalform.specs.faults.Faults.{IsReadable, IsReadableItem}
-use Rattle.aggen.specs.Checking.{TextsAreReadable}
 use Rattle.normalform.proofs.found.Tested.{separator_is}
 
 -- ---- a literal

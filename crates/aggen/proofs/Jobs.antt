@@ -1,15 +1,9 @@
 -- The results for the grammar or the sentence of a job are results for the job.
-use Rattle.std.proofs.Common.{refl, Result, Ok, Err, inl, inr, List, ℕ, Bool, Option}
-use Rattle.std.specs.Result.{IfErr}
-use Rattle.ag_grammar.specs.grammars.AttributeGrammar.{Grammar}
-use Rattle.aggen.specs.Building.{IsBuildFault}
-use Rattle.aggen.specs.Checking.{IsGrammarOf}
+use Rattle.aggen.proofs.Common
+use Common.{refl, Result, Ok, Err, inl, inr, List, ℕ, Bool, Option, IfErr, Grammar, IsBuildFault, IsGrammarOf, build_fault_of}
+use Common.{BuildFault, Fault, Report}
 use Rattle.aggen.specs.Jobs.{HasJob, IsJobRefusal}
-use Rattle.ag_fault.specs.Faults.{build_fault_of}
 use Rattle.aggen.specs.Translating.{IsTranslationFault}
-use Rattle.ag_fault.specs.declared.build_fault.BuildFault.{BuildFault}
-use Rattle.ag_fault.specs.declared.fault.Fault.{Fault}
-use Rattle.aggen.specs.declared.translations.report.Report.{Report}
 
 module _ (known : Option (List ℕ)) (text sentence : List ℕ) (ha hb : Bool) (old new : Option (List ℕ))
     (job : HasJob known text sentence) where

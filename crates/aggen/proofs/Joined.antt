@@ -1,22 +1,13 @@
 -- Pass 1 from a file of its own, and the other passes after it, over the same tree.
-use Rattle.std.proofs.Common.{◌≡◌, ℕ, zero, suc, ◌+◌, ◌*◌, ◌<◌, ◌≤◌, inl, inr, List, refl, ap, sym, subst, arith}
-use Rattle.std.proofs.lemmas.Bool.{cases_lt}
+use Rattle.aggen.proofs.Common
+use Common.{◌≡◌, ℕ, zero, suc, ◌+◌, ◌*◌, ◌<◌, ◌≤◌, inl, inr, List, refl, ap, sym, subst, arith, cases_lt, Grammar, rules_of_pass}
+use Common.{sum_of_passes, IsLegal, Passes, OfPass, Same, Solves, Valuation, Tree, IsTreeOf, node_count, IsFileOfTree, HasRun}
+use Common.{Version, Passed, Last, HasCounted, other_content}
 use Rattle.std.proofs.Math.Nat.{suc-mul}
 use Rattle.ag_grammar.specs.declared.grammar.Item.TheVariants as item
-use Rattle.ag_grammar.specs.grammars.AttributeGrammar.{Grammar}
-use Rattle.ag_grammar.specs.grammars.Counts.{rules_of_pass, sum_of_passes}
-use Rattle.ag_grammar.specs.grammars.Passes.{IsLegal, Passes}
-use Rattle.ag_grammar.specs.grammars.Solution.{OfPass, Same, Solves, Valuation}
-use Rattle.ag_grammar.specs.grammars.Tree.{Tree, IsTreeOf, node_count}
 use Rattle.ag_grammar.proofs.grammars.EachNode.{same_weaker}
 use Rattle.ag_grammar.proofs.grammars.Kept.{equations_kept}
-use Rattle.treefile.specs.records.Records.{IsFileOfTree}
-use Rattle.treefile.specs.Runs.{HasRun}
-use Rattle.treefile.specs.records.TreeFile.{Version}
 use Rattle.treefile.proofs.SameFile.{same_file}
-use Rattle.passrun.specs.declared.passing.ends.Passed.{Passed}
-use Rattle.passrun.specs.declared.last.Last.{Last}
-use Rattle.passrun.specs.Rounds.{HasCounted, other_content}
 use Rattle.aggen.specs.Translation.{before_last}
 
 -- Pass 1 met its equations with the values u, and `start` is the tree's file of pass 0 with them. The other passes ran from u on.

@@ -1,42 +1,23 @@
 -- The contents of the devices after a call, also after a fault.
-use Rattle.std.proofs.Common.{◌≡◌, ℕ, Bool, true, List, length, Option, Result, Ok, Err, sym, ◌∙◌}
+use Rattle.aggen.proofs.Common
+use Common.{◌≡◌, ℕ, Bool, true, List, length, Option, Result, Ok, Err, sym, ◌∙◌, IfErr, IsAccepted, Grammar, direction_of}
+use Common.{IsTreeOf, Tree, ScanFault, RunFault, OutFault, WhenHonest, IsFirstFile, no_passes, IsFileOfTree, bodies_of, file}
+use Common.{version_two, BeginsFile, DeviceFault, unassigned_from_one, file_fits, texts_are_given, IsGrammarOf, IsParseFault}
+use Common.{build_fault_of, device_fault_of, job_fault_of, out_fault_of, run_fault_of, scan_fault_of, BuildFault, Fault, Report}
+use Common.scan
+use Common.run
+use Common.out
+use Common.fault
 use Rattle.std.proofs.Math.Seq.{take-length}
-use Rattle.std.specs.Result.{IfErr}
-use Rattle.ag_grammar.specs.grammars.Accepted.{IsAccepted}
-use Rattle.ag_grammar.specs.grammars.AttributeGrammar.{Grammar}
-use Rattle.ag_grammar.specs.grammars.Passes.{direction_of}
-use Rattle.ag_grammar.specs.grammars.Tree.{IsTreeOf, Tree}
 use Rattle.ag_job.specs.declared.fault.JobFault.{JobFault}
 use Rattle.ag_job.specs.declared.fault.JobFault.TheVariants as job
-use Rattle.ag_scan.specs.declared.fault.ScanFault.{ScanFault}
-use Rattle.ag_scan.specs.declared.fault.ScanFault.TheVariants as scan
-use Rattle.pass_rows.specs.declared.run_fault.RunFault.{RunFault}
-use Rattle.pass_rows.specs.declared.run_fault.RunFault.TheVariants as run
-use Rattle.agoutput.specs.declared.out_fault.OutFault.{OutFault}
-use Rattle.agoutput.specs.declared.out_fault.OutFault.TheVariants as out
-use Rattle.treefile.specs.devices.Device.{WhenHonest}
-use Rattle.treefile.specs.records.FirstFile.{IsFirstFile, no_passes}
 use Rattle.treefile.specs.records.Orders.{postfix}
-use Rattle.treefile.specs.records.Records.{IsFileOfTree, bodies_of}
-use Rattle.treefile.specs.records.TreeFile.{file, version_two}
-use Rattle.treefile.specs.framing.Beginning.{BeginsFile}
-use Rattle.treefile.specs.declared.device.DeviceFault.{DeviceFault}
 use Rattle.treefile.specs.declared.device.DeviceFault.TheVariants as device
-use Rattle.treefile.proofs.records.FirstFile.{unassigned_from_one}
-use Rattle.treefile.proofs.records.Records.{file_fits}
-use Rattle.treefile.proofs.records.Texts.{texts_are_given}
 use Rattle.tree_upgrade.proofs.upgrades.Upgraded.{room}
-use Rattle.aggen.specs.Checking.{IsGrammarOf}
 use Rattle.aggen.specs.Evaluating.{IsTreeFaultBeforeText, LeavesFilesOfTree}
 use Rattle.aggen.specs.Jobs.{HasJob, LeavesLastFilesOfJob}
-use Rattle.aggen.specs.Sentences.{IsParseFault}
-use Rattle.ag_fault.specs.Faults.{build_fault_of, device_fault_of, job_fault_of, out_fault_of, run_fault_of, scan_fault_of}
 use Rattle.aggen.specs.Translating.{IsAfterPasses, IsFaultBeforeText, LeavesFiles, LeavesLastFiles}
-use Rattle.ag_fault.specs.declared.build_fault.BuildFault.{BuildFault}
 use Rattle.ag_fault.specs.declared.build_fault.BuildFault.TheVariants as build
-use Rattle.ag_fault.specs.declared.fault.Fault.{Fault}
-use Rattle.ag_fault.specs.declared.fault.Fault.TheVariants as fault
-use Rattle.aggen.specs.declared.translations.report.Report.{Report}
 
 -- a content that is the file of pass 0 of a tree is also a prefix of a file of pass 0, of itself
 pub first_begins : (g : Grammar) (t : Tree) (content : List ℕ) → IsAccepted g → IsTreeOf g t → IsFirstFile version_two g t content

@@ -1,3 +1,4 @@
+pub mod Common
 pub mod Begun
 pub mod Building
 pub mod Closed

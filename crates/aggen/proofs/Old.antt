@@ -1,11 +1,7 @@
 -- The meaning of a fault of the conversion of an old file, by the program's faults.
-use Rattle.std.proofs.Common.{ℕ, List, Bool}
-use Rattle.ag_grammar.specs.grammars.AttributeGrammar.{Grammar}
-use Rattle.tree_upgrade.specs.upgrading.Upgrading.{IsUpgradeFault}
-use Rattle.pass_rows.specs.declared.run_fault.RunFault.{RunFault}
-use Rattle.pass_rows.specs.declared.run_fault.RunFault.TheVariants as run
-use Rattle.treefile.specs.devices.Device.{WhenHonest}
-use Rattle.ag_fault.specs.Faults.{run_fault_of}
+use Rattle.aggen.proofs.Common
+use Common.{ℕ, List, Bool, Grammar, IsUpgradeFault, RunFault, WhenHonest, run_fault_of}
+use Common.run
 use Rattle.aggen.specs.Upgrading.{IsOldFileFault}
 
 pub old_fault : (g : Grammar) (ho hm : Bool) (content : List ℕ) (f : RunFault)

@@ -1,10 +1,8 @@
 -- Two least assignments give each attribute the same pass.
-use Rattle.std.proofs.Common.{ℕ, ◌≡◌, ◌<◌, ◌≤◌, Some, slice_get, get_or, length, sym, ◌∙◌, subst, arith}
+use Rattle.aggen.proofs.Common
+use Common.{ℕ, ◌≡◌, ◌<◌, ◌≤◌, Some, slice_get, get_or, length, sym, ◌∙◌, subst, arith, Grammar, Passes, IsLeast}
 use Rattle.std.proofs.lemmas.List.{same_lists}
 use Rattle.std.proofs.lemmas.Option.{slice_get-get_or}
-use Rattle.ag_grammar.specs.grammars.AttributeGrammar.{Grammar}
-use Rattle.ag_grammar.specs.grammars.Passes.{Passes}
-use Rattle.passassign.specs.Least.{IsLeast}
 
 pub least_is_one : (g : Grammar) (m n : Passes) → IsLeast g m → IsLeast g n → (s : ℕ) → m s ≡ n s
 least_is_one g m n first second s =

@@ -1,19 +1,14 @@
 -- The record in the file of a value is the one that was written.
-use Rattle.std.proofs.Common.{◌≡◌, ℕ, zero, suc, List, [], ◌∷◌, Result, Ok, Err, sym, subst, ◌∙◌, arith}
-use Rattle.std.specs.Prelude.{All, IsErrOf, MatchResult, length}
-use Rattle.ag_value.specs.declared.value.Value.{Value}
-use Rattle.ag_value.specs.Well.{IsWell}
-use Rattle.treefile.specs.declared.body.Kind.TheVariants.{Token}
+use Rattle.aggen.proofs.Common
+use Common.{◌≡◌, ℕ, zero, suc, List, [], ◌∷◌, Result, Ok, Err, sym, subst, ◌∙◌, arith, IsErrOf, Value, IsWell, Token, ReadsAs}
+use Common.{last_body_of, version_two_usable, body_of, version_two, Fault, frame_fault_of}
+use Common.fault
+use Rattle.std.specs.Prelude.{All, MatchResult, length}
 use Rattle.treefile.specs.declared.reading.FrameFault.{FrameFault}
 use Rattle.treefile.specs.declared.reading.FrameFault.TheVariants.{NotATreeFile, Damaged, Device, NoMemory}
-use Rattle.treefile.specs.framing.Ending.{ReadsAs, last_body_of, version_two_usable}
-use Rattle.treefile.specs.records.TreeFile.{body_of, version_two}
 use Rattle.treefile.proofs.framing.Files.{damaged_at_end, last_of_file}
 use Rattle.treefile.proofs.records.Sizes.{body_size}
-use Rattle.ag_fault.specs.declared.fault.Fault.{Fault}
-use Rattle.ag_fault.specs.declared.fault.Fault.TheVariants as fault
 use Rattle.aggen.specs.Showing.{IsResourceFault, file_of}
-use Rattle.ag_fault.specs.Faults.{frame_fault_of}
 
 one_well : (value : Value) → IsWell value → All IsWell (value ∷ [])
 one_well value well zero d lt = well

@@ -1,22 +1,17 @@
 -- The meaning of a fault of scanning, and of parsing, for the sentence.
-use Rattle.std.proofs.Common.{◌≡◌, ℕ, List, Result, Ok, Err, refl, subst, sym}
-use Rattle.std.specs.Prelude.{IsErrOf}
-use Rattle.ag_grammar.specs.grammars.Accepted.{IsAccepted}
-use Rattle.ag_grammar.specs.grammars.AttributeGrammar.{Grammar}
-use Rattle.ag_grammar.specs.grammars.Tree.{Tree, max_depth, max_nodes}
+use Rattle.aggen.proofs.Common
+use Common.{◌≡◌, ℕ, List, Result, Ok, Err, refl, subst, sym, IsErrOf, IsAccepted, Grammar, Tree, max_depth, max_nodes, ScanFault}
+use Common.{HasNoTree, IsTreeOfSentence, IsSentenceFault, parse_fault_of, scan_fault_of}
+use Common.scan
 use Rattle.ag_scan.specs.Laws.{IsAnswer}
 use Rattle.ag_scan.specs.Tokens.{Token, AreTokensOf, IsRefused}
 use Rattle.ag_scan.specs.Words.{vocabulary_of}
-use Rattle.ag_scan.specs.declared.fault.ScanFault.{ScanFault}
-use Rattle.ag_scan.specs.declared.fault.ScanFault.TheVariants as scan
 use Rattle.ag_scan.proofs.OneAnswer.{at_most_one}
 use Rattle.llparse.specs.sentence.Sentences.{IsTreeWith, IsUnexpectedAt, LeavesOnlyDeeper, LeavesOnlyLarger, words_of}
 use Rattle.llparse.specs.table.Tables.{Choices, FitsGrammar}
 use Rattle.llparse.specs.declared.sentence.parse_fault.ParseFault.{ParseFault}
 use Rattle.llparse.specs.declared.sentence.parse_fault.ParseFault.TheVariants as parse
 use Rattle.llparse.proofs.steps.Steps.{one_parse}
-use Rattle.aggen.specs.Sentences.{HasNoTree, IsTreeOfSentence, IsSentenceFault}
-use Rattle.ag_fault.specs.Faults.{parse_fault_of, scan_fault_of}
 
 same_tokens : (g : Grammar) → IsAccepted g → (sentence : List ℕ) (ts us : List Token) → AreTokensOf (vocabulary_of g) sentence ts
     → AreTokensOf (vocabulary_of g) sentence us → us ≡ ts

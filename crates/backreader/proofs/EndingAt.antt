@@ -1,19 +1,14 @@
 -- The part of a buffer that agrees with a content before an offset.
-use Rattle.std.proofs.Common.{◌≡◌, ℕ, zero, suc, ◌+◌, ◌-◌, ◌≤◌, List, [], ◌∷◌, ◌++◌, length, take, drop, slice_range, Result, Ok}
-use Rattle.std.proofs.Common.{Err, sym, ap, subst, ◌∙◌, arith, lit<}
+use Rattle.backreader.proofs.Common
+use Common.{◌≡◌, ℕ, zero, suc, ◌+◌, ◌-◌, ◌≤◌, List, [], ◌∷◌, ◌++◌, length, take, drop, slice_range, Result, Ok, Err, sym, ap}
+use Common.{subst, ◌∙◌, arith, lit<, IsOver, BackState, EndsAt, buffer_bytes, w32, from_be_bytes, IsBytes, ReadsAs, body_before}
+use Common.{greatest_body, header_bytes, least_body, length_bytes, number_before, Version, version_of, FrameFault, NotATreeFile}
+use Common.{Damaged, Device, NoMemory, bytes_part, fits, length_part, read_at}
 use Rattle.std.proofs.lemmas.List.{drop-drop, drop-take, take-append-drop, take-take}
 use Rattle.std.proofs.lemmas.List.Folds.{drop_split}
 use lib.Seq.{take-add}
-use Rattle.backreader.specs.BackState.{IsOver, BackState, EndsAt, buffer_bytes}
-use Rattle.std.specs.Int.{w32, from_be_bytes}
-use Rattle.treefile.specs.framing.Ending.{IsBytes, ReadsAs, body_before, greatest_body, header_bytes, least_body, length_bytes}
-use Rattle.treefile.specs.framing.Ending.{number_before}
-use Rattle.treefile.specs.records.TreeFile.{Version, version_of}
 use Rattle.treefile.specs.declared.layout.FileVersion.{FileVersion}
 use Rattle.treefile.specs.declared.layout.FileVersion.TheVariants.{One, Two}
-use Rattle.treefile.specs.declared.reading.FrameFault.{FrameFault}
-use Rattle.treefile.specs.declared.reading.FrameFault.TheVariants.{NotATreeFile, Damaged, Device, NoMemory}
-use Rattle.treefile.proofs.records.Frames.{bytes_part, fits, length_part, read_at}
 
 -- ---- parts of lists
 

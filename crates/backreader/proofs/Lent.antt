@@ -1,12 +1,9 @@
 -- A body that a device lends: it is what reading finds before the offset, and no bytes are buffered after it is lent.
-use Rattle.std.proofs.Common.{◌≡◌, ◌<◌, ◌≤◌, ◌-◌, ℕ, List, [], Some, Ok, false, length, take, drop, refl, sym, ap, subst, ◌∙◌}
-use Rattle.std.proofs.Common.{arith}
-use Rattle.std.specs.Prelude.{nat_eq}
+use Rattle.backreader.proofs.Common
+use Common.{◌≡◌, ◌<◌, ◌≤◌, ◌-◌, ℕ, List, [], Some, Ok, false, length, take, drop, refl, sym, ap, subst, ◌∙◌, arith, nat_eq}
+use Common.{EndsAt, IsBytes, body_before, header_bytes, Version}
 use Rattle.std.proofs.lemmas.Bool.{ne_eqb}
 use Rattle.treefile.specs.framing.Backward.{next_before}
-use Rattle.backreader.specs.BackState.{EndsAt}
-use Rattle.treefile.specs.framing.Ending.{IsBytes, body_before, header_bytes}
-use Rattle.treefile.specs.records.TreeFile.{Version}
 
 pub next_is_body : (version : Version) (content body : List ℕ) (at : ℕ) → header_bytes < at
     → body_before version content at ≡ Ok body → next_before version content at ≡ Ok (Some body)

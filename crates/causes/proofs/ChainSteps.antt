@@ -1,18 +1,11 @@
 -- The steps of a walk along a chain.
-use Rattle.std.proofs.Common.{◌≡◌, ◌+◌, ◌<◌, List, length, get_or, ℕ, suc, true, ◌&&◌, Some, slice_get, ap, subst, sym, ◌∙◌}
-use Rattle.std.proofs.Common.{arith}
-use Rattle.std.specs.Prelude.{IfSome, Result, Ok, Err, nat_eq}
-use Rattle.std.specs.Result.{OkIff, result_ok}
+use Rattle.causes.proofs.Common
+use Common.{◌≡◌, ◌+◌, ◌<◌, List, length, get_or, ℕ, suc, true, ◌&&◌, Some, slice_get, ap, subst, sym, ◌∙◌, arith, IfSome, Result}
+use Common.{Ok, Err, nat_eq, OkIff, result_ok, slice_get-get_or, Rule, Target, Grammar, TreeIndex, Follows, IsCause, IsChain}
+use Common.{IsNumberFor, IsPassedFrom, longer, in_file}
+use Common.rule_does
 use Rattle.std.proofs.lemmas.Bool.{and_parts, eqb-true}
-use Rattle.std.proofs.lemmas.Option.{slice_get-get_or}
-use Rattle.ag_grammar.specs.declared.grammar.Rule.{Rule}
-use Rattle.ag_grammar.specs.declared.grammar.Target.{Target}
-use Rattle.ag_grammar.specs.grammars.AttributeGrammar.{Grammar}
-use Rattle.tree_index.specs.declared.index.TreeIndex.{TreeIndex}
-use Rattle.causes.specs.Chains.{Follows, IsCause, IsChain, IsNumberFor, IsPassedFrom, longer}
 use Rattle.causes.specs.declared.chain.Step.TheVariants as step
-use Rattle.causes.specs.declared.next_rule.Next.TheVariants as rule_does
-use Rattle.causes.specs.Indexed.{in_file}
 
 -- two targets with the same numbers
 target_same : (a b : Target) → a.place ≡ b.place → a.attr ≡ b.attr → a ≡ b

@@ -1,38 +1,21 @@
 -- In a solution no chain of rules that pass an error on stops, or is too long.
-use Rattle.std.proofs.Common.{ℕ, zero, suc, ◌≡◌, ◌*◌, ◌<◌, ◌≤◌, ◌⊎◌, inl, inr, List, [], ◌∷◌, ◌++◌, map, Option, Some}
-use Rattle.std.proofs.Common.{None, slice_get, refl, ap, sym, subst, ◌∙◌, arith}
+use Rattle.causes.proofs.Common
+use Common.{ℕ, zero, suc, ◌≡◌, ◌*◌, ◌<◌, ◌≤◌, ◌⊎◌, inl, inr, List, [], ◌∷◌, ◌++◌, map, Option, Some, None, slice_get, refl, ap}
+use Common.{sym, subst, ◌∙◌, arith, slice_get-map, Production, Target, MAX_NODES, value_of, IsAccepted, Grammar, HasKind}
+use Common.{Inherited, Synthesized, item_at, item_kinds, symbol_kinds, used_kind, IsLegal, Passes, IsLastPass, AnyRule, Solves}
+use Common.{Valuation, at, children, rest, Forest, IsTreeOf, Tree, leaf, max_nodes, more, node, node_count, none, fault_of}
+use Common.{version_two, place_path, tree_at, values_at, child, child_of, table_of, TreeIndex, HasNoError, IsChain, HasNoChildAt}
+use Common.{IsNumberAt, LeadsNowhere, Stops, StopsAfter, in_file, IsInTree, in_tree, IsNodeAt, Next}
+use Common.item
+use Common.rule_does
 use Rattle.std.specs.Option.{option_map}
-use Rattle.std.proofs.lemmas.Option.{slice_get-map}
 use Rattle.ag_value.specs.declared.value.ErrorCode.{ErrorCode}
-use Rattle.ag_grammar.specs.declared.grammar.Item.TheVariants as item
-use Rattle.ag_grammar.specs.declared.grammar.Production.{Production}
 use Rattle.ag_grammar.specs.declared.grammar.Symbol.{Symbol}
-use Rattle.ag_grammar.specs.declared.grammar.Target.{Target}
-use Rattle.ag_grammar.specs.declared.limits.TheConstants.{MAX_NODES}
-use Rattle.ag_grammar.specs.expressions.Evaluation.{value_of}
-use Rattle.ag_grammar.specs.grammars.Accepted.{IsAccepted}
-use Rattle.ag_grammar.specs.grammars.AttributeGrammar.{Grammar, HasKind, Inherited, Synthesized, item_at}
-use Rattle.ag_grammar.specs.grammars.AttributeGrammar.{item_kinds, symbol_kinds, used_kind}
-use Rattle.ag_grammar.specs.grammars.Passes.{IsLegal, Passes}
-use Rattle.ag_grammar.specs.grammars.Running.{IsLastPass}
-use Rattle.ag_grammar.specs.grammars.Solution.{AnyRule, Solves, Valuation, at, children, rest}
-use Rattle.ag_grammar.specs.grammars.Tree.{Forest, IsTreeOf, Tree, leaf, max_nodes, more, node, node_count, none}
-use Rattle.ag_value.specs.operations.Arguments.{fault_of}
 use Rattle.treefile.specs.records.Records.{IsFileOfTree}
-use Rattle.treefile.specs.records.TreeFile.{version_two}
-use Rattle.origins.specs.Causes.{place_path, tree_at, values_at}
-use Rattle.origins.specs.Origins.{child, child_of}
-use Rattle.origins.specs.Rows.{table_of}
 use Rattle.tree_index.specs.Nodes.{AreEnds, IsIndexOf, IsSubtreeAt, Subtree, back_from, kids, nodes_of, record_at, record_of}
-use Rattle.tree_index.specs.declared.index.TreeIndex.{TreeIndex}
 use Rattle.tree_index.proofs.Kids.{first_of, kind_there, record_there}
-use Rattle.causes.specs.Chains.{HasNoError, IsChain}
-use Rattle.causes.specs.Indexed.{HasNoChildAt, IsNumberAt, IsPassedFromNowhere, IsWithoutError, IsWithoutRecord, LeadsNowhere}
-use Rattle.causes.specs.Indexed.{Stops, StopsAfter, in_file}
-use Rattle.causes.specs.Laws.{IsInTree, in_tree}
-use Rattle.causes.specs.Rules.{ComputesNoErrorIn, IsNodeAt}
-use Rattle.causes.specs.declared.next_rule.Next.{Next}
-use Rattle.causes.specs.declared.next_rule.Next.TheVariants as rule_does
+use Rattle.causes.specs.Indexed.{IsPassedFromNowhere, IsWithoutError, IsWithoutRecord}
+use Rattle.causes.specs.Rules.{ComputesNoErrorIn}
 use Rattle.causes.proofs.Dependence.{argument_kind}
 use Rattle.causes.proofs.Errors.{IsErrorAt, chain_short, last_error, rule_error}
 use Rattle.causes.proofs.InIndex.{IsSomeRecorded, chain_in, found_body, recorded_at, row_at}

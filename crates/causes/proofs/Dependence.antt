@@ -1,22 +1,13 @@
 -- The attribute instances on which an instance of a tree depends: there is no cycle among them.
-use Rattle.std.proofs.Common.{ℕ, zero, suc, ◌≡◌, ◌+◌, ◌*◌, ◌<◌, inl, inr, List, [], ◌∷◌, ◌++◌, Option, Some, None}
-use Rattle.std.proofs.Common.{slice_get, refl, ap, sym, subst, ◌∙◌, append_assoc, zero-add, arith}
-use Rattle.std.proofs.lemmas.List.{append-nil}
-use Rattle.ag_grammar.specs.Lists.{Has}
-use Rattle.ag_grammar.specs.declared.grammar.Production.{Production}
-use Rattle.ag_grammar.specs.declared.grammar.Rule.{Rule}
-use Rattle.ag_grammar.specs.declared.grammar.Target.{Target}
-use Rattle.ag_grammar.specs.grammars.Accepted.{IsAccepted}
-use Rattle.ag_grammar.specs.grammars.AttributeGrammar.{Grammar, HasKind, Inherited, IsArgument, IsRule, Kind}
-use Rattle.ag_grammar.specs.grammars.AttributeGrammar.{Synthesized, defined_kind, item_at, item_kinds, symbol_kinds, used_kind}
-use Rattle.ag_grammar.specs.grammars.Passes.{IsLegal, Passes}
-use Rattle.ag_grammar.specs.grammars.Solution.{left_passes}
-use Rattle.ag_grammar.specs.grammars.Tree.{Forest, IsTreeOf, Tree, leaf, more, node, node_count, none}
+use Rattle.causes.proofs.Common
+use Common.{ℕ, zero, suc, ◌≡◌, ◌+◌, ◌*◌, ◌<◌, inl, inr, List, [], ◌∷◌, ◌++◌, Option, Some, None, slice_get, refl, ap, sym, subst}
+use Common.{◌∙◌, append_assoc, zero-add, arith, append-nil, Has, Production, Rule, Target, IsAccepted, Grammar, HasKind}
+use Common.{Inherited, IsArgument, IsRule, Kind, Synthesized, defined_kind, item_at, item_kinds, symbol_kinds, used_kind, IsLegal}
+use Common.{Passes, left_passes, Forest, IsTreeOf, Tree, leaf, more, node, node_count, none, place_path, tree_at, child, child_of}
+use Common.{HasRule, IsNodeAt}
 use Rattle.ag_grammar.proofs.grammars.OneSolution.{counterpart}
 use Rattle.passassign.proofs.slots.Linked.{attribute_within, same_parts}
-use Rattle.origins.specs.Causes.{HoldsAt, HoldsIn, place_path, tree_at}
-use Rattle.origins.specs.Origins.{child, child_of}
-use Rattle.causes.specs.Rules.{HasRule, IsNodeAt}
+use Rattle.origins.specs.Causes.{HoldsAt, HoldsIn}
 use Rattle.causes.proofs.InIndex.{tree_further}
 use Rattle.origins.proofs.Induction.{Closed, ClosedIn, attribute_induction}
 use Rattle.causes.proofs.Instances.{Instance, IsInstance, instance_among, instance_at, instance_count, instances}

@@ -1,31 +1,15 @@
 -- In a solution, each rule of a chain has an error, and the chain is short.
-use Rattle.std.proofs.Common.{ℕ, zero, suc, ◌≡◌, ◌*◌, ◌<◌, inl, inr, List, [], ◌∷◌, ◌++◌, map, Option, Some, None}
-use Rattle.std.proofs.Common.{slice_get, refl, ap, sym, subst, ◌∙◌, arith}
-use Rattle.std.proofs.lemmas.List.{map-append}
-use Rattle.std.proofs.lemmas.Option.{slice_get_within}
+use Rattle.causes.proofs.Common
+use Common.{ℕ, zero, suc, ◌≡◌, ◌*◌, ◌<◌, inl, inr, List, [], ◌∷◌, ◌++◌, map, Option, Some, None, slice_get, refl, ap, sym, subst}
+use Common.{◌∙◌, arith, map-append, slice_get_within, Text, Item, Production, Rule, Target, value_of, IsAccepted, Grammar}
+use Common.{HasKind, Inherited, IsArgument, IsRule, Synthesized, defined_kind, item_at, item_kinds, stored_items, used_kind}
+use Common.{IsLegal, Passes, AnyRule, RulesHold, Solves, SolvesAll, Valuation, at, below, children, rest, Forest, IsTreeOf, Tree}
+use Common.{leaf, more, node, node_count, none, fault_at, fault_of, Table, environment, value_at, IsSource, place_path, tree_at}
+use Common.{values_at, child, child_of, GoesTo, HasNoError, IsChain, IsPassedFrom, itself, longer, in_tree, HasRule, IsNodeAt}
+use Common.item
 use Rattle.ag_value.specs.declared.value.Value.TheVariants.{outs-Text}
-use Rattle.ag_value.specs.declared.value.Value.{Text}
-use Rattle.ag_grammar.specs.declared.grammar.Item.TheVariants as item
-use Rattle.ag_grammar.specs.declared.grammar.Item.{Item}
-use Rattle.ag_grammar.specs.declared.grammar.Production.{Production}
-use Rattle.ag_grammar.specs.declared.grammar.Rule.{Rule}
-use Rattle.ag_grammar.specs.declared.grammar.Target.{Target}
-use Rattle.ag_grammar.specs.expressions.Evaluation.{value_of}
-use Rattle.ag_grammar.specs.grammars.Accepted.{IsAccepted}
-use Rattle.ag_grammar.specs.grammars.AttributeGrammar.{Grammar, HasKind, Inherited, IsArgument, IsRule}
-use Rattle.ag_grammar.specs.grammars.AttributeGrammar.{Synthesized, defined_kind, item_at, item_kinds, stored_items, used_kind}
-use Rattle.ag_grammar.specs.grammars.Passes.{IsLegal, Passes}
-use Rattle.ag_grammar.specs.grammars.Solution.{AnyRule, RulesHold, Solves, SolvesAll, Valuation, at, below, children, rest}
-use Rattle.ag_grammar.specs.grammars.Tree.{Forest, IsTreeOf, Tree, leaf, more, node, node_count, none}
-use Rattle.ag_value.specs.operations.Arguments.{fault_at, fault_of}
 use Rattle.passassign.proofs.slots.Few.{few_rules}
-use Rattle.origins.specs.Arising.{Table, environment, value_at}
-use Rattle.origins.specs.Causes.{IsSource, place_path, tree_at, values_at}
-use Rattle.origins.specs.Origins.{child, child_of}
 use Rattle.origins.proofs.Caused.{not_clean}
-use Rattle.causes.specs.Chains.{GoesTo, HasNoError, IsChain, IsPassedFrom, itself, longer}
-use Rattle.causes.specs.Laws.{in_tree}
-use Rattle.causes.specs.Rules.{HasRule, IsNodeAt}
 use Rattle.causes.proofs.Dependence.{DependsOn, argument_kind, dependencies_short}
 use Rattle.causes.proofs.InIndex.{tree_further, values_further}
 use Rattle.causes.proofs.InTree.{same_path}

@@ -1,20 +1,12 @@
 -- Where an error has a cause, one is found along the nodes of the tree.
-use Rattle.std.proofs.Common.{ℕ, zero, suc, ◌≡◌, ◌<◌, inl, inr, List, [], ◌∷◌, ◌++◌, map, Some, slice_get, refl, ap, ◌∙◌, sym}
-use Rattle.std.proofs.Common.{subst, arith}
-use Rattle.std.proofs.lemmas.List.{map-append}
-use Rattle.ag_grammar.specs.declared.grammar.Production.{Production}
-use Rattle.ag_grammar.specs.declared.grammar.Rule.{Rule}
-use Rattle.ag_grammar.specs.declared.grammar.Target.{Target}
-use Rattle.ag_grammar.specs.grammars.Accepted.{IsAccepted}
-use Rattle.ag_grammar.specs.grammars.AttributeGrammar.{Grammar, HasKind, Inherited, IsProduction, Kind, Synthesized, used_kind}
-use Rattle.ag_grammar.specs.grammars.AttributeGrammar.{defined_kind, item_at, item_kinds}
-use Rattle.ag_grammar.specs.grammars.Solution.{Valuation}
-use Rattle.ag_grammar.specs.grammars.Tree.{Forest, Tree, node}
-use Rattle.origins.specs.Arising.{Table, is_arising}
-use Rattle.origins.specs.Causes.{HasCause, IsRuleAt, IsSource, here, passed, place_path, tree_at}
-use Rattle.causes.specs.Chains.{GoesTo, IsChain, IsPassedFrom, Reading, itself, longer}
+use Rattle.causes.proofs.Common
+use Common.{ℕ, zero, suc, ◌≡◌, ◌<◌, inl, inr, List, [], ◌∷◌, ◌++◌, map, Some, slice_get, refl, ap, ◌∙◌, sym, subst, arith}
+use Common.{map-append, Production, Rule, Target, IsAccepted, Grammar, HasKind, Inherited, IsProduction, Kind, Synthesized}
+use Common.{used_kind, defined_kind, item_at, item_kinds, Valuation, Forest, Tree, node, Table, is_arising, HasCause, IsSource}
+use Common.{here, passed, place_path, tree_at, GoesTo, IsChain, IsPassedFrom, Reading, itself, longer, in_tree}
+use Rattle.origins.specs.Causes.{IsRuleAt}
 use Rattle.causes.proofs.Instances.{kinds_differ, last_same}
-use Rattle.causes.specs.Laws.{CauseIsFound, IsFound, in_tree}
+use Rattle.causes.specs.Laws.{CauseIsFound, IsFound}
 
 -- a chain with one rule more at its beginning
 prepend : (R : Reading) (places : List ℕ) (target : Target) (there : List ℕ) (from : Target)

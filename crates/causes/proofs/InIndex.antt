@@ -1,52 +1,33 @@
 -- What is read along the nodes of an index is what the tree has there.
-use Rattle.std.proofs.Common.{ℕ, zero, suc, ◌≡◌, ◌-◌, ◌≤◌, List, [], ◌∷◌, ◌++◌, All, map, reverse, length, Bool, true, false}
-use Rattle.std.proofs.Common.{cond, Option, Some, None, Result, Ok, Err, slice_get, refl, ap, sym, subst, ◌∙◌, arith}
-use Rattle.std.specs.Prelude.{nat_eq}
-use Rattle.std.proofs.lemmas.List.{map-append, reverse-append, reverse-reverse}
-use Rattle.std.proofs.lemmas.Option.{slice_get_within}
-use Rattle.ag_value.specs.declared.value.Value.{Value}
+use Rattle.causes.proofs.Common
+use Common.{ℕ, zero, suc, ◌≡◌, ◌-◌, ◌≤◌, List, [], ◌∷◌, ◌++◌, All, map, reverse, length, Bool, true, false, cond, Option, Some}
+use Common.{None, slice_get, refl, ap, sym, subst, ◌∙◌, arith, nat_eq, map-append, reverse-append, reverse-reverse}
+use Common.{slice_get_within, Value, Item, Production, Rule, Target, IsAccepted, IsNormal, Grammar, IsProduction, stored_items}
+use Common.{IsLegal, Passes, IsLastPass, NoRule, SolvesAll, AtEachNodeOf, Valuation, WellAt, at, below, children, left_passes}
+use Common.{rest, Fits, FitsAll, Forest, Tree, leaf, more, node, none, version_two, value_of, fault_of, Table, arises}
+use Common.{environment, is_same_error, value_at, tree_at, values_at, child, child_of, IsNode, table_of, TreeIndex, DoesNext}
+use Common.{DoesNextAt, IsCause, IsChain, Reading, itself, longer, places_of, IsNumberAt, Leads, in_file, IsInTree, in_tree, Next}
+use Common.item
+use Common.rule_does
+use Rattle.std.proofs.Common.{Result, Ok, Err}
 use Rattle.ag_value.specs.Well.{IsWell}
 use Rattle.ag_grammar.specs.declared.direction.Direction.{Direction}
-use Rattle.ag_grammar.specs.declared.grammar.Item.TheVariants as item
-use Rattle.ag_grammar.specs.declared.grammar.Item.{Item}
-use Rattle.ag_grammar.specs.declared.grammar.Production.{Production}
-use Rattle.ag_grammar.specs.declared.grammar.Rule.{Rule}
-use Rattle.ag_grammar.specs.declared.grammar.Target.{Target}
-use Rattle.ag_grammar.specs.grammars.Accepted.{IsAccepted, IsNormal}
-use Rattle.ag_grammar.specs.grammars.AttributeGrammar.{Grammar, IsProduction, stored_items}
-use Rattle.ag_grammar.specs.grammars.Passes.{IsLegal, Passes}
-use Rattle.ag_grammar.specs.grammars.Running.{IsLastPass}
-use Rattle.ag_grammar.specs.grammars.Solution.{NoRule, SolvesAll, AtEachNodeOf, Valuation, WellAt, at, below, children}
-use Rattle.ag_grammar.specs.grammars.Solution.{left_passes, rest}
-use Rattle.ag_grammar.specs.grammars.Tree.{Fits, FitsAll, Forest, Tree, leaf, more, node, none}
 use Rattle.treefile.specs.declared.reading.FrameFault.{FrameFault}
 use Rattle.treefile.specs.records.OneTree.{IsRecorded}
 use Rattle.treefile.specs.records.Records.{copies_of, values_up_to}
-use Rattle.treefile.specs.records.TreeFile.{version_two}
 use Rattle.treefile.specs.framing.Backward.{next_before, some_body}
 use Rattle.treefile.specs.framing.Ending.{body_before, header_bytes}
 use Rattle.treefile.proofs.records.Copies.{copies_well, stored_well}
 use Rattle.treefile.proofs.records.Fitting.{numbered}
 use Rattle.treefile.proofs.records.Values.{values_well}
-use Rattle.ag_grammar.specs.expressions.Evaluation.{value_of}
-use Rattle.ag_value.specs.operations.Arguments.{fault_of}
-use Rattle.origins.specs.Arising.{Table, arises, environment, is_same_error, value_at}
-use Rattle.origins.specs.Causes.{exchanged_below, is_still, tree_at, values_at}
-use Rattle.origins.specs.Origins.{child, child_of}
-use Rattle.origins.specs.Records.{IsNode}
-use Rattle.origins.specs.Rows.{table_of}
+use Rattle.origins.specs.Causes.{exchanged_below, is_still}
 use Rattle.origins.proofs.Arguments.{argument_value, row}
 use Rattle.origins.proofs.Same.{node_is_no_token, one_body}
 use Rattle.tree_index.specs.Nodes.{HasChild, HasNodes, IsIndexOf, IsKid, IsSubtreeAt, Subtree, back_from, kids, nodes_of}
 use Rattle.tree_index.specs.Nodes.{record_of}
-use Rattle.tree_index.specs.declared.index.TreeIndex.{TreeIndex}
 use Rattle.tree_index.proofs.Kids.{record_there, root_occurs}
-use Rattle.causes.specs.Chains.{DoesNext, DoesNextAt, IsCause, IsChain, Reading, itself, longer, places_of}
-use Rattle.causes.specs.Indexed.{AreLed, IsAtPlaces, IsCauseIn, IsEndAt, IsNumberAt, Leads, in_file, way}
-use Rattle.causes.specs.Laws.{IsInTree, in_tree}
+use Rattle.causes.specs.Indexed.{AreLed, IsAtPlaces, IsCauseIn, IsEndAt, way}
 use Rattle.causes.specs.declared.chain.PathNode.{PathNode}
-use Rattle.causes.specs.declared.next_rule.Next.{Next}
-use Rattle.causes.specs.declared.next_rule.Next.TheVariants as rule_does
 use Rattle.causes.proofs.InTree.{found_is_cause}
 
 reverse_more : {X : Type 0} (x : X) (xs : List X) → reverse (x ∷ xs) ≡ reverse xs ++ x ∷ []

@@ -1,13 +1,9 @@
 -- If a cause is found along the nodes of a tree, the error has a cause.
-use Rattle.std.proofs.Common.{ℕ, suc, ◌≡◌, inl, inr, List, [], ◌∷◌, ◌++◌, map, refl, ap, ◌∙◌, sym, subst, arith}
-use Rattle.ag_grammar.specs.declared.grammar.Target.{Target}
-use Rattle.ag_grammar.specs.grammars.AttributeGrammar.{Grammar}
-use Rattle.ag_grammar.specs.grammars.Solution.{Valuation, at}
-use Rattle.ag_grammar.specs.grammars.Tree.{Tree}
-use Rattle.origins.specs.Causes.{HasCause, here, passed, place_path, values_at}
-use Rattle.causes.specs.declared.next_rule.Next.TheVariants as rule_does
-use Rattle.causes.specs.Chains.{GoesTo, IsChain, IsPassedFrom, itself, longer}
-use Rattle.causes.specs.Laws.{FoundIsCause, IsInTree, in_tree}
+use Rattle.causes.proofs.Common
+use Common.{ℕ, suc, ◌≡◌, inl, inr, List, [], ◌∷◌, ◌++◌, map, refl, ap, ◌∙◌, sym, subst, arith, Target, Grammar, Valuation, at}
+use Common.{Tree, HasCause, here, passed, place_path, values_at, GoesTo, IsChain, IsPassedFrom, itself, longer, IsInTree, in_tree}
+use Common.rule_does
+use Rattle.causes.specs.Laws.{FoundIsCause}
 
 -- a list of places determines the path of child numbers, which count from 0
 pub same_path : (xs ys : List ℕ) → map suc xs ≡ map suc ys → xs ≡ ys

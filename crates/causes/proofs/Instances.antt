@@ -1,20 +1,13 @@
 -- The attribute instances of a tree.
-use Rattle.std.proofs.Common.{ℕ, zero, suc, ◌≡◌, ◌+◌, ◌*◌, ◌<◌, ◌⊎◌, inl, inr, List, [], ◌∷◌, ◌++◌, length, Option, Some, None}
-use Rattle.std.proofs.Common.{slice_get, refl, ap, sym, subst, ◌∙◌, append_assoc, zero-add, arith}
+use Rattle.causes.proofs.Common
+use Common.{ℕ, zero, suc, ◌≡◌, ◌+◌, ◌*◌, ◌<◌, ◌⊎◌, inl, inr, List, [], ◌∷◌, ◌++◌, length, Option, Some, None, slice_get, refl, ap}
+use Common.{sym, subst, ◌∙◌, append_assoc, zero-add, arith, append-nil, length-append, Has, Item, Production, Grammar, Inherited}
+use Common.{IsProduction, Kind, Synthesized, item_at, item_kinds, stored_items, symbol_kinds, Fits, FitsAll, Forest, IsTreeOf}
+use Common.{Tree, leaf, more, node, node_count, node_counts, none, place_path, tree_at, child, child_of, IsNodeAt}
+use Common.item
 use Rattle.std.proofs.lemmas.Bool.{cases_eq}
-use Rattle.std.proofs.lemmas.List.{append-nil, length-append}
-use Rattle.ag_grammar.specs.Lists.{Has}
-use Rattle.ag_grammar.specs.declared.grammar.Item.TheVariants as item
-use Rattle.ag_grammar.specs.declared.grammar.Item.{Item}
-use Rattle.ag_grammar.specs.declared.grammar.Production.{Production}
 use Rattle.ag_grammar.specs.declared.grammar.Terminal.TheVariants.{Literal, Class}
-use Rattle.ag_grammar.specs.grammars.AttributeGrammar.{Grammar, Inherited, IsProduction, Kind, Synthesized, item_at, item_kinds}
-use Rattle.ag_grammar.specs.grammars.AttributeGrammar.{stored_items, symbol_kinds}
-use Rattle.ag_grammar.specs.grammars.Tree.{Fits, FitsAll, Forest, IsTreeOf, Tree, leaf, more, node, node_count, node_counts, none}
 use Rattle.ag_grammar.proofs.grammars.Children as children
-use Rattle.origins.specs.Causes.{place_path, tree_at}
-use Rattle.origins.specs.Origins.{child, child_of}
-use Rattle.causes.specs.Rules.{IsNodeAt}
 use Rattle.causes.proofs.InIndex.{IsSomeFit, fits_at, tree_further}
 
 pub kinds_differ : Inherited ≡ Synthesized → ⊥

@@ -1,3 +1,4 @@
+pub mod Common
 pub mod ChainSteps
 pub mod Complete
 pub mod Dependence

@@ -1,6 +1,5 @@
 -- Chains along a relation without cycles, whose members are all in a list: they are shorter than the list.
-use Rattle.std.proofs.Common.{ℕ, zero, suc, ◌≡◌, ◌<◌, List, [], ◌∷◌, length, Some, slice_get, refl, sym, subst, arith}
-use Rattle.ag_grammar.specs.Lists.{Has}
+use Rattle.causes.proofs.Common.{ℕ, zero, suc, ◌≡◌, ◌<◌, List, [], ◌∷◌, length, Some, slice_get, refl, sym, subst, arith, Has}
 
 -- a list without the member at an index
 abbrev without : {X : Type 0} → List X → ℕ → List X

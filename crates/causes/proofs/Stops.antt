@@ -1,23 +1,10 @@
 -- Where a chain of rules that pass an error on stops.
-use Rattle.std.proofs.Common.{ℕ, zero, suc, ◌≡◌, ◌+◌, ◌<◌, inl, inr, true, false, ◌&&◌, List, [], ◌∷◌, ◌++◌, drop, take}
-use Rattle.std.proofs.Common.{None, Option, Some, slice_get, ap, subst, sym, ◌∙◌, arith}
-use Rattle.std.specs.Prelude.{IfNone, IfSome, Result, Ok, Err, nat_eq}
-use Rattle.std.specs.Result.{OkIff, result_ok}
+use Rattle.causes.proofs.Common
+use Common.{ℕ, zero, suc, ◌≡◌, ◌+◌, ◌<◌, inl, inr, true, false, ◌&&◌, List, [], ◌∷◌, ◌++◌, drop, take, None, Option, Some}
+use Common.{slice_get, ap, subst, sym, ◌∙◌, arith, IfNone, IfSome, Result, Ok, Err, nat_eq, OkIff, result_ok, Value, DifferIn}
+use Common.{Production, Rule, Target, value_of, Grammar, fault_of, Table, environment, is_arising, AnswersSource, table_of}
+use Common.{TreeIndex, HasNoError, HasNoErrorAt, IsChain, HasNoChildAt, LeadsNowhere, Stops, StopsAfter, in_file}
 use Rattle.std.proofs.lemmas.Bool.{both_ways, cases_lt, eq-eqb}
-use Rattle.ag_value.specs.declared.value.Value.{Value}
-use Rattle.ag_grammar.specs.Lists.{DifferIn}
-use Rattle.ag_grammar.specs.declared.grammar.Production.{Production}
-use Rattle.ag_grammar.specs.declared.grammar.Rule.{Rule}
-use Rattle.ag_grammar.specs.declared.grammar.Target.{Target}
-use Rattle.ag_grammar.specs.expressions.Evaluation.{value_of}
-use Rattle.ag_grammar.specs.grammars.AttributeGrammar.{Grammar}
-use Rattle.ag_value.specs.operations.Arguments.{fault_of}
-use Rattle.origins.specs.Arising.{Table, environment, is_arising}
-use Rattle.origins.specs.Causes.{AnswersSource}
-use Rattle.origins.specs.Rows.{table_of}
-use Rattle.tree_index.specs.declared.index.TreeIndex.{TreeIndex}
-use Rattle.causes.specs.Chains.{HasNoError, HasNoErrorAt, IsChain}
-use Rattle.causes.specs.Indexed.{HasNoChildAt, LeadsNowhere, Stops, StopsAfter, in_file}
 
 -- no rule before a number is for a target
 abbrev pub NoneBefore : List Rule → Target → ℕ → Type 0

@@ -1,13 +1,9 @@
 -- The examples of conflicts.
-use Rattle.std.proofs.Common.{◌≡◌, ℕ, zero, suc, inl, inr, refl, arith, sym}
-use Rattle.std.proofs.lemmas.Bool.{cases_eq}
-use Rattle.ag_grammar.specs.declared.grammar.Production.{Production}
-use Rattle.ag_grammar.specs.declared.grammar.Terminal.TheVariants.{Literal}
-use Rattle.ag_grammar.specs.grammars.AttributeGrammar.{IsProduction}
+use Rattle.llparse.proofs.Common
+use Common.{◌≡◌, ℕ, zero, suc, inl, inr, refl, arith, sym, cases_eq, Production, Literal, IsProduction, of_production, here}
+use Common.{inside, HasNoConflict, IsConflict, IsChoice, IsLeastConflict}
+use Common.ahead
 use Rattle.ag_grammar.specs.grammars.Sample.{sample}
-use Rattle.llparse.specs.declared.ahead.Ahead.TheVariants as ahead
-use Rattle.llparse.specs.Ahead.{of_production, here, inside, HasNoConflict, IsConflict}
-use Rattle.llparse.specs.table.Tables.{IsChoice, IsLeastConflict}
 use Rattle.llparse.specs.Worked.{left_recursive, production_more, production_one}
 
 pub left_recursion : IsConflict left_recursive 0 1 (ahead.Terminal (Literal 0))

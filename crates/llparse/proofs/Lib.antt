@@ -1,3 +1,4 @@
+pub mod Common
 pub mod answers
 pub mod Examples
 pub mod look_ahead

@@ -1,16 +1,11 @@
 -- A grammar without a conflict has at most one tree of a list of words.
-use Rattle.std.proofs.Common.{ap, ◌≡◌, ◌<◌, ℕ, List, [], ◌∷◌, ◌++◌, ◌⊎◌, inl, inr, refl, sym, append_assoc, arith}
-use Rattle.std.proofs.Common.{slice_get}
-use Rattle.ag_grammar.specs.declared.grammar.Item.TheVariants as item
-use Rattle.ag_grammar.specs.declared.grammar.Item.{Item}
-use Rattle.ag_grammar.specs.declared.grammar.Production.{Production}
-use Rattle.ag_grammar.specs.declared.grammar.Terminal.TheVariants.{Literal, Class}
-use Rattle.ag_grammar.specs.grammars.AttributeGrammar.{Grammar, stored_items, IsProduction, literal_text}
-use Rattle.ag_grammar.specs.grammars.Tree.{Tree, leaf, node, Forest, none, more, Fits, FitsAll}
-use Rattle.ag_grammar.specs.grammars.Yield.{Lexeme, right_side, yield_along, yield_of}
-use Rattle.llparse.specs.declared.ahead.Ahead.{Ahead}
-use Rattle.llparse.specs.Ahead.{IsNullable, by_production, AreNullable, nothing, a_symbol, InFirst, of_production, InFirstOf}
-use Rattle.llparse.specs.Ahead.{here, inside, later, InFollow, at_end, next, last, Predicts, HasNoConflict, ahead_of}
+use Rattle.llparse.proofs.Common
+use Common.{ap, ◌≡◌, ◌<◌, ℕ, List, [], ◌∷◌, ◌++◌, ◌⊎◌, inl, inr, refl, sym, append_assoc, arith, slice_get, Item, Production}
+use Common.{Literal, Class, Grammar, stored_items, IsProduction, literal_text, Tree, leaf, node, Forest, none, more, Fits}
+use Common.{FitsAll, Lexeme, yield_along, yield_of, Ahead, IsNullable, by_production, AreNullable, nothing, a_symbol, InFirst}
+use Common.{of_production, InFirstOf, here, inside, later, InFollow, at_end, next, last, Predicts, HasNoConflict, ahead_of}
+use Common.item
+use Rattle.ag_grammar.specs.grammars.Yield.{right_side}
 
 module _ (g : Grammar) where
   abbrev Tr : ℕ → Tree → Type 0

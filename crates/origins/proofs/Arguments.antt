@@ -1,27 +1,16 @@
 -- The indices of the values of arguments in the record of a node in the file of the last pass.
-use Rattle.std.proofs.Common.{◌≡◌, ℕ, zero, suc, ◌+◌, ◌<◌, ◌≤◌, true, List, [], ◌∷◌, ◌++◌, length, get_or, take, map}
-use Rattle.std.proofs.Common.{Option, Some, None, slice_get, refl, ap, ◌∙◌, arith, add_assoc, zero-add, pos}
-use Rattle.std.specs.Prelude.{nat_le}
-use Rattle.std.proofs.lemmas.Bool.{le-leb}
+use Rattle.origins.proofs.Common
+use Common.{◌≡◌, ℕ, zero, suc, ◌+◌, ◌<◌, ◌≤◌, true, List, [], ◌∷◌, ◌++◌, length, get_or, take, map, Option, Some, None, slice_get}
+use Common.{refl, ap, ◌∙◌, arith, add_assoc, zero-add, pos, nat_le, le-leb, slice_get_within, Value, Num, Each, Item, Production}
+use Common.{Target, Literal, Class, Grammar, HasKind, Inherited, Synthesized, used_kind, item_at, item_kinds, stored_items}
+use Common.{symbol_kinds, IsLegal, Passes, IsLastPass, NoRule, SolvesAll, Valuation, at, children, rest, Fits, FitsAll, Forest}
+use Common.{Tree, leaf, node, none, more, table_of}
+use Common.item
 use Rattle.std.proofs.lemmas.List.{get_or-append-add, length-take-le}
-use Rattle.std.proofs.lemmas.Option.{slice_get_within}
-use Rattle.ag_value.specs.declared.value.Value.{Value, Num}
-use Rattle.ag_grammar.specs.Lists.{Each}
-use Rattle.ag_grammar.specs.declared.grammar.Item.{Item}
-use Rattle.ag_grammar.specs.declared.grammar.Item.TheVariants as item
-use Rattle.ag_grammar.specs.declared.grammar.Production.{Production}
 use Rattle.ag_grammar.specs.declared.grammar.Symbol.{Symbol}
-use Rattle.ag_grammar.specs.declared.grammar.Target.{Target}
-use Rattle.ag_grammar.specs.declared.grammar.Terminal.TheVariants.{Literal, Class}
-use Rattle.ag_grammar.specs.grammars.AttributeGrammar.{Grammar, HasKind, Inherited, Synthesized, used_kind, item_at}
-use Rattle.ag_grammar.specs.grammars.AttributeGrammar.{item_kinds, stored_items, symbol_kinds}
-use Rattle.ag_grammar.specs.grammars.Passes.{IsLegal, Passes}
-use Rattle.ag_grammar.specs.grammars.Running.{IsLastPass}
-use Rattle.ag_grammar.specs.grammars.Solution.{NoRule, SolvesAll, Valuation, at, children, rest}
-use Rattle.ag_grammar.specs.grammars.Tree.{Fits, FitsAll, Forest, Tree, leaf, node, none, more}
 use Rattle.treefile.specs.records.Records.{copies_of, copy_of, left_synthesized, synthesized_count, synthesized_passes}
 use Rattle.treefile.specs.records.Records.{values_up_to}
-use Rattle.origins.specs.Rows.{attribute_count, copied, copies_before, count_of_symbol, table_of}
+use Rattle.origins.specs.Rows.{attribute_count, copied, copies_before, count_of_symbol}
 
 -- if each pass is at most k, a record of pass k has the values of all attributes, each at its number
 own_value : (k : ℕ) (ps : List ℕ) (e : ℕ → Value) (following : List Value) (a : ℕ) (d : Value) → Each (λ p. p ≤ k) ps

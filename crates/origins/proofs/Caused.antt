@@ -1,25 +1,15 @@
 -- Each error of a tree has a cause.
-use Rattle.std.proofs.Common.{ℕ, zero, suc, ◌≡◌, ◌+◌, ◌<◌, ◌≤◌, ◌⊎◌, inl, inr, Bool, true, false, cond, List, [], ◌∷◌, ◌++◌}
-use Rattle.std.proofs.Common.{length, Option, Some, None, slice_get, refl, ap, ◌∙◌, sym, zero-add, pos, arith}
-use Rattle.std.specs.Prelude.{nat_lt}
-use Rattle.std.proofs.lemmas.Bool.{cases_Bool, cases_lt, eq-eqb, le-ltb, lt-ltb, ltb-false, ltb-true}
-use Rattle.std.proofs.lemmas.Option.{slice_get_past}
-use Rattle.ag_value.specs.Spelling.{number_of}
-use Rattle.ag_value.specs.declared.value.ErrorCode.{ErrorCode}
-use Rattle.ag_value.specs.declared.value.Value.{Value, Num, Text}
-use Rattle.ag_value.specs.declared.value.Value.TheVariants.{outs-Num, outs-Text}
-use Rattle.ag_grammar.specs.declared.grammar.Rule.{Rule}
-use Rattle.ag_grammar.specs.declared.grammar.Target.{Target}
-use Rattle.ag_grammar.specs.expressions.Evaluation.{value_of}
-use Rattle.ag_value.specs.operations.Arguments.{fault_of}
-use Rattle.ag_grammar.specs.grammars.AttributeGrammar.{Grammar, IsArgument}
-use Rattle.ag_grammar.specs.grammars.Solution.{AnyRule, Holds, Solves, SolvesAll, Valuation, at, below, children, rest}
-use Rattle.ag_grammar.specs.grammars.Tree.{Forest, Tree, leaf, node, none, more}
-use Rattle.origins.specs.Arising.{Table, arises, environment, exchanged, is_arising, is_same_error, value_at}
+use Rattle.origins.proofs.Common
+use Common.{ℕ, zero, suc, ◌≡◌, ◌+◌, ◌<◌, ◌≤◌, ◌⊎◌, inl, inr, Bool, true, false, cond, List, [], ◌∷◌, ◌++◌, length, Option, Some}
+use Common.{None, slice_get, refl, ap, ◌∙◌, sym, zero-add, pos, arith, nat_lt, cases_Bool, cases_lt, eq-eqb, le-ltb, lt-ltb}
+use Common.{ltb-false, ltb-true, slice_get_past, number_of, ErrorCode, Value, Num, Text, outs-Num, outs-Text, Rule, Target}
+use Common.{value_of, fault_of, Grammar, IsArgument, SolvesAll, Valuation, at, below, children, rest, Forest, Tree, leaf, node}
+use Common.{none, more, Table, environment, exchanged, is_arising, is_same_error, value_at, child_of}
+use Rattle.ag_grammar.specs.grammars.Solution.{AnyRule, Holds, Solves}
+use Rattle.origins.specs.Arising.{arises}
 use Rattle.origins.specs.Causes.{ErrorsHaveCauses, HasCause, IsRuleAt, IsSource, exchanged_below, here, is_still, passed}
 use Rattle.origins.specs.Causes.{place_path, tree_at, values_at}
 use Rattle.origins.specs.Origins as origins
-use Rattle.origins.specs.Origins.{child_of}
 use Rattle.origins.proofs.Induction.{Closed, ClosedIn, attribute_induction}
 
 pub number_clean : fault_of (Num (pos 0)) ≡ None

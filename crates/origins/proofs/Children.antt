@@ -1,24 +1,15 @@
 -- The children of a node in the order of a walk.
-use Rattle.std.proofs.Common.{◌≡◌, ℕ, zero, suc, ◌+◌, ◌-◌, ◌<◌, ◌≤◌, inl, inr, List, [], ◌∷◌, ◌++◌, length, drop, map, reverse}
-use Rattle.std.proofs.Common.{Some, None, slice_get, refl, ap, ◌∙◌, add-zero, zero-add, arith}
-use Rattle.std.specs.List.{flat_map}
+use Rattle.origins.proofs.Common
+use Common.{◌≡◌, ℕ, zero, suc, ◌+◌, ◌-◌, ◌<◌, ◌≤◌, inl, inr, List, [], ◌∷◌, ◌++◌, length, drop, map, reverse, Some, None}
+use Common.{slice_get, refl, ap, ◌∙◌, add-zero, zero-add, arith, flat_map, append-nil, reverse-append, get_or_from_slice_get}
+use Common.{slice_get-get_or, slice_get_within, Item, Grammar, Direction, LeftToRight, RightToLeft, Passes, nth, NoRule}
+use Common.{SolvesAll, Valuation, rest, FitsAll, Forest, Tree, none, more, IsRecorded, prefix, prefix_all, version_two, HasOrigin}
+use Common.{child, origin_counts, Open}
 use Rattle.std.proofs.lemmas.Grind.{flat_map-append}
-use Rattle.std.proofs.lemmas.List.{append-nil, get_or-reverse, length-reverse, map-append, reverse-append, reverse-reverse}
-use Rattle.std.proofs.lemmas.Option.{get_or_from_slice_get, slice_get-get_or, slice_get_within}
-use Rattle.ag_grammar.specs.declared.grammar.Item.{Item}
-use Rattle.ag_grammar.specs.grammars.AttributeGrammar.{Grammar}
-use Rattle.ag_grammar.specs.declared.direction.Direction.{Direction}
-use Rattle.ag_grammar.specs.declared.direction.Direction.TheVariants.{LeftToRight, RightToLeft}
-use Rattle.ag_grammar.specs.grammars.Passes.{Passes, nth}
-use Rattle.ag_grammar.specs.grammars.Solution.{AtEachNodeOf, NoRule, SolvesAll, Valuation, WellAt, rest}
-use Rattle.ag_grammar.specs.grammars.Tree.{FitsAll, Forest, Tree, none, more}
-use Rattle.treefile.specs.records.OneTree.{IsRecorded}
-use Rattle.treefile.specs.records.Orders.{prefix, prefix_all}
+use Rattle.std.proofs.lemmas.List.{get_or-reverse, length-reverse, map-append, reverse-reverse}
+use Rattle.ag_grammar.specs.grammars.Solution.{AtEachNodeOf, WellAt}
 use Rattle.treefile.specs.records.Records.{bodies_of, bodies_of_all}
-use Rattle.treefile.specs.records.TreeFile.{version_two}
-use Rattle.origins.specs.Origins.{HasOrigin, child, origin_counts}
 use Rattle.origins.specs.Walking.{Kid, OccursIn, bodies_of_kid, count_in, in_order, kids, last_of, way}
-use Rattle.origins.specs.declared.walk.Open.{Open}
 
 reverse_more : {X : Type 0} (x : X) (xs : List X) → reverse (x ∷ xs) ≡ reverse xs ++ x ∷ []
 reverse_more x xs = reverse-append (x ∷ []) xs

@@ -1,23 +1,14 @@
 -- Induction over the attribute instances of a tree: what every rule passes on from its arguments to its target holds of all
 -- instances.
 -- The induction goes pass by pass, and in a pass child by child, as does the proof that there is one solution.
-use Rattle.std.proofs.Common.{ℕ, zero, suc, ◌≡◌, ◌+◌, ◌-◌, ◌<◌, ◌≤◌, ◌⊎◌, inl, inr, List, [], ◌∷◌, ◌++◌, map, Option, Some, None}
-use Rattle.std.proofs.Common.{slice_get, length, refl, sym, subst, add-zero, zero-add, arith}
-use Rattle.ag_grammar.specs.Lists.{Each}
-use Rattle.ag_grammar.specs.declared.grammar.Item.TheVariants as item
-use Rattle.ag_grammar.specs.declared.grammar.Item.{Item}
-use Rattle.ag_grammar.specs.declared.grammar.Production.{Production}
-use Rattle.ag_grammar.specs.declared.grammar.Rule.{Rule}
-use Rattle.ag_grammar.specs.declared.grammar.Target.{Target}
-use Rattle.ag_grammar.specs.declared.grammar.Terminal.TheVariants.{Literal, Class}
-use Rattle.ag_grammar.specs.grammars.AttributeGrammar.{Grammar, stored_items, item_at, IsArgument, IsRule, Kind, Synthesized}
-use Rattle.ag_grammar.specs.grammars.AttributeGrammar.{Inherited, symbol_kinds, item_kinds, defined_kind, used_kind}
-use Rattle.ag_grammar.specs.grammars.Accepted.{IsAccepted, IsStart, IsComplete, IsNormal}
-use Rattle.ag_grammar.specs.grammars.Tree.{Tree, Forest, leaf, node, none, more, Fits, FitsAll, IsTreeOf}
-use Rattle.ag_grammar.specs.declared.direction.Direction.{Direction}
-use Rattle.ag_grammar.specs.declared.direction.Direction.TheVariants.{LeftToRight, RightToLeft}
-use Rattle.ag_grammar.specs.grammars.Passes.{Passes, item_passes, HasPass, direction_of, IsBefore, MayUse, IsLegalFor, IsLegal}
-use Rattle.ag_grammar.specs.grammars.Solution.{left_passes}
+use Rattle.origins.proofs.Common
+use Common.{ℕ, zero, suc, ◌≡◌, ◌+◌, ◌-◌, ◌<◌, ◌≤◌, ◌⊎◌, inl, inr, List, [], ◌∷◌, ◌++◌, map, Option, Some, None, slice_get, length}
+use Common.{refl, sym, subst, add-zero, zero-add, arith, Each, Item, Production, Rule, Target, Literal, Class, Grammar}
+use Common.{stored_items, item_at, IsArgument, IsRule, Kind, Synthesized, Inherited, symbol_kinds, item_kinds, defined_kind}
+use Common.{used_kind, IsAccepted, IsStart, IsComplete, IsNormal, Tree, Forest, leaf, node, none, more, Fits, FitsAll, IsTreeOf}
+use Common.{Direction, LeftToRight, RightToLeft, Passes, direction_of, IsLegal, left_passes}
+use Common.item
+use Rattle.ag_grammar.specs.grammars.Passes.{item_passes, HasPass, IsBefore, MayUse, IsLegalFor}
 use Rattle.ag_grammar.proofs.grammars.Children.{child, size, tree_ind, child_within, child_fits, child_exists}
 use Rattle.ag_grammar.proofs.grammars.OneSolution.{counterpart, may_le}
 use Rattle.origins.specs.Causes.{HoldsAt, HoldsIn, place_path}

@@ -1,26 +1,21 @@
 -- What is known of the value of an expression without an evaluation.
-use Rattle.std.proofs.Common.{◌≡◌, ℕ, ℤ, zero, suc, pos, negsuc, true, List, [], ◌∷◌, Option, Some, None, refl, ap}
-use Rattle.std.proofs.Common.{◌+◌, ◌<◌, ◌≤◌, add-one, drop, drop-cons, get_or, length, ◌∙◌, ◌+ℤ◌, ◌-ℤ◌, ◌*ℤ◌}
-use Rattle.std.proofs.lemmas.List.{drop_all}
-use Rattle.ag_value.specs.declared.value.ErrorCode.{ErrorCode}
+use Rattle.origins.proofs.Common
+use Common.{◌≡◌, ℕ, ℤ, zero, suc, pos, negsuc, true, List, [], ◌∷◌, Option, Some, None, refl, ap, ◌+◌, ◌<◌, ◌≤◌, add-one, drop}
+use Common.{drop-cons, get_or, length, ◌∙◌, ◌+ℤ◌, ◌-ℤ◌, ◌*ℤ◌, drop_all, ErrorCode, Value, out-Value, outs-Fault, outs-Num}
+use Common.{outs-Table, outs-Text, Node, value_in, truth, fault_of, has_fault, strict}
+use Common.value
+use Common.node_of
 use Rattle.ag_value.specs.declared.value.ErrorCode.TheVariants as error
-use Rattle.ag_value.specs.declared.value.Value.{Value, out-Value}
 use Rattle.ag_value.specs.declared.value.Value.TheOpen.{Value-F}
-use Rattle.ag_value.specs.declared.value.Value.TheVariants as value
-use Rattle.ag_value.specs.declared.value.Value.TheVariants.{outs-Fault, outs-Num, outs-Table, outs-Text}
 use Rattle.ag_grammar.specs.declared.syntax.node.BinaryCall.{BinaryCall}
 use Rattle.ag_grammar.specs.declared.syntax.node.BinaryCall.TheVariants as binary
-use Rattle.ag_grammar.specs.declared.syntax.node.Node.{Node}
 use Rattle.ag_grammar.specs.declared.syntax.node.Node.TheFolds.{fold-roll-Node}
-use Rattle.ag_grammar.specs.declared.syntax.node.Node.TheVariants as node_of
 use Rattle.ag_grammar.specs.declared.syntax.node.Operator.{Operator}
 use Rattle.ag_grammar.specs.declared.syntax.node.Operator.TheVariants as operator
 use Rattle.ag_grammar.specs.declared.syntax.node.UnaryCall.{UnaryCall}
 use Rattle.ag_grammar.specs.declared.syntax.node.UnaryCall.TheVariants as unary
-use Rattle.ag_grammar.specs.expressions.Evaluation.{value_in}
 use Rattle.std.specs.Fmt.{signed_decimal}
-use Rattle.ag_value.specs.operations.Arguments.{truth}
-use Rattle.ag_value.specs.operations.Arguments.{fault_of, has_fault, leftmost, strict}
+use Rattle.ag_value.specs.operations.Arguments.{leftmost}
 use Rattle.ag_grammar.specs.values.Calls.{binary_call_result, choice_of, chosen_at, put, unary_call_result}
 use Rattle.ag_value.specs.operations.Fitting.{fit}
 use Rattle.ag_value.specs.operations.Numbers.{decimal_of, number_at, number_value}

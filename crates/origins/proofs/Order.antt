@@ -1,10 +1,8 @@
 -- The order of the sentence among paths.
-use Rattle.std.proofs.Common.{◌≡◌, ℕ, zero, suc, ◌<◌, ◌⊎◌, true, false, ◌&&◌, inl, inr, List, [], ◌∷◌, Option, Some, None}
-use Rattle.std.proofs.Common.{refl, subst, arith}
-use Rattle.std.specs.Prelude.{nat_eq, nat_lt}
-use Rattle.std.proofs.lemmas.Bool.{and_from, and_parts, cases_Bool, eq-eqb, eqb-true, le-ltb}
-use Rattle.std.proofs.lemmas.Bool.{lt-ltb, ltb-true, or_cases, or_right, and_right}
-use Rattle.origins.specs.Origins.{is_before}
+use Rattle.origins.proofs.Common
+use Common.{◌≡◌, ℕ, zero, suc, ◌<◌, ◌⊎◌, true, false, ◌&&◌, inl, inr, List, [], ◌∷◌, Option, Some, None, refl, subst, arith}
+use Common.{nat_eq, nat_lt, and_from, and_parts, cases_Bool, eq-eqb, eqb-true, le-ltb, lt-ltb, ltb-true, or_cases, or_right}
+use Common.{and_right, is_before}
 use Rattle.origins.specs.Walking.{IsNotBefore, earlier, first_after}
 
 -- no path comes before itself

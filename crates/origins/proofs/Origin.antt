@@ -1,17 +1,10 @@
 -- An error that has a cause comes from an origin. So if a tree has no origin, no value of its solution is an error.
-use Rattle.std.proofs.Common.{ℕ, zero, suc, ◌≡◌, ◌<◌, inl, inr, Bool, true, cond, List, [], ◌∷◌, Option, Some, None}
-use Rattle.std.proofs.Common.{slice_get, refl, arith}
-use Rattle.std.specs.List.{count_by}
-use Rattle.std.proofs.lemmas.List.Sums.{sum_by-cons}
-use Rattle.ag_grammar.specs.declared.grammar.Rule.{Rule}
-use Rattle.ag_grammar.specs.grammars.AttributeGrammar.{Grammar}
-use Rattle.ag_grammar.specs.grammars.Solution.{Valuation, at, below, children, rest}
-use Rattle.ag_grammar.specs.grammars.Tree.{Forest, Tree, leaf, node, none, more}
-use Rattle.origins.specs.Arising.{Table, arising_count, is_arising}
-use Rattle.ag_value.specs.operations.Arguments.{fault_of}
+use Rattle.origins.proofs.Common
+use Common.{ℕ, zero, suc, ◌≡◌, ◌<◌, inl, inr, Bool, true, cond, List, [], ◌∷◌, Option, Some, None, slice_get, refl, arith}
+use Common.{count_by, sum_by-cons, Rule, Grammar, Valuation, at, below, children, rest, Forest, Tree, leaf, node, none, more}
+use Common.{Table, arising_count, is_arising, fault_of, HasOrigin, arising_at, child, child_of, origin_count, origin_counts}
 use Rattle.origins.specs.Causes.{IsRuleAt, here, passed, place_path, tree_at, values_at}
 use Rattle.origins.specs.Laws.{CausesHaveOrigins, NoneIsClean, NoneIsCounted}
-use Rattle.origins.specs.Origins.{HasOrigin, arising_at, child, child_of, origin_count, origin_counts}
 use Rattle.origins.proofs.Caused.{Explained, errors_have_causes}
 use Rattle.origins.proofs.Children.{none_below}
 use Rattle.origins.proofs.Induction.{holds_by}

@@ -1,19 +1,11 @@
 -- No error arises in a rule that only copies an occurrence.
-use Rattle.std.proofs.Common.{[], ◌≡◌, ℕ, Bool, true, false, cond, Option, Some, None, refl}
-use Rattle.std.specs.Prelude.{nat_eq}
-use Rattle.std.proofs.lemmas.Bool.{eqb-true}
-use Rattle.ag_value.specs.Spelling.{number_of}
-use Rattle.ag_value.specs.declared.value.ErrorCode.{ErrorCode}
-use Rattle.ag_value.specs.declared.value.ErrorCode.TheVariants.{Divide, Overflow}
-use Rattle.ag_value.specs.declared.value.Value.{Value}
-use Rattle.ag_value.specs.declared.value.Value.TheVariants as value
-use Rattle.ag_value.specs.declared.value.Value.TheVariants.{outs-Fault}
-use Rattle.ag_grammar.specs.declared.syntax.node.Node.{Node}
-use Rattle.ag_grammar.specs.declared.syntax.node.Node.TheVariants as node_of
-use Rattle.ag_grammar.specs.expressions.Evaluation.{value_of}
-use Rattle.ag_value.specs.operations.Arguments.{fault_of}
+use Rattle.origins.proofs.Common
+use Common.{[], ◌≡◌, ℕ, Bool, true, false, cond, Option, Some, None, refl, nat_eq, eqb-true, number_of, ErrorCode, Divide}
+use Common.{Overflow, Value, outs-Fault, Node, value_of, fault_of, exchanged, is_same_error}
+use Common.value
+use Common.node_of
 use Rattle.origins.proofs.Knowing.{value-Occurrence}
-use Rattle.origins.specs.Arising.{arises, exchanged, exchanged_to, is_same_error}
+use Rattle.origins.specs.Arising.{arises, exchanged_to}
 
 -- the error that is put in place of an error is not the same one
 another_error : (c : ErrorCode) (v : Value) (b : Bool) → nat_eq (number_of c) 1 ≡ b

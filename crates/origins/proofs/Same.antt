@@ -1,32 +1,17 @@
 -- What the record of a node in the file of the last pass says of its rules.
-use Rattle.std.proofs.Common.{◌≡◌, ℕ, suc, ◌^◌, ◌<◌, Bool, cond, List, [], ◌∷◌, ◌++◌, All, Option, Some, None}
-use Rattle.std.proofs.Common.{slice_get, refl, ap, sym, ◌∙◌}
+use Rattle.origins.proofs.Common
+use Common.{◌≡◌, ℕ, suc, ◌^◌, ◌<◌, Bool, cond, List, [], ◌∷◌, ◌++◌, All, Option, Some, None, slice_get, refl, ap, sym, ◌∙◌}
+use Common.{count_by, flat_map, sum_by-cons, none-some, Value, spelling_of, IsWell, Production, Rule, Target, IsNormal, Grammar}
+use Common.{stored_items, IsLegal, Passes, IsLastPass, NoRule, SolvesAll, Valuation, at, children, FitsAll, Forest, body_from}
+use Common.{body_of, Table, arising_count, environment, is_arising, value_at, table_of}
 use Rattle.std.specs.Int.{w16, to_be_bytes}
-use Rattle.std.specs.List.{count_by, flat_map}
 use Rattle.std.proofs.lemmas.List.{drop_at, take_at}
 use Rattle.std.proofs.lemmas.List.Elements.{All-head, All-tail}
-use Rattle.std.proofs.lemmas.List.Sums.{sum_by-cons}
 use Rattle.std.proofs.lemmas.Nat.{from_be_bytes-to_be_bytes_2}
-use Rattle.std.proofs.lemmas.Option.{none-some}
-use Rattle.ag_value.specs.declared.value.Value.{Value}
 use Rattle.ag_value.specs.Reading.{value_at as read_at}
-use Rattle.ag_value.specs.Spelling.{spelling_of}
-use Rattle.ag_value.specs.Well.{IsWell}
 use Rattle.ag_value.proofs.Codec.{well_is_read}
-use Rattle.ag_grammar.specs.declared.grammar.Production.{Production}
-use Rattle.ag_grammar.specs.declared.grammar.Rule.{Rule}
-use Rattle.ag_grammar.specs.declared.grammar.Target.{Target}
-use Rattle.ag_grammar.specs.grammars.Accepted.{IsNormal}
-use Rattle.ag_grammar.specs.grammars.AttributeGrammar.{Grammar, stored_items}
-use Rattle.ag_grammar.specs.grammars.Passes.{IsLegal, Passes}
-use Rattle.ag_grammar.specs.grammars.Running.{IsLastPass}
-use Rattle.ag_grammar.specs.grammars.Solution.{NoRule, SolvesAll, Valuation, at, children}
-use Rattle.ag_grammar.specs.grammars.Tree.{FitsAll, Forest}
 use Rattle.treefile.specs.declared.body.Kind.TheVariants.{Node, Token}
-use Rattle.treefile.specs.records.TreeFile.{body_from, body_of}
 use Rattle.treefile.proofs.records.Spelled.{spelled_apart}
-use Rattle.origins.specs.Arising.{Table, arising_count, environment, is_arising, value_at}
-use Rattle.origins.specs.Rows.{table_of}
 use Rattle.origins.proofs.Arguments.{argument_value, row}
 
 -- two tests that agree on each member of a list count the same number

@@ -1,19 +1,9 @@
 -- Which argument passes an error on to a rule.
-use Rattle.std.proofs.Common.{ℕ, ℤ, suc, ◌≡◌, ◌+◌, inl, inr, Bool, true, false, cond, [], Option, Some, None, refl, ap}
-use Rattle.std.proofs.Common.{◌≤◌, length, arith, ◌∙◌}
-use Rattle.std.specs.Prelude.{nat_eq, nat_lt}
-use Rattle.std.proofs.lemmas.Bool.{cases_Bool, le-ltb, lt-ltb}
-use Rattle.std.proofs.lemmas.Option.{slice_get_past}
-use Rattle.ag_value.specs.declared.value.ErrorCode.{ErrorCode}
-use Rattle.ag_value.specs.declared.value.ErrorCode.TheVariants.{Divide, Overflow}
-use Rattle.ag_value.specs.declared.value.Value.{Value}
-use Rattle.ag_value.specs.declared.value.Value.TheVariants as value
-use Rattle.ag_value.specs.declared.value.Value.TheVariants.{outs-Fault, outs-Num}
-use Rattle.ag_value.specs.Spelling.{number_of}
-use Rattle.ag_grammar.specs.declared.grammar.Rule.{Rule}
-use Rattle.ag_grammar.specs.expressions.Evaluation.{value_of}
-use Rattle.ag_value.specs.operations.Arguments.{fault_of, has_fault}
-use Rattle.origins.specs.Arising.{Table, environment, exchanged, value_at}
+use Rattle.origins.proofs.Common
+use Common.{ℕ, ℤ, suc, ◌≡◌, ◌+◌, inl, inr, Bool, true, false, cond, [], Option, Some, None, refl, ap, ◌≤◌, length, arith, ◌∙◌}
+use Common.{nat_eq, nat_lt, cases_Bool, le-ltb, lt-ltb, slice_get_past, ErrorCode, Divide, Overflow, Value, outs-Fault, outs-Num}
+use Common.{number_of, Rule, value_of, fault_of, has_fault, Table, environment, exchanged, value_at}
+use Common.value
 use Rattle.origins.specs.Causes.{IsSource, exchanged_below, is_still}
 use Rattle.origins.specs.Forms.{AreAlike, Holds, IsKnown, IsLike}
 use Rattle.origins.specs.declared.forms.Known.TheVariants as known_as

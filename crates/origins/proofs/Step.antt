@@ -1,26 +1,15 @@
 -- The steps of a walk.
-use Rattle.std.proofs.Common.{◌≡◌, ℕ, suc, ◌+◌, ◌-◌, ◌<◌, ◌≤◌, ◌⊎◌, inl, inr, List, [], ◌∷◌, ◌++◌, All, length, reverse}
-use Rattle.std.proofs.Common.{Bool, true, false, cond, Option, Some, None, Result, Ok, Err, slice_get, refl, sym, ◌∙◌}
-use Rattle.std.proofs.Common.{append_assoc, arith}
-use Rattle.std.specs.List.{flat_map}
-use Rattle.std.proofs.lemmas.List.{append-nil, drop_all, reverse-append}
-use Rattle.std.proofs.lemmas.Option.{slice_get_within}
-use Rattle.ag_value.specs.declared.value.Value.{Value}
-use Rattle.ag_value.specs.Well.{IsWell}
-use Rattle.ag_grammar.specs.declared.grammar.Item.TheVariants as item
-use Rattle.ag_grammar.specs.declared.grammar.Item.{Item}
-use Rattle.ag_grammar.specs.declared.grammar.Production.{Production}
-use Rattle.ag_grammar.specs.grammars.Accepted.{IsAccepted}
-use Rattle.ag_grammar.specs.grammars.AttributeGrammar.{Grammar, IsProduction, stored_items}
-use Rattle.ag_grammar.specs.declared.direction.Direction.{Direction}
-use Rattle.ag_grammar.specs.grammars.Passes.{IsLegal, Passes, direction_of, nth, other}
-use Rattle.ag_grammar.specs.grammars.Running.{IsLastPass}
-use Rattle.ag_grammar.specs.grammars.Solution.{Valuation, at as at_values, children, left_passes}
-use Rattle.ag_grammar.specs.grammars.Tree.{FitsAll, Forest, IsTreeOf, Tree, leaf, node}
+use Rattle.origins.proofs.Common
+use Common.{◌≡◌, ℕ, suc, ◌+◌, ◌-◌, ◌<◌, ◌≤◌, ◌⊎◌, inl, inr, List, [], ◌∷◌, ◌++◌, All, length, reverse, Bool, true, false, cond}
+use Common.{Option, Some, None, Result, Ok, Err, slice_get, refl, sym, ◌∙◌, append_assoc, arith, flat_map, append-nil, drop_all}
+use Common.{reverse-append, slice_get_within, Value, IsWell, Item, Production, IsAccepted, Grammar, IsProduction, stored_items}
+use Common.{Direction, IsLegal, Passes, direction_of, nth, other, IsLastPass, Valuation, children, left_passes, FitsAll, Forest}
+use Common.{IsTreeOf, Tree, leaf, node, IsRecorded, postfix, body_of, frame, version_two, arising_count, AreOrigins, HasOrigin}
+use Common.{table_of, Open}
+use Common.item
+use Rattle.ag_grammar.specs.grammars.Solution.{at as at_values}
 use Rattle.treefile.specs.framing.Backward.{before_frame, next_before, pass_in, pass_of}
 use Rattle.treefile.proofs.framing.Backward.{pass_of_file}
-use Rattle.treefile.specs.records.OneTree.{IsRecorded}
-use Rattle.treefile.specs.records.Orders.{postfix}
 use Rattle.treefile.specs.records.Records.{IsFileOfTree, bodies_of, copies_of, node_body, token_body, values_up_to}
 use Rattle.treefile.specs.declared.reading.FrameFault.{FrameFault}
 use Rattle.treefile.specs.framing.Ending.{is_tree_file, version_two_usable}
@@ -30,15 +19,10 @@ use Rattle.treefile.proofs.records.Fitting.{fits_version_two, numbered}
 use Rattle.treefile.proofs.records.Records.{file_back}
 use Rattle.treefile.proofs.records.Values.{values_well}
 use Rattle.treefile.specs.declared.body.Kind.TheVariants.{Node}
-use Rattle.treefile.specs.records.TreeFile.{body_of, frame, version_two}
-use Rattle.origins.specs.Arising.{arising_count}
-use Rattle.origins.specs.Origins.{AreOrigins, HasOrigin}
 use Rattle.origins.specs.Records.{IsNode, IsTokenBody}
-use Rattle.origins.specs.Rows.{table_of}
 use Rattle.origins.specs.Walking.{IsNextRecord, Family, HasComeTo, HasEntered, IsPending, IsNotBefore, IsSoFar}
 use Rattle.origins.specs.Walking.{ArePending, Kid, first_after}
 use Rattle.origins.specs.Walking.{in_order, kids, last_of, upcoming, way}
-use Rattle.origins.specs.declared.walk.Open.{Open}
 use Rattle.origins.proofs.Children.{below_occurs, count_ordered, drop_there, is_there, kid_number, kid_recorded, kids_bodies}
 use Rattle.origins.proofs.Children.{kids_length, order_length, ordered_at, occurs_below}
 use Rattle.origins.proofs.Order.{now_not_before, one_of_both, still_not_before}

@@ -1,2 +1,3 @@
+pub mod Common
 pub mod places
 pub mod Recorded

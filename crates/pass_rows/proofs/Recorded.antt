@@ -1,37 +1,27 @@
 -- Reading the body of a record.
-use Rattle.std.specs.List.{flat_map}
+use Rattle.pass_rows.proofs.Common
+use Common.{flat_map, ℕ, zero, suc, ◌≡◌, ◌+◌, ◌-◌, ◌<◌, ◌≤◌, nat_le, if◌then◌else◌, List, [], ◌∷◌, ◌++◌, Some, slice_get, length}
+use Common.{take, drop, get_or, refl, ap, ◌∙◌, sym, arith, length-take, le-leb, leb-true, lt-leb, lt-ltb, slice_get-get_or}
+use Common.{slice_get_within, Value, Num, spelling_of, IsWell, is_i64, is_item, Item, Production, Literal, Class, IsProduction}
+use Common.{stored_items, values_up_to, count_of_values, values_well, body_from, Setting, Table, copied_passes, copies}
+use Common.{row_passes, AreTaken, IsNoRow, PrependsTo}
+use Common.item
 use Rattle.std.specs.Int.Signed.{mag}
 use Rattle.std.specs.Prelude.{OnOk}
-use Rattle.std.proofs.Common.{ℕ, ℤ, zero, suc, ◌≡◌, ◌+◌, ◌-◌, ◌^◌, ◌<◌, ◌≤◌, Bool, true, false, nat_le, if◌then◌else◌, List, []}
-use Rattle.std.proofs.Common.{◌∷◌, ◌++◌, ◌||◌, All, Some, slice_get, length, take, drop, get_or, Result, Ok, Err, refl, ap, ◌∙◌}
-use Rattle.std.proofs.Common.{sym, arith, append_assoc, append-nil, length-append, length-drop, length-take, pos, negsuc}
-use Rattle.std.proofs.lemmas.Bool.{le-leb, leb-true, lt-leb, lt-ltb}
+use Rattle.std.proofs.Common.{ℤ, ◌^◌, Bool, true, false}
+use Rattle.std.proofs.Common.{◌||◌, All, Result, Ok, Err}
+use Rattle.std.proofs.Common.{append_assoc, append-nil, length-append, length-drop, pos, negsuc}
 use Rattle.std.proofs.lemmas.Grind.{flat_map-append}
 use Rattle.std.proofs.lemmas.List.{take_all, take_rest}
-use Rattle.std.proofs.lemmas.Option.{slice_get-get_or, slice_get_within}
 use Rattle.std.proofs.lemmas.List.Elements.{All-append, All-drop, All-head, All-nil, All-tail, All-take}
-use Rattle.ag_value.specs.declared.value.Value.{Value, Num}
-use Rattle.ag_value.specs.Spelling.{spelling_of}
-use Rattle.ag_value.specs.Well.{IsWell, is_i64, is_item}
 use Rattle.ag_value.proofs.Layers.{weight-Num, depth-Num, fault-Num, item-Num}
-use Rattle.ag_grammar.specs.declared.grammar.Item.{Item}
-use Rattle.ag_grammar.specs.declared.grammar.Item.TheVariants as item
-use Rattle.ag_grammar.specs.declared.grammar.Production.{Production}
-use Rattle.ag_grammar.specs.declared.grammar.Terminal.TheVariants.{Literal, Class}
-use Rattle.ag_grammar.specs.grammars.AttributeGrammar.{IsProduction, stored_items}
 use Rattle.ag_grammar.specs.grammars.Solution.{left_passes}
 use Rattle.treefile.specs.declared.body.Kind.TheVariants.{Node}
 use Rattle.treefile.specs.records.Listed.{copied_count, copies_count, count_up_to}
-use Rattle.treefile.specs.records.Records.{values_up_to}
 use Rattle.treefile.proofs.records.Spelled.{spelled_apart}
-use Rattle.treefile.proofs.records.Values.{count_of_values, values_well}
-use Rattle.treefile.specs.records.TreeFile.{body_from}
-use Rattle.passcode.specs.Settings.{Setting}
 use Rattle.pass_rows.specs.declared.reading.record.RecordFault.{RecordFault}
-use Rattle.pass_rows.specs.Places.{Table, copied_passes, copies, row_passes}
-use Rattle.pass_rows.specs.reading.Reading.{AllWell, AreTaken, IsNodeBody, IsNodeRead, IsNoNode, IsNoNodeBody}
-use Rattle.pass_rows.specs.reading.Reading.{IsNoRow}
-use Rattle.pass_rows.specs.reading.Reading.{IsTaken, PrependsTo, one_value}
+use Rattle.pass_rows.specs.reading.Reading.{AllWell, IsNodeBody, IsNodeRead, IsNoNode, IsNoNodeBody}
+use Rattle.pass_rows.specs.reading.Reading.{IsTaken, one_value}
 
 -- A signed number of 64 bits is well.
 pub number_well : (z : ℤ) → mag z < 2 ^ 63 → IsWell (Num z)

@@ -1,3 +1,4 @@
+pub mod Common
 pub mod making
 pub mod slots
 pub mod strikes

@@ -1,25 +1,15 @@
 -- A list that runs meets the four conditions of agreement.
-use Rattle.std.proofs.Common.{ℕ, zero, suc, ◌≡◌, ◌<◌, ◌≤◌, inl, inr, List, [], ◌∷◌, Option, Some, slice_get, get_or, length}
-use Rattle.std.proofs.Common.{refl, ap, ◌∙◌, sym, subst, arith}
-use Rattle.std.proofs.lemmas.Bool.{cases_lt}
-use Rattle.std.proofs.lemmas.Option.{slice_get_within, slice_get-get_or}
-use Rattle.ag_grammar.specs.Lists.{Has}
-use Rattle.ag_grammar.specs.declared.grammar.Item.{Item}
-use Rattle.ag_grammar.specs.declared.grammar.Item.TheVariants as item
-use Rattle.ag_grammar.specs.declared.grammar.Production.{Production}
-use Rattle.ag_grammar.specs.declared.grammar.Rule.{Rule}
-use Rattle.ag_grammar.specs.declared.grammar.Target.{Target}
-use Rattle.ag_grammar.specs.declared.grammar.Terminal.TheVariants.{Class}
-use Rattle.ag_grammar.specs.grammars.AttributeGrammar.{item_at, IsArgument}
-use Rattle.ag_grammar.specs.grammars.Passes.{Passes, HasPass, IsBefore, direction_of, item_passes}
-use Rattle.passcode.specs.declared.instr.Instr.{Instr}
-use Rattle.passcode.specs.declared.instr.Instr.TheVariants as instr
-use Rattle.passcode.specs.Agreement.{ComputesTargets, HasArguments, HasPlace, IsAvailableAt, IsChild, IsComputation}
-use Rattle.passcode.specs.Agreement.{ListAgrees, IsRuleAt, Precedes, OccursBefore, OccursOnceIf, VisitsPlaces, set_or_def}
-use Rattle.passcode.specs.Agreement.{instruction_of}
-use Rattle.passcode.specs.Course as Course
-use Rattle.passcode.specs.Course.{Phase, State, Between, Got, Gone, Ended, MayCompute, MayRun, IsTurnOf, Runs, after, arity}
-use Rattle.passcode.specs.Course.{place_of, start, state_at}
+use Rattle.passcode.proofs.Common
+use Common.{ℕ, zero, suc, ◌≡◌, ◌<◌, ◌≤◌, inl, inr, List, [], ◌∷◌, Option, Some, slice_get, get_or, length, refl, ap, ◌∙◌, sym}
+use Common.{subst, arith, cases_lt, slice_get_within, slice_get-get_or, Has, Item, Production, Rule, Target, Class, item_at}
+use Common.{IsArgument, Passes, HasPass, IsBefore, direction_of, item_passes, Instr, HasPlace, IsAvailableAt, IsChild}
+use Common.{IsComputation, ListAgrees, IsRuleAt, OccursBefore, OccursOnceIf, set_or_def, instruction_of, Phase, State, Between}
+use Common.{Got, Gone, Ended, MayCompute, MayRun, IsTurnOf, Runs, after, arity, place_of, start, state_at}
+use Common.item
+use Common.instr
+use Common.Course
+use Rattle.passcode.specs.Agreement.{ComputesTargets, HasArguments}
+use Rattle.passcode.specs.Agreement.{Precedes, VisitsPlaces}
 use Rattle.passcode.proofs.Marks.{not_after_end, end_mark, got_child, get_mark, go_mark, put_mark, read_in, read_is}
 use Rattle.passcode.proofs.Marks.{rule_mark, run_in, run_is, run_stays}
 use Rattle.passcode.proofs.States.{IsMark, MayRunTo, kept, once, precedes, runs_by_index, occurs, state_next}

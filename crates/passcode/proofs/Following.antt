@@ -1,22 +1,13 @@
 -- A list that agrees runs, if each rule may use its arguments.
-use Rattle.std.proofs.Common.{ℕ, zero, suc, ◌≡◌, ◌<◌, ◌≤◌, inl, inr, List, Some, slice_get, length, refl, ap, ◌∙◌, sym, subst}
-use Rattle.std.proofs.Common.{arith}
-use Rattle.std.proofs.lemmas.Bool.{cases_eq, cases_lt}
-use Rattle.std.proofs.lemmas.Option.{slice_get_within}
-use Rattle.ag_grammar.specs.Lists.{Has}
-use Rattle.ag_grammar.specs.declared.grammar.Item.TheVariants as item
-use Rattle.ag_grammar.specs.declared.grammar.Production.{Production}
-use Rattle.ag_grammar.specs.declared.grammar.Rule.{Rule}
-use Rattle.ag_grammar.specs.declared.grammar.Target.{Target}
-use Rattle.ag_grammar.specs.grammars.AttributeGrammar.{item_at, IsArgument}
-use Rattle.ag_grammar.specs.grammars.Passes.{Passes, HasPass, IsBefore, IsLegalFor, MayUse, direction_of}
-use Rattle.passcode.specs.declared.instr.Instr.{Instr}
-use Rattle.passcode.specs.declared.instr.Instr.TheVariants as instr
-use Rattle.passcode.specs.Agreement.{HasPlace, IsAvailableAt, IsChild, ListAgrees, IsRuleAt, OccursOnceIf}
-use Rattle.passcode.specs.Agreement.{set_or_def, instruction_of}
-use Rattle.passcode.specs.Course as Course
-use Rattle.passcode.specs.Course.{AreDone, Phase, State, Between, Got, Gone, Ended, IsTurnOf, MayCompute, MayRun, Runs, after}
-use Rattle.passcode.specs.Course.{arity, place_of, read_count, run_count, start, state_at}
+use Rattle.passcode.proofs.Common
+use Common.{ℕ, zero, suc, ◌≡◌, ◌<◌, ◌≤◌, inl, inr, List, Some, slice_get, length, refl, ap, ◌∙◌, sym, subst, arith, cases_eq}
+use Common.{cases_lt, slice_get_within, Has, Production, Rule, Target, item_at, IsArgument, Passes, HasPass, IsBefore, IsLegalFor}
+use Common.{MayUse, direction_of, Instr, HasPlace, IsAvailableAt, IsChild, ListAgrees, IsRuleAt, OccursOnceIf, set_or_def}
+use Common.{instruction_of, AreDone, Phase, State, Between, Got, Gone, Ended, IsTurnOf, MayCompute, MayRun, Runs, after, arity}
+use Common.{place_of, read_count, run_count, start, state_at}
+use Common.item
+use Common.instr
+use Common.Course
 use Rattle.passcode.proofs.Agreeing.{has_symbol}
 use Rattle.passcode.proofs.Marks.{end_mark, get_mark, go_mark, got_child, put_mark, read_in, read_is, read_within, run_is}
 use Rattle.passcode.proofs.Marks.{rule_mark, run_in}

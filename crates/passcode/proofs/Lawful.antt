@@ -1,21 +1,17 @@
 -- What follows from an accepted grammar and a legal assignment for a production, and so for its lists.
-use Rattle.std.proofs.Common.{ℕ, ◌≡◌, ◌≤◌, map, Option, Some, None, slice_get, length, refl, sym, subst, arith, length-append}
+use Rattle.passcode.proofs.Common
+use Common.{ℕ, ◌≡◌, ◌≤◌, map, Option, Some, None, slice_get, length, refl, sym, subst, arith, length-append, Item, Production}
+use Common.{Literal, Class, Grammar, item_at, Passes, IsLegal, item_passes, ListAgrees, IsPlanned, AreGeneratedLists}
+use Common.{generated_list, Lists}
+use Common.item
 use Rattle.std.proofs.lemmas.List.{length-map}
-use Rattle.ag_grammar.specs.declared.grammar.Item.TheVariants as item
-use Rattle.ag_grammar.specs.declared.grammar.Item.{Item}
-use Rattle.ag_grammar.specs.declared.grammar.Production.{Production}
 use Rattle.ag_grammar.specs.declared.grammar.Symbol.{Symbol}
-use Rattle.ag_grammar.specs.declared.grammar.Terminal.TheVariants.{Literal, Class}
 use Rattle.ag_grammar.specs.grammars.Accepted.{IsAccepted, max_attributes}
-use Rattle.ag_grammar.specs.grammars.AttributeGrammar.{Grammar, IsProduction, Synthesized, Inherited, attribute_names, item_at}
+use Rattle.ag_grammar.specs.grammars.AttributeGrammar.{IsProduction, Synthesized, Inherited, attribute_names}
 use Rattle.ag_grammar.specs.grammars.AttributeGrammar.{symbol_kinds}
-use Rattle.ag_grammar.specs.grammars.Passes.{Passes, IsLegal, item_passes}
 use Rattle.passassign.proofs.slots.Few.{few_rules}
-use Rattle.passcode.specs.Agreement.{Agrees, ListAgrees}
+use Rattle.passcode.specs.Agreement.{Agrees}
 use Rattle.passcode.specs.Laws.{ListsRun}
-use Rattle.passcode.specs.Limits.{IsPlanned}
-use Rattle.passcode.specs.Listing.{AreGeneratedLists, generated_list}
-use Rattle.passcode.specs.Rows.{Lists}
 use Rattle.passcode.proofs.Agreeing.{agrees}
 use Rattle.passcode.proofs.Following.{follows}
 use Rattle.passcode.proofs.Leaving.{list_runs}

@@ -1,29 +1,20 @@
 -- The rest of the list in a state runs from there to the end.
-use Rattle.std.proofs.Common.{ℕ, zero, suc, ◌≡◌, ◌+◌, ◌-◌, ◌<◌, ◌≤◌, ◌⊎◌, inl, inr, Bool, true, false, cond, List, [], ◌∷◌, ◌++◌}
-use Rattle.std.proofs.Common.{append_assoc, Option, Some, None, slice_get, get_or, length, refl, ap, ◌∙◌, sym, subst, arith}
-use Rattle.std.specs.Prelude.{nat_eq, ◌||◌, ◌↔◌}
+use Rattle.passcode.proofs.Common
+use Common.{ℕ, zero, suc, ◌≡◌, ◌+◌, ◌-◌, ◌<◌, ◌≤◌, ◌⊎◌, inl, inr, Bool, true, false, cond, List, [], ◌∷◌, ◌++◌, append_assoc}
+use Common.{Option, Some, None, slice_get, get_or, length, refl, ap, ◌∙◌, sym, subst, arith, nat_eq, ◌||◌, ◌↔◌, flat_map}
+use Common.{list_any, position, position_or_len, range_with_len, cases_eq, cases_lt, eq-eqb, eqb-true, lt-ltb, ne_eqb}
+use Common.{get_or_from_slice_get, slice_get_within, slice_get-get_or, DifferIn, Has, Item, Production, Rule, Target, item_at}
+use Common.{Passes, HasPass, IsLegalFor, MayUse, item_passes, Instr, IsRuleAt, set_or_def, AreDone, IsFinal, IsTurnOf, IsVisited}
+use Common.{MayCompute, MayRun, Phase, Runs, State, Between, Got, Gone, Ended, after, after_get, arity, place_of, run_count}
+use Common.{start, visits, is_same, remaining_for, generated_list, visit}
+use Common.item
+use Common.instr
 use Rattle.std.proofs.lemmas.List.Folds.{list_any_at}
-use Rattle.std.specs.List.{flat_map, list_any, position, position_or_len, range_with_len}
-use Rattle.std.proofs.lemmas.Bool.{cases_eq, cases_lt, eq-eqb, eqb-true, lt-ltb, ne_eqb}
 use Rattle.std.proofs.lemmas.List.Quantifiers.{position-Some}
 use Rattle.std.proofs.lemmas.List.Sums.{fails_before_first}
-use Rattle.std.proofs.lemmas.Option.{get_or_from_slice_get, slice_get_within, slice_get-get_or}
-use Rattle.ag_grammar.specs.Lists.{DifferIn, Has}
-use Rattle.ag_grammar.specs.declared.grammar.Item.{Item}
-use Rattle.ag_grammar.specs.declared.grammar.Item.TheVariants as item
-use Rattle.ag_grammar.specs.declared.grammar.Production.{Production}
-use Rattle.ag_grammar.specs.declared.grammar.Rule.{Rule}
-use Rattle.ag_grammar.specs.declared.grammar.Target.{Target}
-use Rattle.ag_grammar.specs.grammars.AttributeGrammar.{item_at}
 use Rattle.ag_grammar.specs.grammars.Counts.{is_pass, pass_at}
-use Rattle.ag_grammar.specs.grammars.Passes.{Passes, HasPass, IsLegalFor, MayUse, item_passes}
-use Rattle.passcode.specs.declared.instr.Instr.{Instr}
-use Rattle.passcode.specs.declared.instr.Instr.TheVariants as instr
-use Rattle.passcode.specs.Agreement.{IsRuleAt, set_or_def}
-use Rattle.passcode.specs.Course.{AreDone, IsFinal, IsTurnOf, IsVisited, MayCompute, MayRun, Phase, Runs, State}
-use Rattle.passcode.specs.Course.{Between, Got, Gone, Ended, after, after_get, arity, place_of, run_count, start}
-use Rattle.passcode.specs.Listing.{child_part, own_part, visits, is_same, remaining_instruction, remaining_at, remaining_for}
-use Rattle.passcode.specs.Listing.{remaining_from, remaining_in, generated_list, rule_for, visit}
+use Rattle.passcode.specs.Listing.{child_part, own_part, remaining_instruction, remaining_at}
+use Rattle.passcode.specs.Listing.{remaining_from, remaining_in, rule_for}
 use Rattle.passcode.proofs.Agreeing.{has_symbol}
 use Rattle.passcode.proofs.Following.{may_use_most}
 use Rattle.passcode.proofs.Marks.{read_in, read_is, read_within, run_after, run_in, run_is}

@@ -1,10 +1,9 @@
 -- Invariants of the loops that make a list.
-use Rattle.std.proofs.Common.{ℕ, zero, suc, ◌≡◌, ◌+◌, ◌<◌, ◌≤◌, inl, inr, Bool, true, false, cond, List, [], ◌∷◌, ◌++◌}
-use Rattle.std.proofs.Common.{append_assoc, append-nil, Some, None, slice_get, get_or, length, refl, ap, ◌∙◌, sym, arith}
-use Rattle.std.specs.List.{flat_map, position, position_or_len, range_with_len}
-use Rattle.std.proofs.lemmas.Bool.{cases_eq, le-ltb, lt-ltb}
+use Rattle.passcode.proofs.Common
+use Common.{ℕ, zero, suc, ◌≡◌, ◌+◌, ◌<◌, ◌≤◌, inl, inr, Bool, true, false, cond, List, [], ◌∷◌, ◌++◌, append_assoc, append-nil}
+use Common.{Some, None, slice_get, get_or, length, refl, ap, ◌∙◌, sym, arith, flat_map, position, position_or_len, range_with_len}
+use Common.{cases_eq, le-ltb, lt-ltb, slice_get_within, slice_get-get_or}
 use Rattle.std.proofs.lemmas.List.Sums.{position_or_len_is}
-use Rattle.std.proofs.lemmas.Option.{slice_get_within, slice_get-get_or}
 
 -- the pieces for n numbers from a on and then the piece for a + n are the pieces for n + 1 numbers from a on
 pieces_more : {A : Type 0} (f : ℕ → List A) (n a : ℕ)

@@ -1,23 +1,14 @@
 -- The marks of instructions: the numbers of children that were read, in which the pass has run, and that are complete; the rules
 -- that were run; and the end.
-use Rattle.std.proofs.Common.{ℕ, zero, suc, ◌≡◌, ◌<◌, ◌≤◌, ◌⊎◌, inl, inr, [], ◌∷◌, Option, Some, slice_get, refl, ap, ◌∙◌}
-use Rattle.std.proofs.Common.{sym, subst, arith}
-use Rattle.std.proofs.lemmas.Bool.{cases_eq}
-use Rattle.ag_grammar.specs.Lists.{Has}
-use Rattle.ag_grammar.specs.declared.grammar.Item.{Item}
-use Rattle.ag_grammar.specs.declared.grammar.Item.TheVariants as item
-use Rattle.ag_grammar.specs.declared.grammar.Production.{Production}
-use Rattle.ag_grammar.specs.declared.grammar.Rule.{Rule}
-use Rattle.ag_grammar.specs.grammars.AttributeGrammar.{item_at}
-use Rattle.ag_grammar.specs.grammars.Passes.{Passes}
-use Rattle.passcode.specs.declared.instr.Instr.{Instr}
-use Rattle.passcode.specs.declared.instr.Instr.TheVariants as instr
-use Rattle.passcode.specs.Agreement.{IsChild, IsRuleAt, set_or_def, instruction_of}
-use Rattle.passcode.specs.Course.{Phase, State, Between, Got, Gone, Ended, MayCompute, MayRun, after, after_get, arity, place_of}
-use Rattle.passcode.specs.Course.{read_count, run_count, start}
+use Rattle.passcode.proofs.Common
+use Common.{ℕ, zero, suc, ◌≡◌, ◌<◌, ◌≤◌, ◌⊎◌, inl, inr, [], ◌∷◌, Option, Some, slice_get, refl, ap, ◌∙◌, sym, subst, arith}
+use Common.{cases_eq, Has, Item, Production, Rule, item_at, Passes, Instr, IsChild, IsRuleAt, set_or_def, instruction_of, Phase}
+use Common.{State, Between, Got, Gone, Ended, MayCompute, MayRun, after, after_get, arity, place_of, read_count, run_count, start}
+use Common.{Target}
+use Common.item
+use Common.instr
 use Rattle.passcode.proofs.States.{IsKept, IsMark}
 use Rattle.passcode.proofs.Turns.{one_turn}
-use Rattle.ag_grammar.specs.declared.grammar.Target.{Target}
 
 -- the number of a node's children that were read in a state, and the number of those in which the pass has run
 abbrev pub read_in : State → ℕ

@@ -1,15 +1,10 @@
 -- The sample lists.
-use Rattle.std.proofs.Common.{ℕ, zero, suc, ◌≡◌, ◌<◌, inl, inr, List, [], ◌∷◌, Some, slice_get, refl, ap, sym, subst, arith}
-use Rattle.ag_grammar.specs.Lists.{Has}
-use Rattle.ag_grammar.specs.declared.grammar.Rule.{Rule}
-use Rattle.ag_grammar.specs.declared.grammar.Target.{Target}
-use Rattle.ag_grammar.specs.grammars.AttributeGrammar.{IsArgument}
-use Rattle.ag_grammar.specs.grammars.Passes.{HasPass, IsLegal}
+use Rattle.passcode.proofs.Common
+use Common.{ℕ, zero, suc, ◌≡◌, ◌<◌, inl, inr, List, [], ◌∷◌, Some, slice_get, refl, ap, sym, subst, arith, Has, Rule, Target}
+use Common.{IsArgument, HasPass, IsLegal, ListAgrees, IsRuleAt, OccursOnceIf, instruction_of, AreDone, IsAvailable, IsVisited}
+use Common.{Runs, start, IsPlanned}
 use Rattle.ag_grammar.specs.grammars.Sample.{attribute, sample, sample_passes, rule_out}
 use Rattle.ag_grammar.proofs.grammars.samples.NumberSample.{accepted}
-use Rattle.passcode.specs.Agreement.{ListAgrees, IsRuleAt, OccursOnceIf, instruction_of}
-use Rattle.passcode.specs.Course.{AreDone, IsAvailable, IsVisited, Runs, start}
-use Rattle.passcode.specs.Limits.{IsPlanned}
 use Rattle.passcode.specs.Sample.{sample_production, sample_list, forward_list, late_list, undefined_list}
 use Rattle.passcode.specs.Sample.{hasty_list, hasty_passes, hasty_production, hasty_rule}
 use Rattle.passcode.proofs.Agreeing.{agrees}

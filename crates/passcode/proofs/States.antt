@@ -1,12 +1,8 @@
 -- The states before the indexes of a list, and properties that begin at an instruction and stay true.
-use Rattle.std.proofs.Common.{ℕ, zero, suc, ◌≡◌, ◌<◌, ◌≤◌, ◌⊎◌, inl, inr, List, [], ◌∷◌, Option, Some, None, slice_get, length}
-use Rattle.std.proofs.Common.{refl, ap, ◌∙◌, sym, subst, arith}
-use Rattle.std.proofs.lemmas.Bool.{cases_eq, cases_lt}
-use Rattle.ag_grammar.specs.declared.grammar.Production.{Production}
-use Rattle.ag_grammar.specs.grammars.Passes.{Passes}
-use Rattle.passcode.specs.declared.instr.Instr.{Instr}
-use Rattle.passcode.specs.Agreement.{OccursBefore}
-use Rattle.passcode.specs.Course.{State, Ended, MayRun, Runs, after, start, state_at}
+use Rattle.passcode.proofs.Common
+use Common.{ℕ, zero, suc, ◌≡◌, ◌<◌, ◌≤◌, ◌⊎◌, inl, inr, List, [], ◌∷◌, Option, Some, None, slice_get, length, refl, ap, ◌∙◌, sym}
+use Common.{subst, arith, cases_eq, cases_lt, Production, Passes, Instr, OccursBefore, State, Ended, MayRun, Runs, after, start}
+use Common.{state_at}
 
 further : (xs : List Instr) (n : ℕ) (x : Instr) → OccursBefore xs n x → OccursBefore xs (suc n) x
 further xs n x s = (s.0, omega arith, s.2)

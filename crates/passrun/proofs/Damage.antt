@@ -1,29 +1,19 @@
 -- The offset at which a content shows a fault: that it is the file of no tree, or of no tree within the limits. Such a fault is
 -- true of the content, and a content shows at most one fault.
-use Rattle.std.specs.List.{flat_map}
-use Rattle.std.proofs.Common.{ℕ, suc, ◌≡◌, ◌≢◌, ◌+◌, ◌^◌, ◌<◌, ◌≤◌, ◌⊎◌, inl, inr, Bool, true, false, if◌then◌else◌, List, []}
-use Rattle.std.proofs.Common.{◌∷◌, ◌++◌, Some, Ok, Err, length, refl, ◌∙◌, sym, subst, arith}
-use Rattle.ag_grammar.specs.declared.direction.Direction.{Direction}
-use Rattle.ag_grammar.specs.grammars.Passes.{direction_of, other}
-use Rattle.treefile.specs.declared.reading.FrameFault.{FrameFault}
-use Rattle.treefile.specs.declared.reading.FrameFault.TheVariants as frame_fault
-use Rattle.treefile.specs.framing.ExpectedRecords.{Breaks, Child, ReadSoFar, IsRecordOf, Pending, before_others, pending_root}
-use Rattle.treefile.specs.framing.Backward.{ReadsTo, before_frame, next_before, pass_in, pass_of}
-use Rattle.treefile.specs.framing.Ending.{IsUsable, is_tree_file, version_two_usable}
+use Rattle.passrun.proofs.Common
+use Common.{flat_map, ℕ, suc, ◌≡◌, ◌≢◌, ◌+◌, ◌^◌, ◌<◌, ◌≤◌, ◌⊎◌, inl, inr, Bool, true, false, if◌then◌else◌, List, [], ◌∷◌, ◌++◌}
+use Common.{Some, Ok, Err, length, refl, ◌∙◌, sym, subst, arith, Direction, direction_of, other, FrameFault, Breaks, Child}
+use Common.{ReadSoFar, IsRecordOf, Pending, before_others, pending_root, ReadsTo, before_frame, next_before, pass_in, pass_of}
+use Common.{IsUsable, is_tree_file, version_two_usable, postfix, FitsVersion, bodies_of, frame, fits_version_two, numbered}
+use Common.{Setting, IsSound, RunFault, ArrivesAt, ExceedsDepth, ExceedsNodes, IsDamaged, IsReadable, source}
+use Common.frame_fault
+use Common.fault
 use Rattle.treefile.specs.records.OneTree.{IsNumbered}
-use Rattle.treefile.specs.records.Orders.{postfix}
-use Rattle.treefile.specs.records.Records.{FitsVersion, bodies_of}
-use Rattle.treefile.specs.records.TreeFile.{frame}
 use Rattle.treefile.proofs.framing.Files.{begins}
-use Rattle.treefile.proofs.records.Fitting.{fits_version_two, numbered}
 use Rattle.treefile.proofs.framing.Way.{no_file_has_no_tree, one_record, reading_begins, way_breaks, reading_continues}
 use Rattle.treefile.proofs.framing.Way.{reading_is_too_long}
-use Rattle.passcode.specs.Settings.{Setting}
-use Rattle.passcode.specs.Sound.{IsSound}
-use Rattle.pass_rows.specs.declared.run_fault.RunFault.{RunFault}
-use Rattle.pass_rows.specs.declared.run_fault.RunFault.TheVariants as fault
-use Rattle.passrun.specs.Damage.{BreaksAt, ArrivesAt, ExceedsDepth, ExceedsNodes, HasTooManyNodes, IsDamaged, IsReadable}
-use Rattle.passrun.specs.Damage.{IsTooDeep, IsWithin, Leaves, Shows, Source, source}
+use Rattle.passrun.specs.Damage.{BreaksAt, HasTooManyNodes}
+use Rattle.passrun.specs.Damage.{IsTooDeep, IsWithin, Leaves, Shows, Source}
 use Rattle.passrun.specs.Laws.{ShowsOnce}
 
 -- One more record was read.

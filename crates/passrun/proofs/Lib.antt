@@ -1,3 +1,4 @@
+pub mod Common
 pub mod course
 pub mod Damage
 pub mod places

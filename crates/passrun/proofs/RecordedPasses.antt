@@ -1,28 +1,14 @@
 -- The result of a pass for some tree holds for every tree that has the file it read. A fault of a pass also
 -- holds for the content before the earlier passes ran.
-use Rattle.std.proofs.Common.{◌≡◌, ℕ, suc, ◌-◌, ◌<◌, ◌≤◌, List, sym, subst, arith}
-use Rattle.ag_grammar.specs.grammars.Accepted.{IsAccepted}
-use Rattle.ag_grammar.specs.grammars.AttributeGrammar.{Grammar}
-use Rattle.ag_grammar.specs.grammars.Counts.{rules_of_pass}
-use Rattle.ag_grammar.specs.grammars.Passes.{IsLegal}
-use Rattle.ag_grammar.specs.grammars.Solution.{OfPass, Same, Solves, Valuation}
-use Rattle.ag_grammar.specs.grammars.Tree.{Tree, IsTreeOf, node_count, max_depth, max_nodes}
-use Rattle.ag_grammar.proofs.grammars.EachNode.{same_weaker}
-use Rattle.passassign.specs.Rows.{passes_of}
-use Rattle.passcode.specs.Rows.{Lists}
-use Rattle.passcode.specs.Settings.{Setting, setting_of}
-use Rattle.treefile.specs.framing.Ending.{version_two_usable}
-use Rattle.treefile.specs.records.Records.{IsFileOfTree}
-use Rattle.treefile.specs.Runs.{RanPass, RunsPass, RunsPasses}
-use Rattle.treefile.specs.records.TreeFile.{version_two}
-use Rattle.treefile.proofs.records.Fitting.{fits_version_two}
+use Rattle.passrun.proofs.Common
+use Common.{◌≡◌, ℕ, suc, ◌-◌, ◌<◌, ◌≤◌, List, sym, subst, arith, IsAccepted, Grammar, rules_of_pass, IsLegal, OfPass, Same}
+use Common.{Solves, Valuation, Tree, IsTreeOf, node_count, max_depth, max_nodes, same_weaker, passes_of, Lists, Setting}
+use Common.{setting_of, version_two_usable, IsFileOfTree, RanPass, RunsPass, RunsPasses, version_two, fits_version_two, RunFault}
+use Common.{IsRunFault, IsPassed}
+use Common.fault
 use Rattle.treefile.proofs.records.OneTree.{one_file}
 use Rattle.treefile.proofs.Run.{refusal_goes_back, refusal_within_goes_back}
-use Rattle.pass_rows.specs.declared.run_fault.RunFault.{RunFault}
-use Rattle.pass_rows.specs.declared.run_fault.RunFault.TheVariants as fault
-use Rattle.passrun.specs.passing.Ahead.{IsRunFault}
 use Rattle.passrun.specs.Laws.{PassesAreRecorded}
-use Rattle.passrun.specs.Passed.{IsPassed}
 use Rattle.passrun.specs.Rounds.{HoldsTree}
 
 module _ (c : Setting) (from to : List ℕ) (count evals : ℕ) (accepted : IsAccepted c.grammar) (legal : IsLegal c.grammar c.passes)

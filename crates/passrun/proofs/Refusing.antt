@@ -1,39 +1,14 @@
 -- Why the faults R1, P2 and P3 of a pass are true of the content that it reads.
-use Rattle.std.specs.Option.{option_map}
-use Rattle.std.specs.Prelude.{IsTrue}
-use Rattle.std.proofs.Common.{ℕ, suc, ◌≡◌, ◌+◌, ◌-◌, Bool, true, List, [], ◌∷◌, ◌++◌, Option, Some, None, Ok, Err, is_some, Bor}
-use Rattle.std.proofs.Common.{length, drop, reverse, refl, ap, ◌∙◌, sym, subst, arith}
-use Rattle.std.proofs.lemmas.List.{length-reverse}
-use Rattle.ag_grammar.specs.declared.grammar.Item.{Item}
-use Rattle.ag_grammar.specs.declared.grammar.Item.TheVariants as item
-use Rattle.ag_grammar.specs.declared.grammar.Terminal.TheVariants.{Literal, Class}
-use Rattle.ag_grammar.specs.grammars.AttributeGrammar.{stored_items}
-use Rattle.ag_value.specs.declared.value.Value.{Value, Text}
-use Rattle.treefile.specs.declared.reading.FrameFault.{FrameFault}
-use Rattle.treefile.specs.declared.reading.FrameFault.TheVariants as frame_fault
-use Rattle.treefile.specs.framing.Backward.{next_before, pass_in}
-use Rattle.treefile.specs.devices.Device.{WhenHonest}
-use Rattle.treefile.specs.framing.Ending.{ReadsAs}
-use Rattle.treefile.specs.records.TreeFile.{version_two}
-use Rattle.treefile.specs.framing.ExpectedRecords.{Breaks, Pending}
-use Rattle.treefile.specs.records.Records.{values_up_to}
-use Rattle.treefile.proofs.framing.Backward.{damage_is_there, never_no_file}
-use Rattle.backreader.specs.BackState.{BackState}
-use Rattle.passcode.specs.declared.instr.Instr.TheVariants as instr
-use Rattle.passcode.specs.Settings.{Setting}
-use Rattle.passcode.specs.Sound.{IsSound}
-use Rattle.pass_rows.specs.declared.layouts.building.PlaceRow.{PlaceRow}
-use Rattle.passrun.specs.declared.passing.machine.Machine.{Machine}
-use Rattle.pass_rows.specs.declared.open_node.OpenNode.{OpenNode}
-use Rattle.pass_rows.specs.declared.run_fault.RunFault.{RunFault}
-use Rattle.passrun.specs.passing.Ahead.{IsRunFault}
-use Rattle.passrun.specs.Damage.{AreRecords, ArrivesAt, IsDamaged, IsReadable, source}
-use Rattle.passrun.specs.passing.Ends.{RunsBetween}
-use Rattle.pass_rows.specs.Faults.{run_fault_of_frame}
-use Rattle.passrun.specs.reading.Fetching.{HasFetched, IsUnfetched}
-use Rattle.pass_rows.specs.Places.{copied_passes, copies}
-use Rattle.pass_rows.specs.reading.Reading.{Agrees, IsRead, read_values}
-use Rattle.passrun.specs.passing.Running.{RunsFrom}
+use Rattle.passrun.proofs.Common
+use Common.{option_map, IsTrue, ℕ, suc, ◌≡◌, ◌+◌, ◌-◌, Bool, true, List, [], ◌∷◌, ◌++◌, Option, Some, None, Ok, Err, is_some, Bor}
+use Common.{length, drop, reverse, refl, ap, ◌∙◌, sym, subst, arith, length-reverse, Item, Literal, Class, stored_items, Value}
+use Common.{Text, FrameFault, next_before, pass_in, WhenHonest, ReadsAs, version_two, Breaks, Pending, values_up_to}
+use Common.{damage_is_there, never_no_file, BackState, Setting, IsSound, PlaceRow, Machine, OpenNode, RunFault, IsRunFault}
+use Common.{AreRecords, ArrivesAt, IsDamaged, IsReadable, source, RunsBetween, run_fault_of_frame, HasFetched, IsUnfetched}
+use Common.{copied_passes, copies, Agrees, IsRead, read_values, RunsFrom}
+use Common.item
+use Common.frame_fault
+use Common.instr
 use Rattle.passrun.proofs.course.Ahead.{disagreed, unfetched}
 use Rattle.passrun.proofs.Damage.{broken, decidable, unstarted}
 use Rattle.passrun.proofs.steps.Steps.{IsNext, get_first}

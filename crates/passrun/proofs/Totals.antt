@@ -1,15 +1,9 @@
 -- The results of all passes together.
-use Rattle.std.proofs.Common.{◌≡◌, ℕ, zero, suc, ◌-◌, ◌≤◌, List, [], ◌∷◌, Some, None, refl, subst, arith}
-use Rattle.ag_grammar.specs.Lists.{Each}
-use Rattle.ag_grammar.specs.grammars.Accepted.{IsAccepted}
-use Rattle.ag_grammar.specs.grammars.AttributeGrammar.{Grammar}
-use Rattle.ag_grammar.specs.grammars.Passes.{IsLegal, Passes}
+use Rattle.passrun.proofs.Common
+use Common.{◌≡◌, ℕ, zero, suc, ◌-◌, ◌≤◌, List, [], ◌∷◌, Some, None, refl, subst, arith, Each, IsAccepted, Grammar, IsLegal}
+use Common.{Passes, passes_have_all_rules, AreAtMost, passes_of, Last, Passed}
 use Rattle.ag_grammar.specs.grammars.Running.{IsLastPass}
-use Rattle.ag_grammar.proofs.grammars.Counting.{passes_have_all_rules}
 use Rattle.ag_grammar.proofs.grammars.Running.{run_is_the_solution}
-use Rattle.passassign.specs.Rows.{AreAtMost, passes_of}
-use Rattle.passrun.specs.declared.last.Last.{Last}
-use Rattle.passrun.specs.declared.passing.ends.Passed.{Passed}
 use Rattle.passrun.specs.Laws.{AllRulesAreRun, GreatestIsLast, ValuesAreTheSolution}
 use Rattle.passrun.specs.Rounds.{HasRunAll, LeavesSolutions, last_content, other_content}
 

@@ -1,19 +1,14 @@
 -- Files of binary fractions that are damaged, as worked examples.
-use Rattle.std.proofs.Common.{◌≡◌, ℕ, inl, inr, true, pos, List, [], ◌∷◌, Some, None, Ok, refl, sym, subst}
-use Rattle.std.proofs.Common.{arith}
-use Rattle.std.proofs.lemmas.List.Elements.{All-nil}
-use Rattle.std.proofs.lemmas.Option.{same_Some}
-use Rattle.ag_value.specs.declared.value.Value.{Value, Num}
-use Rattle.ag_value.specs.Well.{IsWell}
-use Rattle.ag_grammar.specs.declared.grammar.Item.TheVariants as item
-use Rattle.treefile.specs.framing.ExpectedRecords.{Breaks, IsNoRecord, IsNodeRecord, pending_root}
+use Rattle.passrun.proofs.Common
+use Common.{◌≡◌, ℕ, inl, inr, true, pos, List, [], ◌∷◌, Some, None, Ok, refl, sym, subst, arith, All-nil, same_Some, Value, Num}
+use Common.{IsWell, Breaks, IsNoRecord, IsNodeRecord, pending_root, file, header, version_two, same_node, ExceedsDepth}
+use Common.{ExceedsNodes}
+use Common.item
 use Rattle.treefile.specs.framing.Backward.{next_before}
 use Rattle.treefile.specs.framing.Ending.{body_before, fits_before, is_tree_file}
-use Rattle.treefile.specs.records.TreeFile.{file, header, version_two}
 use Rattle.treefile.specs.Worked.{binary, binary_passes, pass_1_of_one_in_two, production_of}
-use Rattle.treefile.proofs.records.Spelled.{same_node}
 use Rattle.treefile.proofs.WorkedRecords.{binary_numbered, well_number}
-use Rattle.passrun.specs.Damage.{ExceedsDepth, ExceedsNodes, ShowsAt, fractions, fractions_within}
+use Rattle.passrun.specs.Damage.{ShowsAt, fractions, fractions_within}
 
 pub empty : ShowsAt (fractions 0) [] 0
 unfolding is_tree_file

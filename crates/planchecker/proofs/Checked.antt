@@ -1,20 +1,10 @@
 -- An assignment and code are a plan if the tests of all their parts pass.
-use Rattle.std.proofs.Common.{ℕ, ◌≡◌, ◌+◌, ◌-◌, ◌<◌, ◌≤◌, List, [], Some, slice_get, get_or, length, map, option_map, inl, inr}
-use Rattle.std.proofs.Common.{ap, ◌∙◌, sym, refl, arith}
-use Rattle.std.proofs.lemmas.List.{length-map}
-use Rattle.std.proofs.lemmas.Option.{get_or_from_slice_get, same_Some, slice_get-get_or, slice_get-map, slice_get_read}
-use Rattle.std.specs.Global.{Vec}
-use Rattle.ag_grammar.specs.declared.grammar.Production.{Production}
-use Rattle.ag_grammar.specs.grammars.AttributeGrammar.{Grammar}
-use Rattle.ag_grammar.specs.grammars.Passes.{IsLegal}
-use Rattle.ag_grammar.specs.grammars.Accepted.{max_passes}
-use Rattle.passassign.specs.Rows.{passes_of, IsGreatest}
-use Rattle.passcode.specs.declared.instr.Instr.{Instr}
-use Rattle.passcode.specs.Rows.{Lists, lists_of, row_of, rows_of}
+use Rattle.planchecker.proofs.Common
+use Common.{ℕ, ◌≡◌, ◌+◌, ◌-◌, ◌<◌, ◌≤◌, List, [], Some, slice_get, get_or, length, map, option_map, inl, inr, ap, ◌∙◌, sym, refl}
+use Common.{arith, length-map, slice_get-get_or, slice_get_read, Vec, Production, Grammar, IsLegal, max_passes, passes_of}
+use Common.{IsGreatest, Instr, Lists, lists_of, row_of, rows_of, ListsAgree, EachAt, AreAllowed}
+use Rattle.std.proofs.lemmas.Option.{get_or_from_slice_get, same_Some, slice_get-map}
 use Rattle.passcode.specs.Shape.{HasNumbers, HasShape}
-use Rattle.planchecker.specs.Agreeing.{ListsAgree}
-use Rattle.planchecker.specs.First.{EachAt}
-use Rattle.planchecker.specs.Legality.{AreAllowed}
 use Rattle.planchecker.specs.Plans.{IsPlan}
 
 pub legal_of : (g : Grammar) (rows : List (List ℕ)) (code : Lists) → HasShape g rows code
@@ -46,7 +36,7 @@ mapped_at : {A B : Type 0} (f : A → B) (xs : List A) (i : ℕ) (x : A) → i <
     → slice_get (map f xs) i ≡ Some (f x)
 mapped_at f xs i x less is = slice_get-map f xs i ∙ ap (option_map f) (slice_get_read xs (length xs) i x refl less is)
 
--- the elements that a function reads at an index of a table are those of the row there
+-- a slice of the vector with index i in a list of vectors has the elements of that vector
 pub items_at : {A : Type 0} (rows : List (Vec A)) (i : ℕ) (v : Vec A) (xs : List A) → i < length rows → v ≡ get_or rows i v
     → xs ≡ v.items → slice_get (map (λ (w : Vec A). w.items) rows) i ≡ Some xs
 items_at {A} rows i v xs less is items = mapped_at (λ (w : Vec A). w.items) rows i v less is ∙ ap Some (sym items)

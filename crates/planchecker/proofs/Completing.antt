@@ -1,18 +1,11 @@
 -- Lists that agree and begin with the instructions of a list that was run up to an index.
-use Rattle.std.proofs.Common.{ℕ, zero, suc, ◌≡◌, ◌+◌, ◌<◌, ◌≤◌, ◌⊎◌, ◌↔◌, inl, inr, List, [], ◌∷◌, ◌++◌, Some, slice_get, take}
-use Rattle.std.proofs.Common.{length, refl, ap, ◌∙◌, sym, arith, add-one}
-use Rattle.std.proofs.lemmas.Option.{slice_get_within}
-use Rattle.ag_grammar.specs.Lists.{Has}
-use Rattle.ag_grammar.specs.declared.grammar.Production.{Production}
-use Rattle.ag_grammar.specs.declared.grammar.Rule.{Rule}
-use Rattle.ag_grammar.specs.declared.grammar.Target.{Target}
-use Rattle.ag_grammar.specs.grammars.AttributeGrammar.{IsArgument}
-use Rattle.ag_grammar.specs.grammars.Passes.{Passes}
-use Rattle.passcode.specs.declared.instr.Instr.{Instr}
+use Rattle.planchecker.proofs.Common
+use Common.{ℕ, zero, suc, ◌≡◌, ◌+◌, ◌<◌, ◌≤◌, ◌⊎◌, ◌↔◌, inl, inr, List, [], ◌∷◌, ◌++◌, Some, slice_get, take, length, refl, ap}
+use Common.{◌∙◌, sym, arith, add-one, slice_get_within, Has, Production, Rule, Target, IsArgument, Passes, Instr, ListAgrees}
+use Common.{IsAvailable, State, start, state_at, BeginsAs, CanBegin, IsFirstWrong, IsOnPath, RunsRule, state_of}
 use Rattle.passcode.specs.declared.instr.Instr.TheVariants as instr
-use Rattle.passcode.specs.Agreement.{ListAgrees}
 use Rattle.passcode.specs.declared.phase.Phase.TheVariants.{Ended}
-use Rattle.passcode.specs.Course.{IsAvailable, MayCompute, State, MayRun, Runs, after, arity, read_count, start, state_at}
+use Rattle.passcode.specs.Course.{MayCompute, MayRun, Runs, after, arity, read_count}
 use Rattle.passcode.specs.Limits.{IsPlanned}
 use Rattle.passcode.specs.Listing.{remaining_in}
 use Rattle.passcode.proofs.Agreeing.{agrees}
@@ -20,8 +13,6 @@ use Rattle.passcode.proofs.Following.{follows}
 use Rattle.passcode.proofs.Leaving.{IsReached, remaining_runs, reached, starts}
 use Rattle.passcode.proofs.States.{MayRunTo, index_runs, kept, runs_by_index, state_next}
 use Rattle.passcode.proofs.Marks.{read_in, read_within}
-use Rattle.planchecker.specs.Agreeing.{BeginsAs, CanBegin, IsFirstWrong}
-use Rattle.planchecker.specs.Following.{IsOnPath, RunsRule, state_of}
 use Rattle.planchecker.specs.declared.following.NodeState.{NodeState}
 use Rattle.planchecker.proofs.Loops.{or_none}
 
@@ -91,7 +82,7 @@ pub next_state : (q : Production) (xs : List Instr) (n : ℕ) (x : Instr) → sl
     → state_at q start xs (n + 1) ≡ after q (state_at q start xs n) x
 next_state q xs n x at = rw (add-one n) (state_next (λ s. []) q 0 start xs n x at)
 
--- a node in the state before its index meets what its methods require (`IsOnPath`)
+-- a node in the state before its next instruction meets what its methods require (`IsOnPath`)
 pub on_way : (node : NodeState) → node.phase ≡ (state_of node).phase → node.turn ≡ (state_of node).turn
     → node.index < length node.list.now → node.children ≡ arity node.context.production.now → (m : Passes)
     → IsPlanned m node.context.production.now → (k : ℕ) → MayRunTo m node.context.production.now k start node.list.now node.index

@@ -1,3 +1,4 @@
+pub mod Common
 pub mod Checked
 pub mod Completing
 pub mod Lists

@@ -1,10 +1,7 @@
 -- The first list of a production that does not agree: the lists before it agree.
-use Rattle.std.proofs.Common.{ℕ, ◌≡◌, ◌+◌, ◌-◌, List, Some, slice_get, inl, inr, arith}
-use Rattle.ag_grammar.specs.declared.grammar.Production.{Production}
-use Rattle.ag_grammar.specs.grammars.Passes.{Passes}
-use Rattle.passcode.specs.declared.instr.Instr.{Instr}
-use Rattle.passcode.specs.Agreement.{ListAgrees}
-use Rattle.planchecker.specs.Agreeing.{IsFirstList, IsFirstWrong}
+use Rattle.planchecker.proofs.Common
+use Common.{ℕ, ◌≡◌, ◌+◌, ◌-◌, List, Some, slice_get, inl, inr, arith, Production, Passes, Instr, ListAgrees, IsFirstList}
+use Common.{IsFirstWrong}
 use Rattle.planchecker.proofs.Loops.{Prefix, first_not}
 
 -- a list with a first wrong index does not agree

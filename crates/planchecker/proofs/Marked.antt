@@ -1,12 +1,10 @@
 -- Tables of marks.
-use Rattle.std.proofs.Common.{ℕ, ◌≡◌, ◌<◌, ◌⊎◌, ◌↔◌, Bool, true, false, List, length, inl, inr, sym, ◌∙◌, arith}
+use Rattle.planchecker.proofs.Common
+use Common.{ℕ, ◌≡◌, ◌<◌, ◌⊎◌, ◌↔◌, Bool, true, false, List, length, inl, inr, sym, ◌∙◌, arith, cases_eq, cases_lt, false≢true}
+use Common.{get_or_past, max_attributes, max_symbols, slot_same, IsMarked}
 use Rattle.std.proofs.Math.ListN.{replicate, set, length-replicate, get_or-replicate}
-use Rattle.std.proofs.lemmas.Bool.{cases_eq, cases_lt, false≢true}
-use Rattle.std.proofs.lemmas.List.{get_or_past, get_or-set_same, get_or-set_other}
-use Rattle.ag_grammar.specs.grammars.Accepted.{max_attributes, max_symbols}
+use Rattle.std.proofs.lemmas.List.{get_or-set_same, get_or-set_other}
 use Rattle.passassign.specs.Tables.{slot_of, is_marked}
-use Rattle.passassign.proofs.slots.Linked.{slot_same}
-use Rattle.planchecker.specs.Marking.{IsMarked}
 
 pub none_marked : (n k : ℕ) → is_marked (replicate n false) k ≡ true → ⊥
 none_marked n k e = elim (cases_lt k n) [

@@ -1,11 +1,8 @@
 -- For a number beyond the symbols and beyond the rows of an assignment, the row is empty, as it has to be.
-use Rattle.std.proofs.Common.{ℕ, ◌≡◌, ◌≤◌, List, [], Some, slice_get, length, refl}
-use Rattle.std.proofs.lemmas.List.{get_or_past}
+use Rattle.planchecker.proofs.Common
+use Common.{ℕ, ◌≡◌, ◌≤◌, List, [], Some, slice_get, length, refl, get_or_past, symbol_kinds, passes_of, IsRow}
 use Rattle.std.proofs.lemmas.Option.{slice_get_past}
 use Rattle.ag_grammar.specs.declared.grammar.Symbol.{Symbol}
-use Rattle.ag_grammar.specs.grammars.AttributeGrammar.{symbol_kinds}
-use Rattle.passassign.specs.Rows.{passes_of}
-use Rattle.planchecker.specs.Shapes.{IsRow}
 
 pub rows_past : (symbols : List Symbol) (rows : List (List ℕ)) (s : ℕ) → length symbols ≤ s → length rows ≤ s
     → IsRow (length (symbol_kinds (slice_get symbols s))) (passes_of rows s)

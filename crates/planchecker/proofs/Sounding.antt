@@ -1,8 +1,5 @@
 -- A pass of a plan is sound.
-use Rattle.std.proofs.Common.{◌-◌, [], arith}
-use Rattle.std.proofs.lemmas.Option.{slice_get_within, slice_get-get_or}
-use Rattle.passassign.specs.Rows.{passes_of}
-use Rattle.passcode.specs.Rows.{lists_of}
+use Rattle.planchecker.proofs.Common.{◌-◌, [], arith, slice_get_within, slice_get-get_or, passes_of, lists_of}
 use Rattle.passcode.proofs.Lawful.{lists_run}
 use Rattle.passcode.proofs.lists.Shaped.{list_there}
 use Rattle.planchecker.specs.Laws.{PlansAreSound}

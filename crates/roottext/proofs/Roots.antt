@@ -251,7 +251,7 @@ found_matches_root g assignment code content (Err (out_fault.Damaged at)) accept
 found_matches_root g assignment code content (Err out_fault.Device) accepted plan found last greatest t v fits is = tt
 found_matches_root g assignment code content (Err out_fault.NoMemory) accepted plan found last greatest t v fits is = tt
 
--- The fault if a content has no last body,
+-- A fault in finding the last body of a content is one that `FindsValue` allows.
 pub body_refused : {A : Type 0} (g : Grammar) (assignment : List (List ℕ)) (content : List ℕ) (view : A → List ℕ) (e : FrameFault)
     → ReadsAs view (Err e) (last_body_of version_two content) → FindsValue g assignment content (Err e)
 body_refused g assignment content view frame_fault.NotATreeFile exact = exact
@@ -263,7 +263,7 @@ body_refused g assignment content view (frame_fault.Damaged at) exact = record {
 body_refused g assignment content view frame_fault.Device exact = tt
 body_refused g assignment content view frame_fault.NoMemory exact = tt
 
--- and if its last body is not the root's record.
+-- If the last body of a content is not the root's record, there is no root at the content's end.
 pub no_root_at_end : (g : Grammar) (assignment : List (List ℕ)) (content body : List ℕ) (at : ℕ) → at ≡ length content
     → last_body_of version_two content ≡ Ok body → ((x : Value) → IsRootRecord g assignment body x → ⊥)
     → EndsWithNoRoot g assignment content at

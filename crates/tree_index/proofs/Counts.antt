@@ -64,7 +64,7 @@ before_length : (g : Grammar) (xs ys : List Subtree) → count_before g (map kin
 before_length g [] ys = none_before g (map kind_at ys)
 before_length g (x ∷ xs) ys = omega (arith, before_length g xs ys)
 
--- the tokens between a node and the end of its subtree are those of the subtree
+-- the difference of the counts at a node and at the end of its subtree is the number of tokens of the subtree
 subtree_tokens : (g : Grammar) {k : ℕ} {t : Tree} {v : Valuation} {index : TreeIndex} {number : ℕ} {tree : Tree} {w : Valuation}
     → HasNodes k t v index → IsSubtreeAt (back_from k) (nodes_of (back_from k) t v) number tree w
     → count_before g index.kinds.items (number + node_count tree) ≡ count_before g index.kinds.items number + token_count g tree

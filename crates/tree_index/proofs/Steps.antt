@@ -61,7 +61,7 @@ ends_length content [] [] a = refl
 ends_length content (x ∷ ends) (b ∷ bodies) a = ap suc (ends_length content ends bodies a.1)
 ends_length content _ _ a = elim a [ ]
 
--- one more size is added: that of the node that comes next, or any size if this node is open
+-- the sizes with one more: it is that of the node that comes next, or any number if this node is open
 sizes_more : (all so_far : List ℕ) (s : ℕ) (os : List OpenRecord) → AreSizes all so_far os
     → (get_or all (length so_far) 0 ≡ s) ⊎ IsOpenNumber (length so_far) os → AreSizes all (so_far ++ s ∷ []) os
 sizes_more all so_far s os sizes last i less = elim (cases_eq i (length so_far)) [

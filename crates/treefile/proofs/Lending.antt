@@ -1,11 +1,8 @@
 -- The body of a frame that is cut out of a content.
-use Rattle.std.proofs.Common.{◌≡◌, ◌≤◌, ◌+◌, ◌-◌, ℕ, List, ◌++◌, length, drop, true, Ok, arith, length-append, ap}
-use Rattle.std.proofs.Common.{append_assoc}
-use Rattle.std.proofs.lemmas.List.{get_or-drop}
-use Rattle.std.specs.Int.{w32, from_be_bytes}
+use Rattle.treefile.proofs.Common
+use Common.{◌≡◌, ◌≤◌, ◌+◌, ◌-◌, ℕ, List, ◌++◌, length, drop, true, Ok, arith, length-append, ap, append_assoc, get_or-drop, w32}
+use Common.{from_be_bytes, Version, IsBytes, body_before, fits_before, header_bytes, length_bytes}
 use Rattle.treefile.proofs.records.Frames.{read_at, slice_of}
-use Rattle.treefile.specs.records.TreeFile.{Version}
-use Rattle.treefile.specs.framing.Ending.{IsBytes, body_before, fits_before, header_bytes, length_bytes}
 
 -- if a content is cut at an offset, again before the four bytes of the length there, and again before the body before these
 -- bytes, then the frame of this body ends at the offset

@@ -1,3 +1,4 @@
+pub mod Common
 mod Lending
 pub mod records
 pub mod Run

@@ -1,7 +1,7 @@
 -- Passes over files, one after the other.
-use Rattle.std.proofs.Common.{◌≡◌, suc, ◌<◌, ◌≤◌, arith}
-use Rattle.ag_grammar.specs.declared.grammar.Item.TheVariants as item
-use Rattle.ag_grammar.proofs.grammars.EachNode.{same_weaker}
+use Rattle.treefile.proofs.Common
+use Common.{◌≡◌, suc, ◌<◌, ◌≤◌, arith, same_weaker}
+use Common.item
 use Rattle.ag_grammar.proofs.grammars.Running.{run_begins, run_goes_on}
 use Rattle.treefile.specs.Laws.{RunContinues, RefusalGoesBack, RefusalWithinGoesBack, RunBegins}
 use Rattle.treefile.proofs.SameFile.{same_file}

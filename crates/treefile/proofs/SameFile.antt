@@ -1,16 +1,9 @@
 -- Values that are the same up to a pass have the same file of this pass.
-use Rattle.std.proofs.Common.{◌≡◌, ℕ, suc, ◌≤◌, List, [], ◌∷◌, slice_get, refl, arith}
-use Rattle.std.proofs.lemmas.Bool.Decides.{nat_tests}
-use Rattle.ag_value.specs.declared.value.Value.{Value}
-use Rattle.ag_grammar.specs.grammars.AttributeGrammar.{Grammar}
-use Rattle.ag_grammar.specs.grammars.Passes.{Passes}
-use Rattle.ag_grammar.specs.grammars.Solution.{AtEachNodeOf, Same, SameAt, Valuation, children, left_passes, rest}
-use Rattle.ag_grammar.specs.grammars.Tree.{Tree, Forest, leaf, node, none, more}
-use Rattle.ag_grammar.proofs.grammars.EachNode.{each_well, same_texts}
+use Rattle.treefile.proofs.Common
+use Common.{◌≡◌, ℕ, suc, ◌≤◌, List, [], ◌∷◌, slice_get, refl, arith, nat_tests, Value, Grammar, Passes, AtEachNodeOf, Same}
+use Common.{SameAt, Valuation, children, left_passes, rest, Tree, Forest, leaf, node, none, more, each_well, same_texts}
+use Common.{bodies_of, bodies_of_all, copies_of, copy_of, left_synthesized, values_up_to, Version}
 use Rattle.treefile.specs.Laws.{SameFile as SameFileLaw}
-use Rattle.treefile.specs.records.Records.{bodies_of, bodies_of_all, copies_of, copy_of, left_synthesized}
-use Rattle.treefile.specs.records.Records.{values_up_to}
-use Rattle.treefile.specs.records.TreeFile.{Version}
 use Rattle.treefile.proofs.records.Copies.{synthesized_is}
 
 -- the values of a record are the same if they are the same up to its pass

@@ -1,10 +1,6 @@
 -- The files of two sentences, worked out.
-use Rattle.std.proofs.Common.{◌≡◌, refl}
-use Rattle.ag_value.proofs.Layers.{spellings}
-use Rattle.ag_grammar.specs.grammars.Sample.{token_sample, token_tree}
-use Rattle.ag_grammar.specs.grammars.Solution.{Valuation}
-use Rattle.treefile.specs.records.Records.{file_of_tree}
-use Rattle.treefile.specs.records.TreeFile.{version_one, version_two}
+use Rattle.treefile.proofs.Common
+use Common.{◌≡◌, refl, spellings, token_sample, token_tree, Valuation, file_of_tree, version_one, version_two}
 use Rattle.treefile.specs.Worked.{binary, binary_passes, file_of_iffy, file_of_iffy_in_two, iffy_passes, pass_0_of_one}
 use Rattle.treefile.specs.Worked.{pass_1_of_one, pass_1_of_one_in_two, pass_2_of_one, pass_2_of_one_in_two, tree_of_one}
 use Rattle.treefile.specs.Worked.{values_of_one}

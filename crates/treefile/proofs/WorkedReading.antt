@@ -1,23 +1,13 @@
 -- Reading the file of pass 0 of `1` from its end, worked out.
-use Rattle.std.proofs.Common.{◌≡◌, ℕ, inl, inr, pos, false, List, [], ◌∷◌, None, refl, ap, sym}
-use Rattle.std.proofs.Common.{arith}
-use Rattle.std.proofs.lemmas.Option.{same_Some}
-use Rattle.ag_value.specs.declared.value.Value.{Value, Num}
-use Rattle.ag_value.proofs.Layers.{spellings}
-use Rattle.ag_grammar.specs.declared.direction.Direction.TheVariants.{RightToLeft}
-use Rattle.ag_grammar.specs.declared.grammar.Item.TheVariants as item
-use Rattle.ag_grammar.specs.declared.grammar.Production.{Production}
-use Rattle.ag_grammar.specs.declared.grammar.Terminal.TheVariants.{Class}
-use Rattle.ag_grammar.specs.grammars.AttributeGrammar.{IsProduction, stored_items}
-use Rattle.ag_grammar.specs.grammars.Sample.{iffy, token_sample}
-use Rattle.ag_grammar.specs.grammars.Tree.{depth_of, max_depth, max_nodes}
-use Rattle.ag_grammar.proofs.grammars.samples.TokenSample.{text as token_text}
-use Rattle.treefile.specs.framing.ExpectedRecords.{AreThere, Expects, HasNoTree, HasNoTreeWithin, IsNoRecord}
-use Rattle.treefile.specs.framing.ExpectedRecords.{IsNodeRecord, ReadSoFar, IsRecordOf, pending_root, children_with_copies}
+use Rattle.treefile.proofs.Common
+use Common.{◌≡◌, ℕ, inl, inr, pos, false, List, [], ◌∷◌, None, refl, ap, sym, arith, same_Some, Value, Num, spellings}
+use Common.{RightToLeft, Production, Class, stored_items, iffy, token_sample, depth_of, max_depth, max_nodes, token_text}
+use Common.{AreThere, Expects, HasNoTree, HasNoTreeWithin, IsNoRecord, IsNodeRecord, ReadSoFar, IsRecordOf, pending_root}
+use Common.{children_with_copies, version_one_usable, node_body, file, header, version_one}
+use Common.item
+use Rattle.ag_grammar.specs.grammars.AttributeGrammar.{IsProduction}
 use Rattle.treefile.specs.framing.Backward.{next_before}
-use Rattle.treefile.specs.framing.Ending.{body_before, fits_before, version_one_usable}
-use Rattle.treefile.specs.records.Records.{node_body}
-use Rattle.treefile.specs.records.TreeFile.{file, header, version_one}
+use Rattle.treefile.specs.framing.Ending.{body_before, fits_before}
 use Rattle.treefile.specs.Worked.{binary, binary_passes, bodies_of_one, iffy_passes, pass_0_of_one, production_of, record_of_iffy}
 use Rattle.treefile.specs.Worked.{record_of_t, tree_of_one, values_of_one}
 use Rattle.treefile.proofs.framing.PendingChildren.{awaited_are_there}

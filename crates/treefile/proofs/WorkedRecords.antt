@@ -1,30 +1,19 @@
 -- Recorded trees, passes over a file, and the values of records, worked out.
-use Rattle.std.proofs.Common.{◌≡◌, ℕ, zero, suc, ◌^◌, ◌<◌, ◌≤◌, pos, All, List, [], ◌∷◌, ◌++◌, length, None, Ok}
-use Rattle.std.proofs.Common.{IsUtf8, codes, lit<, refl, rules, ap, sym, ◌∙◌, arith}
-use Rattle.std.proofs.lemmas.Bool.{lt-ltb}
-use Rattle.std.proofs.lemmas.List.Elements.{All-cons, All-nil}
+use Rattle.treefile.proofs.Common
+use Common.{◌≡◌, ℕ, zero, suc, ◌^◌, ◌<◌, ◌≤◌, pos, All, List, [], ◌∷◌, ◌++◌, length, None, Ok, IsUtf8, codes, lit<, refl, rules}
+use Common.{ap, sym, ◌∙◌, arith, lt-ltb, All-cons, All-nil, Value, Num, Text, IsWell, well_is_read, depth-Num, item-Num}
+use Common.{spellings, weight-Num, Literal, iffy, token_sample, token_tree, IsWellOn, NoRule, Same, Solves, Valuation, IsTreeOf}
+use Common.{Tree, token_fits, token_text, formed, well_text, last_body_of, version_one_usable, IsNumbered, IsRecorded}
+use Common.{FitsVersion, IsFileOfTree, node_body, version_one}
+use Common.item
 use Rattle.std.proofs.lemmas.Str.{encode_ascii, is_utf8-from_IsUtf8}
-use Rattle.ag_value.specs.declared.value.Value.{Value, Num, Text}
 use Rattle.ag_value.specs.Reading.{value_at}
-use Rattle.ag_value.specs.Well.{IsWell}
-use Rattle.ag_value.proofs.Codec.{well_is_read}
-use Rattle.ag_value.proofs.Layers.{depth-Num, item-Num, spellings, weight-Num}
-use Rattle.ag_grammar.specs.declared.grammar.Item.TheVariants as item
-use Rattle.ag_grammar.specs.declared.grammar.Terminal.TheVariants.{Literal}
-use Rattle.ag_grammar.specs.grammars.Sample.{iffy, sample, sample_passes, sample_tree, sample_values, token_sample, token_tree}
+use Rattle.ag_grammar.specs.grammars.Sample.{sample, sample_passes, sample_tree, sample_values}
 use Rattle.ag_grammar.specs.grammars.Sample.{token_values, values_of_a}
-use Rattle.ag_grammar.specs.grammars.Solution.{IsWellOn, NoRule, Same, Solves, Valuation}
-use Rattle.ag_grammar.specs.grammars.Tree.{IsTreeOf, Tree}
 use Rattle.ag_grammar.proofs.grammars.samples.NumberSample.{fits as sample_fits}
 use Rattle.ag_grammar.proofs.grammars.Running.{sample_ran}
-use Rattle.ag_grammar.proofs.grammars.samples.TokenSample.{fits as token_fits, text as token_text}
-use Rattle.ag_value.proofs.operations.Wells.{formed, well_text}
-use Rattle.treefile.specs.framing.Ending.{last_body_of, version_one_usable}
 use Rattle.treefile.specs.records.Listed.{AreSpelled, BeginsNoValue, HasReadValues, IsListedRecord}
-use Rattle.treefile.specs.records.OneTree.{IsNumbered, IsRecorded}
-use Rattle.treefile.specs.records.Records.{FitsVersion, IsFileOfTree, node_body}
 use Rattle.treefile.specs.Runs.{RunsPass, RunsPasses}
-use Rattle.treefile.specs.records.TreeFile.{version_one}
 use Rattle.treefile.specs.Worked.{binary, binary_passes, file_of_x_x, iffy_passes, pass_2_of_one, production_of, record_of_n}
 use Rattle.treefile.specs.Worked.{record_of_t, spelled_number, tree_of_one, values_of_one, values_of_t}
 use Rattle.treefile.proofs.records.Listing.{value_is_missing}

@@ -1,35 +1,25 @@
 -- The parser agrees with the syntax.
-use Rattle.std.proofs.Common.{rules, ◌≡◌, ℕ, zero, suc, Bool, true, false, not, ◌||◌, if◌then◌else◌, ◌&&◌, List, [], ◌∷◌, ◌++◌}
-use Rattle.std.proofs.Common.{length, ◌<◌, Option, Some, None, Ok, Err, is_some, refl, append-nil, ◌↔◌}
-use Rattle.std.proofs.Common.{codes, arith}
+use Rattle.ag_expr.proofs.Common
+use Common.{rules, ◌≡◌, ℕ, zero, suc, Bool, true, false, not, ◌||◌, if◌then◌else◌, ◌&&◌, List, [], ◌∷◌, ◌++◌, length, ◌<◌, Option}
+use Common.{Some, None, Ok, Err, is_some, refl, append-nil, ◌↔◌, codes, arith, and_parts, Precedence, Call, Operator, Node, Occ}
+use Common.{Ending, Names, PlacedToken, Input, tokens, ◌>>=◌, ◌>>◌, gives, one, pure, is_end, is_sign, GrammarToken, Sign, mark}
+use Common.{word, sign_token}
+use Common.call
+use Common.punctuation
+use Common.node
+use Common.ending
+use Common.reading
 use denote.Enum.Bare.{same_true}
-use Rattle.std.proofs.lemmas.Bool.{and_parts}
 use Rattle.ag_expr.specs.contracts.parser.Precedence.{the_type}
-use Rattle.ag_expr.specs.declared.parser.Precedence.{Precedence}
-use Rattle.ag_expr.specs.declared.names.Call.{Call}
-use Rattle.ag_expr.specs.declared.names.Call.TheVariants as call
-use Rattle.ag_tokens.specs.declared.token.Punctuation.TheVariants as punctuation
-use Rattle.ag_grammar.specs.declared.syntax.node.Operator.{Operator}
-use Rattle.ag_grammar.specs.declared.syntax.node.Node.{Node}
-use Rattle.ag_grammar.specs.declared.syntax.node.Node.TheVariants as node
-use Rattle.ag_grammar.specs.declared.syntax.occurrence.Occ.{Occ}
-use Rattle.ag_tokens.specs.Ending.{Ending}
-use Rattle.ag_tokens.specs.Ending as ending
-use Rattle.ag_expr.specs.language.Names.{Names}
-use Rattle.ag_tokens.specs.PlacedToken.{PlacedToken, Input, tokens}
-use Rattle.ag_tokens.specs.Languages.{◌>>=◌, ◌>>◌, gives, one}
 use Rattle.ag_expr.specs.language.Syntax.{one_sign, operator_of, binary_operator, precedences, closer, takes_one, same_precedence}
 use Rattle.ag_expr.specs.language.Syntax.{of_precedence, chain_of, new_name, call_in, operand_of, IsOther, IsChain, IsRanked}
 use Rattle.ag_expr.specs.language.Syntax.{AreNone, IsTable, IsParenthesized, IsNext, AreSome, IsList, AreArguments, IsCall, IsLet}
 use Rattle.ag_expr.specs.language.Syntax.{IsIf, IsAtom, IsWhole, IsExpr, IsExprIn}
-use Rattle.ag_tokens.specs.Parsing as reading
-use Rattle.ag_tokens.specs.Parsing.{pure, is_end, is_sign}
 use Rattle.ag_expr.specs.language.Reading.{expect, expr_of, refusal, Parser, is_call, is_operand, is_operator_of, begins}
 use Rattle.ag_expr.specs.language.Reading.{begins_atom, other_from, chain_from, ranked_from, none_from, table_from}
 use Rattle.ag_expr.specs.language.Reading.{parenthesized_from, next_from, items_from, some_from, list_from, unary_from}
 use Rattle.ag_expr.specs.language.Reading.{binary_from, put_from, arguments_from, call_from, let_from, if_from, atom_from}
 use Rattle.ag_expr.specs.language.Reading.{whole_from, expr_from, expr_in}
-use Rattle.ag_tokens.specs.GrammarToken.{GrammarToken, Sign, mark, word, sign_token}
 use Rattle.ag_expr.proofs.reading.Exact.{Test, nowhere, Apart, then_exact, or_exact, further_exact, further_after, further_then}
 use Rattle.ag_expr.proofs.reading.Exact.{then_starts, ends_exact, any_then, start_then, opened, shortens}
 use Rattle.ag_expr.proofs.language.Manner.{Language, Starts, Exact, First, token_exact, token_starts, sign_exact, sign_is}

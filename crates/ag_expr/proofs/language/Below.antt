@@ -1,25 +1,17 @@
 -- The numbers in the tree of an expression are in range: those of occurrences for the list, and those of
 -- bound names for the scope.
-use Rattle.std.proofs.lemmas.Bool.{lt-ltb}
-use Rattle.std.proofs.Common.{◌≡◌, ◌<◌, ◌+◌, ℕ, zero, suc, length, Option, Some, None, IfSome, subst, List, [], ◌∷◌, ◌++◌, Bool}
-use Rattle.std.proofs.Common.{true, false, cond, inl, inr, refl, arith, length-append, bytes_eq}
+use Rattle.ag_expr.proofs.Common
+use Common.{lt-ltb, ◌≡◌, ◌<◌, ◌+◌, ℕ, zero, suc, length, Option, Some, None, IfSome, subst, List, [], ◌∷◌, ◌++◌, Bool, true}
+use Common.{false, cond, inl, inr, refl, arith, length-append, bytes_eq, Call, Operator, Node, Occ, Precedence, Names, last_from}
+use Common.{binding_in, is_reserved, is_of, position_of, ◌>>=◌, ◌>>◌, Many, none, more, further, gives, one, ◌or◌, GrammarToken}
+use Common.{is_below}
+use Common.call
+use Common.node
+use Common.token
 use Rattle.std.specs.Prelude.{option_map}
-use Rattle.ag_expr.specs.declared.names.Call.{Call}
-use Rattle.ag_expr.specs.declared.names.Call.TheVariants as call
-use Rattle.ag_grammar.specs.declared.syntax.node.Operator.{Operator}
-use Rattle.ag_grammar.specs.declared.syntax.node.Node.{Node}
-use Rattle.ag_grammar.specs.declared.syntax.node.Node.TheVariants as node
 use Rattle.ag_grammar.specs.declared.syntax.node.Node.TheOpen.{Node-F}
-use Rattle.ag_grammar.specs.declared.syntax.occurrence.Occ.{Occ}
-use Rattle.ag_expr.specs.declared.parser.Precedence.{Precedence}
-use Rattle.ag_expr.specs.language.Names.{Names, last_from, binding_in, is_reserved}
-use Rattle.ag_expr.specs.language.Occurrences.{is_of, position_of}
-use Rattle.ag_tokens.specs.Languages.{◌>>=◌, ◌>>◌, Many, none, more, further, gives, one, ◌or◌}
 use Rattle.ag_expr.specs.language.Syntax.{precedences, chain_of, operand_of, takes_one, IsOther, IsRanked, IsNext, IsList}
 use Rattle.ag_expr.specs.language.Syntax.{AreArguments, IsLet, IsIf, IsAtom, IsWhole, IsExpr, IsExprIn}
-use Rattle.ag_tokens.specs.GrammarToken.{GrammarToken}
-use Rattle.ag_tokens.specs.GrammarToken as token
-use Rattle.ag_grammar.specs.expressions.Trees.{is_below}
 use Rattle.ag_expr.proofs.language.Manner.{Language}
 use Rattle.ag_expr.proofs.language.Numbered.{within}
 use Rattle.ag_grammar.proofs.expressions.Within.{Each, Within, both, rolled, in_chain, in_list, literal_within, occurrence_within}

@@ -1,15 +1,10 @@
 -- A chain of operators, parsed as its first atom and the rest after it.
-use Rattle.std.proofs.Common.{◌≡◌, true, false, not, List, [], ◌∷◌, Option, Some, None, Ok, Err, refl, ◌∙◌, arith}
-use Rattle.std.proofs.Common.{is_some}
-use Rattle.ag_tokens.specs.Parsing.{and_then, sees}
-use Rattle.ag_tokens.specs.PlacedToken.{Input}
-use Rattle.ag_tokens.specs.GrammarToken.{GrammarToken}
+use Rattle.ag_expr.proofs.Common
+use Common.{◌≡◌, true, false, not, List, [], ◌∷◌, Option, Some, None, Ok, Err, refl, ◌∙◌, arith, is_some, and_then, sees, Input}
+use Common.{GrammarToken, Node, Operator, Precedence}
+use Common.precedence
 use Rattle.ag_expr.proofs.reading.Exact.{both_without}
 use Rattle.ag_expr.proofs.reading.Turns.{none_further}
-use Rattle.ag_grammar.specs.declared.syntax.node.Node.{Node}
-use Rattle.ag_grammar.specs.declared.syntax.node.Operator.{Operator}
-use Rattle.ag_expr.specs.declared.parser.Precedence.{Precedence}
-use Rattle.ag_expr.specs.declared.parser.Precedence.TheVariants as precedence
 use Rattle.ag_expr.specs.language.Chains.{chain_after, is_among, is_operator_among, ranked_after}
 use Rattle.ag_expr.specs.language.Reading.{Outcome, Parser, chain_from, is_operator_of, other_from, ranked_from}
 use Rattle.ag_expr.specs.language.Syntax.{binary_operator, closer, precedences, same_precedence, takes_one}

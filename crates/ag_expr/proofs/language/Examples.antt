@@ -1,18 +1,16 @@
 -- Worked examples.
-use Rattle.std.proofs.Common.{◌≡◌, List, [], ◌∷◌, Ok, pos, codes, lit<, refl, subst}
+use Rattle.ag_expr.proofs.Common
+use Common.{◌≡◌, List, [], ◌∷◌, Ok, pos, codes, lit<, refl, subst, PlacedToken, tokens, AreTokens, ReadsAsExpr}
+use Common.punctuation
+use Common.ending
+use Common.token
 use Rattle.std.proofs.lemmas.Str.{encode_ascii}
 use Rattle.std.specs.Str.{chars}
 use Rattle.unicode_ident.proofs.IdentLemmas.{is_xid_start-ascii, is_xid_continue-ascii}
-use Rattle.ag_tokens.specs.declared.token.Punctuation.TheVariants as punctuation
-use Rattle.ag_tokens.specs.Ending as ending
-use Rattle.ag_tokens.specs.PlacedToken.{PlacedToken, tokens}
-use Rattle.ag_tokens.specs.GrammarToken as token
-use Rattle.ag_tokens.specs.Tokens.{AreTokens}
 use Rattle.ag_tokens.specs.Remaining.{cut}
 use Rattle.ag_tokens.specs.Lexing.{token_from}
 use Rattle.ag_tokens.specs.Parsing.{many_from}
 use Rattle.ag_expr.specs.language.Reading.{expr_of, expr_in, whole_from, let_from, ranked_from, chain_from, other_from, atom_from}
-use Rattle.ag_expr.specs.language.Expression.{ReadsAsExpr}
 use Rattle.ag_expr.specs.language.Syntax.{IsExpr}
 use Rattle.ag_expr.specs.language.Worked.{placed, sum_and_product, let_and_compare, bound_and_compared}
 use Rattle.ag_expr.proofs.language.Agree as agree

@@ -1,12 +1,8 @@
 -- Listing occurrences one after the other results in the distinct ones.
-use Rattle.std.proofs.Common.{◌≡◌, Bool, true, not, List, [], ◌∷◌, ◌++◌, filter, refl, sym, ◌∙◌, append_assoc, append-nil}
-use Rattle.std.proofs.Common.{arith}
-use Rattle.std.proofs.lemmas.Bool.Decides.{nat_tests}
-use Rattle.std.proofs.lemmas.List.Folds.{list_any-append}
-use Rattle.std.proofs.lemmas.Slice.Eq.{bytes_eq-Decides}
+use Rattle.ag_expr.proofs.Common
+use Common.{◌≡◌, Bool, true, not, List, [], ◌∷◌, ◌++◌, filter, refl, sym, ◌∙◌, append_assoc, append-nil, arith, nat_tests}
+use Common.{list_any-append, bytes_eq-Decides, Occ, is_of, distinct_occurrences, listed_with_all}
 use Rattle.std.specs.List.{list_any}
-use Rattle.ag_grammar.specs.declared.syntax.occurrence.Occ.{Occ}
-use Rattle.ag_expr.specs.language.Occurrences.{is_of, distinct_occurrences, listed_with_all}
 
 abbrev pub is_listed : List Occ → Occ → Bool
 is_listed xs y = list_any (is_of y.place y.attr) xs

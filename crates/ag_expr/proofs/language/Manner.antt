@@ -1,22 +1,16 @@
 -- Expressions as a language that a parser reads: faults of the parser, and single signs.
-use Rattle.std.proofs.Common.{◌||◌, rules, arith, ℕ, bytes_eq, ◌≡◌, ◌==◌, ◌&&◌, Bool, true, false, List, Option, Some, is_some}
-use Rattle.std.proofs.Common.{refl}
+use Rattle.ag_expr.proofs.Common
+use Common.{◌||◌, rules, arith, ℕ, bytes_eq, ◌≡◌, ◌==◌, ◌&&◌, Bool, true, false, List, Option, Some, is_some, refl, nat_tests}
+use Common.{bytes_eq-Decides, PlacedToken, is_sign, same_mark, choose, GrammarToken, Sign, mark, word, sign_token, ◌>>=◌, one}
+use Common.{◌or◌, ExprFault, begins_expression}
+use Common.fault
 use denote.Enum.Bare.{same_true, true_same}
-use Rattle.std.proofs.lemmas.Bool.Decides.{nat_tests}
-use Rattle.std.proofs.lemmas.Slice.Eq.{bytes_eq-Decides}
 use Rattle.ag_tokens.specs.contracts.token.Punctuation.{the_type}
 use Rattle.ag_tokens.specs.declared.token.Punctuation.{Punctuation}
-use Rattle.ag_tokens.specs.PlacedToken.{PlacedToken}
-use Rattle.ag_tokens.specs.Parsing.{is_sign, same_mark, choose}
-use Rattle.ag_tokens.specs.GrammarToken.{GrammarToken, Sign, mark, word, sign_token}
-use Rattle.ag_tokens.specs.Languages.{◌>>=◌, one, ◌or◌}
 use Rattle.ag_expr.proofs.reading.Exact as theory
 use Rattle.ag_expr.proofs.reading.Exact.{Manner, Apart, Test, one_exact, one_starts, then_starts, or_starts, or_exact}
 use Rattle.ag_expr.proofs.reading.Steady as steady
 use Rattle.ag_expr.proofs.reading.Steady.{one_steady, wider_steady}
-use Rattle.ag_expr.specs.declared.fault.ExprFault.{ExprFault}
-use Rattle.ag_expr.specs.declared.fault.ExprFault.TheVariants as fault
-use Rattle.ag_expr.specs.language.Expression.{begins_expression}
 use Rattle.ag_expr.specs.language.Reading.{Parser, as_sign, expect, refusal, token_as}
 use Rattle.ag_expr.specs.language.Syntax.{one_sign}
 

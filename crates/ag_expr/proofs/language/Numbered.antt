@@ -1,17 +1,13 @@
 -- A map that has the indexes of a list's occurrences (`AreIndexesOf`) still has them after one more is added to both.
-use Rattle.std.proofs.Common.{ℕ, ◌≡◌, ◌+◌, Bool, true, false, List, [], ◌∷◌, ◌++◌, length, Some, None, position, get_or}
-use Rattle.std.proofs.Common.{is_some, IfSome, ◌<◌, refl, ap, sym, ◌∙◌, arith}
-use Rattle.std.proofs.lemmas.Bool.{eq-eqb}
-use Rattle.std.proofs.lemmas.Bool.Decides.{nat_tests}
-use Rattle.std.proofs.lemmas.Slice.Eq.{bytes_eq-Decides}
+use Rattle.ag_expr.proofs.Common
+use Common.{ℕ, ◌≡◌, ◌+◌, Bool, true, false, List, [], ◌∷◌, ◌++◌, length, Some, None, position, get_or, is_some, IfSome, ◌<◌, refl}
+use Common.{ap, sym, ◌∙◌, arith, eq-eqb, nat_tests, bytes_eq-Decides, list_any-append, list_any_at, Occ, is_of, position_of}
+use Common.{listed_with, listed_with_all}
 use Rattle.std.proofs.lemmas.Iterator.Adapters.{position_from-zero}
-use Rattle.std.proofs.lemmas.List.Folds.{list_any-append, list_any_at}
 use Rattle.std.proofs.lemmas.List.Quantifiers.{all_pairs_push}
 use Rattle.std.specs.HashMap.{HashMap, Updates}
 use Rattle.std.specs.List.{list_any, position_from, position_or_len}
-use Rattle.ag_grammar.specs.declared.syntax.occurrence.Occ.{Occ}
 use Rattle.ag_grammar.specs.expressions.Occurrences.{AreApart, AreDifferent}
-use Rattle.ag_expr.specs.language.Occurrences.{is_of, position_of, listed_with, listed_with_all}
 use Rattle.ag_expr.specs.language.Indexes.{Key, same_key, AreIndexesOf}
 use Rattle.ag_expr.proofs.language.Listing.{listed_alike}
 

@@ -1,42 +1,30 @@
 -- The first token that cannot be accepted: the tokens before it are a prefix of an expression, and together
 -- with it they are not.
-use Rattle.std.proofs.Common.{◌≡◌, ℕ, zero, suc, ◌+◌, pos, Bool, true, false, if◌then◌else◌, ◌||◌, List, [], ◌∷◌, ◌++◌, Option}
-use Rattle.std.proofs.Common.{Some, None, is_some, Ok, Err, inl, inr, refl, ap, sym, ◌∙◌, subst, append_assoc, append-nil}
-use Rattle.std.proofs.Common.{arith, codes}
-use Rattle.ag_expr.specs.declared.fault.ExprFault.{ExprFault}
-use Rattle.ag_expr.specs.declared.fault.ExprFault.TheVariants as fault
-use Rattle.ag_expr.specs.declared.names.Call.{Call}
-use Rattle.ag_expr.specs.declared.names.Call.TheVariants as call
-use Rattle.ag_grammar.specs.declared.syntax.node.Operator.{Operator}
+use Rattle.ag_expr.proofs.Common
+use Common.{◌≡◌, ℕ, zero, suc, ◌+◌, pos, Bool, true, false, if◌then◌else◌, ◌||◌, List, [], ◌∷◌, ◌++◌, Option, Some, None, is_some}
+use Common.{Ok, Err, inl, inr, refl, ap, sym, ◌∙◌, subst, append_assoc, append-nil, arith, codes, ExprFault, Call, Operator, Node}
+use Common.{Occ, Precedence, Ending, begins_expression, Names, PlacedToken, Input, tokens, sees, is_end, is_sign, choose, ◌>>=◌}
+use Common.{◌>>◌, gives, one, ◌or◌, none, further, IsFew, GrammarToken, Sign, mark, word, sign_token, map-append}
+use Common.fault
+use Common.call
+use Common.node
+use Common.precedence
+use Common.punctuation
+use Common.ending
+use Common.reading
+use Common.token
 use Rattle.ag_grammar.specs.declared.syntax.node.Operator.TheVariants as operator
-use Rattle.ag_grammar.specs.declared.syntax.node.Node.{Node}
-use Rattle.ag_grammar.specs.declared.syntax.node.Node.TheVariants as node
 use Rattle.ag_value.specs.declared.value.Value.TheVariants as value
-use Rattle.ag_grammar.specs.declared.syntax.occurrence.Occ.{Occ}
-use Rattle.ag_expr.specs.declared.parser.Precedence.{Precedence}
-use Rattle.ag_expr.specs.declared.parser.Precedence.TheVariants as precedence
-use Rattle.ag_tokens.specs.declared.token.Punctuation.TheVariants as punctuation
-use Rattle.ag_tokens.specs.Ending.{Ending}
-use Rattle.ag_tokens.specs.Ending as ending
-use Rattle.ag_expr.specs.language.Expression.{begins_expression}
 use Rattle.ag_expr.specs.language.Laws.{RefusesAtTheFirst}
-use Rattle.ag_expr.specs.language.Names.{Names}
-use Rattle.ag_tokens.specs.PlacedToken.{PlacedToken, Input, tokens}
 use Rattle.ag_expr.specs.language.Offsets.{NoneGoesOn, IsReportedFirst}
-use Rattle.ag_tokens.specs.Parsing as reading
-use Rattle.ag_tokens.specs.Parsing.{sees, is_end, is_sign, choose}
 use Rattle.ag_expr.specs.language.Reading.{token_as, Outcome, Parser, refusal, refusal_of, at_end, expect, is_operator_of, begins}
 use Rattle.ag_expr.specs.language.Reading.{begins_atom, other_from, chain_from, ranked_from, none_from, table_from}
 use Rattle.ag_expr.specs.language.Reading.{parenthesized_from, next_from, items_from, some_from, list_from, unary_from}
 use Rattle.ag_expr.specs.language.Reading.{binary_from, put_from, arguments_from, call_from, let_from, if_from, atom_from}
 use Rattle.ag_expr.specs.language.Reading.{whole_from, level_fault_of, expr_from, expr_in, expr_of}
-use Rattle.ag_tokens.specs.Languages.{◌>>=◌, ◌>>◌, gives, one, ◌or◌, none, further, IsFew}
 use Rattle.ag_expr.specs.language.Syntax.{one_sign, operator_of, precedences, takes_one, chain_of, new_name, call_in, operand_of}
 use Rattle.ag_expr.specs.language.Syntax.{IsOther, IsChain, IsRanked, AreNone, IsTable, IsParenthesized, IsNext, AreSome, IsList}
 use Rattle.ag_expr.specs.language.Syntax.{AreArguments, IsCall, IsLet, IsIf, IsAtom, IsWhole, IsExpr, IsExprIn}
-use Rattle.ag_tokens.specs.GrammarToken.{GrammarToken, Sign, mark, word, sign_token}
-use Rattle.ag_tokens.specs.GrammarToken as token
-use Rattle.std.proofs.lemmas.List.{map-append}
 use Rattle.ag_expr.proofs.reading.Exact.{Test, answered, before, nowhere, shortens}
 use Rattle.ag_expr.proofs.language.Manner.{Exact, First, Language, Steady, manner, deep_is, is_too_deep, sign_is, sign_steady}
 use Rattle.ag_expr.proofs.language.Manner.{token_steady}

@@ -1,19 +1,12 @@
 -- Parts of an expression that are parsed one after the other, and one level more.
-use Rattle.std.proofs.Common.{◌≡◌, ◌≢◌, ℕ, zero, suc, ◌-◌, ◌<◌, Bool, true, false, List, [], ◌∷◌, ◌++◌, length, Result, Ok, Err}
-use Rattle.std.proofs.Common.{subst, arith}
-use Rattle.ag_tokens.specs.Parsing.{sees}
-use Rattle.ag_tokens.specs.PlacedToken.{Input}
-use Rattle.ag_tokens.specs.GrammarToken.{GrammarToken}
+use Rattle.ag_expr.proofs.Common
+use Common.{◌≡◌, ◌≢◌, ℕ, zero, suc, ◌-◌, ◌<◌, Bool, true, false, List, [], ◌∷◌, ◌++◌, length, Result, Ok, Err, subst, arith, sees}
+use Common.{Input, GrammarToken, IsErrAnd, ExprFault, Node, Occ, Names, State, KeepsContext, complete_list, input}
+use Common.fault
 use Rattle.ag_expr.proofs.reading.Turns as turns
 use Rattle.ag_expr.proofs.reading.Turns.{Going}
-use Rattle.std.specs.Result.{IsErrAnd}
-use Rattle.ag_expr.specs.declared.fault.ExprFault.{ExprFault}
-use Rattle.ag_expr.specs.declared.fault.ExprFault.TheVariants as fault
-use Rattle.ag_grammar.specs.declared.syntax.node.Node.{Node}
-use Rattle.ag_grammar.specs.declared.syntax.occurrence.Occ.{Occ}
-use Rattle.ag_expr.specs.language.Names.{Names}
 use Rattle.ag_expr.specs.language.Reading.{Parser, whole_from, expr_in}
-use Rattle.ag_expr.specs.language.State.{State, KeepsContext, Reads, ReadsAs, complete_list, input}
+use Rattle.ag_expr.specs.language.State.{Reads, ReadsAs}
 
 -- a fault of a part that is passed on
 pub answered : {X Y : Type 0} (view : X → Y) (read : List Occ → Names → Parser Y) (old new : State) (r : Result X ExprFault)

@@ -1,21 +1,16 @@
 -- The state of a reader, by the next token.
-use Rattle.std.proofs.Common.{◌≡◌, ◌&&◌, ℕ, Bool, true, false, cond, List, [], ◌++◌, Option, Some, None, is_some, refl, ap, sym}
-use Rattle.std.proofs.Common.{◌∙◌, arith}
+use Rattle.ag_expr.proofs.Common
+use Common.{◌≡◌, ◌&&◌, ℕ, Bool, true, false, cond, List, [], ◌++◌, Option, Some, None, is_some, refl, ap, sym, ◌∙◌, arith, Ending}
+use Common.{next_token, next, offset, is_end, is_sign, fault_of, PlacedToken, Input, GrammarToken, mark, ExprFault, Occ}
+use Common.{occurrence_in, all_occurrences, listed_with, listed_with_all, position_of, State, KeepsContext, from_end}
+use Common.punctuation
+use Common.token
+use Common.fault
 use Rattle.ag_tokens.specs.declared.fault.TokenFault.{TokenFault}
 use Rattle.ag_tokens.specs.declared.fault.TokenFault.TheVariants as token_fault
-use Rattle.ag_tokens.specs.declared.token.Punctuation.TheVariants as punctuation
-use Rattle.ag_tokens.specs.Ending.{Ending}
 use Rattle.ag_tokens.specs.Remaining.{with_token}
-use Rattle.ag_tokens.specs.Parsing.{next_token, next, offset, is_end, is_sign, fault_of}
-use Rattle.ag_tokens.specs.PlacedToken.{PlacedToken, Input}
-use Rattle.ag_tokens.specs.GrammarToken.{GrammarToken, mark}
-use Rattle.ag_tokens.specs.GrammarToken as token
-use Rattle.ag_expr.specs.declared.fault.ExprFault.{ExprFault}
-use Rattle.ag_expr.specs.declared.fault.ExprFault.TheVariants as fault
-use Rattle.ag_grammar.specs.declared.syntax.occurrence.Occ.{Occ}
-use Rattle.ag_expr.specs.language.Occurrences.{occurrence_in, all_occurrences, listed_with, listed_with_all, position_of}
 use Rattle.ag_expr.specs.language.Reading.{begins, level_fault_of, refusal}
-use Rattle.ag_expr.specs.language.State.{State, KeepsContext, NextIsOther, begins_here, complete_list, from_end, input}
+use Rattle.ag_expr.specs.language.State.{NextIsOther, begins_here, complete_list, input}
 use Rattle.ag_expr.specs.language.State.{is_occurrence, before_end, level_fault, after_token}
 use Rattle.ag_expr.proofs.language.Numbered.{position_stays, has_number}
 

@@ -1,24 +1,19 @@
 -- The results are those of parsing the tokens of the text; and what follows for the text.
-use Rattle.std.proofs.Common.{◌≡◌, ◌≢◌, ℕ, true, false, List, [], ◌∷◌, ◌++◌, length, Result, Ok, Err, IfOk, IfErr, chars, drop}
-use Rattle.std.proofs.Common.{IsUtf8, inl, inr, refl, ap, sym, ◌∙◌, arith, append_assoc, append-nil, length-append}
-use Rattle.std.specs.Result.{IsErrAnd}
-use Rattle.ag_expr.specs.declared.fault.ExprFault.{ExprFault}
-use Rattle.ag_expr.specs.declared.fault.ExprFault.TheVariants as fault
-use Rattle.ag_grammar.specs.declared.syntax.node.Node.{Node}
-use Rattle.ag_grammar.specs.declared.syntax.occurrence.Occ.{Occ}
-use Rattle.ag_tokens.specs.Ending.{Ending, offset_of}
-use Rattle.ag_tokens.specs.Ending as ending
-use Rattle.ag_expr.specs.language.Expression.{max_levels, ReadsAsExpr, IsRefused, IsFaultOf, IsFaultFrom}
-use Rattle.ag_expr.specs.language.State.{State, IsReadToEnd, start, input, complete_list}
-use Rattle.ag_expr.specs.language.Occurrences.{all_occurrences, distinct_occurrences}
-use Rattle.ag_tokens.specs.PlacedToken.{PlacedToken, Input, tokens}
+use Rattle.ag_expr.proofs.Common
+use Common.{◌≡◌, ◌≢◌, ℕ, true, false, List, [], ◌∷◌, ◌++◌, length, Result, Ok, Err, IfOk, chars, drop, IsUtf8, inl, inr, refl, ap}
+use Common.{sym, ◌∙◌, arith, append_assoc, append-nil, length-append, IsErrAnd, ExprFault, Node, Occ, Ending, offset_of}
+use Common.{max_levels, ReadsAsExpr, IsRefused, IsFaultOf, IsFaultFrom, State, IsReadToEnd, start, all_occurrences}
+use Common.{distinct_occurrences, PlacedToken, Input, tokens, is_end, AreTokens, Lexes}
+use Common.fault
+use Common.ending
+use Rattle.std.proofs.Common.{IfErr}
+use Rattle.ag_expr.specs.language.State.{input, complete_list}
 use Rattle.ag_expr.specs.language.Offsets.{IsFirstOf, IsRead, IsReadFrom, IsReportedFirst, answer_of, occurrences_of, read_from}
-use Rattle.ag_tokens.specs.Parsing.{is_end}
 use Rattle.ag_expr.specs.language.Reading.{Outcome, expr_from, expr_in, expr_of, ending_fault, refusal, refusal_of}
 use Rattle.ag_expr.specs.language.Syntax.{IsExpr}
-use Rattle.ag_tokens.specs.Tokens.{AreTokens, ended, separator, word, AnyTokenAt, Reaches, TokenAt, HasNoToken, width}
+use Rattle.ag_tokens.specs.Tokens.{ended, separator, word, AnyTokenAt, Reaches, TokenAt, HasNoToken, width}
 use Rattle.ag_tokens.specs.Tokens.{is_within}
-use Rattle.ag_tokens.specs.Tokens.{all_within, Lexes}
+use Rattle.ag_tokens.specs.Tokens.{all_within}
 use Rattle.ag_expr.proofs.language.Agree.{whole_is, read_whole, read_to_end, read_of}
 use Rattle.ag_tokens.proofs.Lexed.{width-chars}
 use Rattle.ag_tokens.proofs.Lexes.{ends_wide, one_input, same_input}

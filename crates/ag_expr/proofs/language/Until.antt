@@ -1,22 +1,16 @@
 -- An expression up to a semicolon: the result of parsing the tokens before it, and what follows for the text.
-use Rattle.std.proofs.Common.{◌≡◌, ℕ, Bool, true, false, List, [], ◌∷◌, ◌++◌, drop, Option, Some, None, Result, Ok, Err, IfOk}
-use Rattle.std.proofs.Common.{IfErr, chars, inl, inr, refl, ap, sym, ◌∙◌, subst, arith}
-use Rattle.ag_tokens.specs.declared.token.Punctuation.TheVariants as punctuation
-use Rattle.ag_tokens.specs.Ending.{Ending}
-use Rattle.ag_tokens.specs.Ending as ending
-use Rattle.ag_tokens.specs.Parsing.{sees, is_sign, is_end, offset, next}
-use Rattle.ag_tokens.specs.PlacedToken.{PlacedToken, Input, tokens}
-use Rattle.ag_tokens.specs.GrammarToken.{GrammarToken, mark}
-use Rattle.ag_tokens.specs.Tokens.{Lexes}
+use Rattle.ag_expr.proofs.Common
+use Common.{◌≡◌, ℕ, Bool, true, false, List, [], ◌∷◌, ◌++◌, drop, Option, Some, None, Result, Ok, Err, IfOk, chars, inl, inr}
+use Common.{refl, ap, sym, ◌∙◌, subst, arith, Ending, sees, is_sign, is_end, offset, next, PlacedToken, Input, tokens}
+use Common.{GrammarToken, mark, Lexes, ExprFault, Node, Occ, max_levels, IsFaultFrom, all_occurrences, IsReadEnded, KeepsContext}
+use Common.{State, from_end, start}
+use Common.punctuation
+use Common.ending
+use Rattle.std.proofs.Common.{IfErr}
 use Rattle.ag_tokens.proofs.Lexes.{same_input}
-use Rattle.ag_expr.specs.declared.fault.ExprFault.{ExprFault}
-use Rattle.ag_grammar.specs.declared.syntax.node.Node.{Node}
-use Rattle.ag_grammar.specs.declared.syntax.occurrence.Occ.{Occ}
-use Rattle.ag_expr.specs.language.Expression.{max_levels, IsFaultFrom}
-use Rattle.ag_expr.specs.language.Occurrences.{all_occurrences}
 use Rattle.ag_expr.specs.language.Offsets.{answer_of, read_from}
 use Rattle.ag_expr.specs.language.Reading.{ending_fault, expr_from, expr_of, refusal}
-use Rattle.ag_expr.specs.language.State.{IsReadEnded, KeepsContext, State, complete_list, from_end, input, start, up_to}
+use Rattle.ag_expr.specs.language.State.{complete_list, input, up_to}
 use Rattle.ag_expr.specs.language.Syntax.{IsExpr}
 use Rattle.ag_expr.specs.language.Until.{Ended, semicolon, first_semicolon, before_semicolon, after_semicolon, from_semicolon}
 use Rattle.ag_expr.specs.language.Until.{with_offset, or_fault, until_by, read_until_from, IsReadUntil, ReadsUntil}

@@ -1,15 +1,11 @@
 -- Parsers that accept exactly a language, and one lemma for each combinator.
-use Rattle.std.proofs.Common.{◌≡◌, ℕ, zero, suc, ◌≤◌, ◌<◌, Bool, true, false, ◌||◌, if◌then◌else◌, List, [], ◌∷◌, ◌++◌, map}
-use Rattle.std.proofs.Common.{length, Option, Some, Ok, Err, ◌⊎◌, inl, inr, refl, ap, sym, ◌∙◌, subst, append_assoc, append-nil}
-use Rattle.std.proofs.Common.{arith, length-append}
-use Rattle.std.proofs.lemmas.List.{map-append}
-use Rattle.ag_tokens.specs.Ending.{Ending}
-use Rattle.ag_tokens.specs.PlacedToken.{PlacedToken, Input}
-use Rattle.ag_tokens.specs.GrammarToken.{GrammarToken}
+use Rattle.ag_expr.proofs.Common
+use Common.{◌≡◌, ℕ, zero, suc, ◌≤◌, ◌<◌, Bool, true, false, ◌||◌, if◌then◌else◌, List, [], ◌∷◌, ◌++◌, map, length, Option, Some}
+use Common.{Ok, Err, ◌⊎◌, inl, inr, refl, ap, sym, ◌∙◌, subst, append_assoc, append-nil, arith, length-append, map-append, Ending}
+use Common.{PlacedToken, Input, GrammarToken, first_token, sees, Outcome, and_then, pure, one_from, choose, further_from, ◌>>=◌}
+use Common.{◌or◌, gives, one, Many, none, more, further}
 use Rattle.ag_tokens.specs.Parsing as parsing
-use Rattle.ag_tokens.specs.Parsing.{first_token, sees, Outcome, Parser, and_then, pure, one_from, choose, many_from}
-use Rattle.ag_tokens.specs.Parsing.{further_from}
-use Rattle.ag_tokens.specs.Languages.{◌>>=◌, ◌or◌, gives, one, Many, none, more, further}
+use Rattle.ag_tokens.specs.Parsing.{Parser, many_from}
 
 -- What the theory needs to know about languages and faults. A word is a list of items of type T: `item` is the one for a token
 -- with its offset. `wrong` is the fault for an input whose next token cannot be accepted. `is_reported` is true of the faults of

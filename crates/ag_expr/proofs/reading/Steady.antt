@@ -1,17 +1,14 @@
 -- Where a parser fails: the tokens before are a prefix of a word, and the next token alone decides, whatever
 -- follows it. In these definitions r is a parser, and q the same parser with as many levels or more. L is their language, us are
 -- the tokens before the fault f, and j is the input from there on.
-use Rattle.std.proofs.Common.{◌≡◌, ℕ, zero, suc, ◌<◌, ◌≤◌, Bool, true, false, if◌then◌else◌, List, [], ◌∷◌, ◌++◌, map, length}
-use Rattle.std.proofs.Common.{Option, Some, None, Ok, Err, ◌⊎◌, inl, inr, refl, sym, ◌∙◌, append_assoc, append-nil}
-use Rattle.std.proofs.Common.{arith}
-use Rattle.std.proofs.lemmas.List.{map-append}
-use Rattle.ag_tokens.specs.Ending.{Ending}
-use Rattle.ag_tokens.specs.PlacedToken.{PlacedToken, Input}
-use Rattle.ag_tokens.specs.GrammarToken.{GrammarToken}
+use Rattle.ag_expr.proofs.Common
+use Common.{◌≡◌, ℕ, zero, suc, ◌<◌, ◌≤◌, Bool, true, false, if◌then◌else◌, List, [], ◌∷◌, ◌++◌, map, length, Option, Some, None}
+use Common.{Ok, Err, ◌⊎◌, inl, inr, refl, sym, ◌∙◌, append_assoc, append-nil, arith, map-append, Ending, PlacedToken, Input}
+use Common.{GrammarToken, next_token, sees, offset, meaning_of, Outcome, and_then, pure, one_from, choose, further_from, ◌>>=◌}
+use Common.{◌or◌, gives, one, Many, none, more, further}
 use Rattle.ag_tokens.specs.Parsing as parsing
-use Rattle.ag_tokens.specs.Parsing.{next_token, sees, offset, meaning_of, Outcome, Parser, and_then, pure, one_from}
-use Rattle.ag_tokens.specs.Parsing.{choose, many_from, further_from}
-use Rattle.ag_tokens.specs.Languages.{◌>>=◌, ◌or◌, gives, one, Many, none, more, further}
+use Rattle.ag_tokens.specs.Parsing.{Parser}
+use Rattle.ag_tokens.specs.Parsing.{many_from}
 use Rattle.ag_expr.proofs.reading.Exact.{Language, Manner, Test, before, before-append, first_is, opened, answered}
 
 abbrev pub first_of : List PlacedToken → Option PlacedToken

@@ -1,9 +1,8 @@
 -- Parts that are parsed one after the other, for the proofs of loops.
-use Rattle.std.proofs.Common.{◌≡◌, ◌<◌, ℕ, zero, suc, Bool, true, false, List, [], ◌∷◌, ◌++◌, length, Ok, Err, refl}
-use Rattle.std.proofs.Common.{arith}
-use Rattle.ag_tokens.specs.PlacedToken.{Input}
-use Rattle.ag_tokens.specs.Parsing.{Outcome, Parser, sees, item_bound, many_from, further_from}
-use Rattle.ag_tokens.specs.GrammarToken.{GrammarToken}
+use Rattle.ag_expr.proofs.Common
+use Common.{◌≡◌, ◌<◌, ℕ, zero, suc, Bool, true, false, List, [], ◌∷◌, ◌++◌, length, Ok, Err, refl, arith, Input, Outcome, sees}
+use Common.{item_bound, further_from, GrammarToken}
+use Rattle.ag_tokens.specs.Parsing.{Parser, many_from}
 use Rattle.ag_expr.proofs.reading.Steady.{Shortens, many_turn}
 
 -- A loop invariant: the parts found so far, with the further ones, are the whole. Each part has at least

@@ -1,21 +1,15 @@
 -- The value of a tree depends only on the values of the occurrences in it.
-use Rattle.std.proofs.Common.{ℕ, zero, suc, ◌≡◌, ◌<◌, Bool, true, false, ◌||◌, nat_eq, List, [], ◌∷◌, ◌++◌, Some, map, slice_get}
-use Rattle.std.proofs.Common.{get_or, length, refl, ap, ap₂, ◌∙◌, sym, subst, arith}
-use Rattle.std.proofs.lemmas.Bool.{eq-eqb, ne_eqb, or_left, or_right}
+use Rattle.ag_grammar.proofs.Common
+use Common.{ℕ, zero, suc, ◌≡◌, ◌<◌, Bool, true, false, ◌||◌, nat_eq, List, [], ◌∷◌, ◌++◌, Some, map, slice_get, get_or, length}
+use Common.{refl, ap, ap₂, ◌∙◌, sym, subst, arith, eq-eqb, ne_eqb, or_left, or_right, Value, Target, Operator, Node, roll-Node}
+use Common.{ind-Node, map-Node, Node-F, operation_result}
 use Rattle.std.proofs.lemmas.Option.{slice_get-get_or}
-use Rattle.ag_value.specs.declared.value.Value.{Value}
-use Rattle.ag_grammar.specs.declared.grammar.Target.{Target}
-use Rattle.ag_grammar.specs.declared.syntax.node.Operator.{Operator}
-use Rattle.ag_grammar.specs.declared.syntax.node.Node.{Node, roll-Node}
-use Rattle.ag_grammar.specs.declared.syntax.node.Node.TheFolds.{ind-Node, map-Node}
-use Rattle.ag_grammar.specs.declared.syntax.node.Node.TheOpen.{Node-F}
 use Rattle.ag_grammar.specs.expressions.Evaluation.{Meaning, chain_value, item_values, value_in, value_of, value_step}
 use Rattle.ag_grammar.specs.expressions.Laws.{RuleHasOneValue, RuleHoldsByOne, ValueOfOccurrences}
 use Rattle.ag_grammar.specs.expressions.Occurring.{AgreeOn, has_occurrence, has_step, some_item, some_operand}
 use Rattle.ag_grammar.specs.grammars.Sample.{rule_s}
 use Rattle.ag_grammar.specs.values.Calls.{unary_call_result, binary_call_result, choice_of, put}
 use Rattle.ag_value.specs.operations.Lists.{listed}
-use Rattle.ag_grammar.specs.values.Operators.{operation_result}
 use Rattle.ag_grammar.proofs.expressions.Occurring.{alone, has_in, has_layer, has_sum, occurrences_are_listed, occurs}
 use Rattle.ag_grammar.proofs.expressions.Worked.{value_layer}
 

@@ -1,17 +1,11 @@
 -- The occurrences in a tree: their numbers are those of the listed ones. With an example.
-use Rattle.std.proofs.Common.{ℕ, suc, ◌≡◌, ◌<◌, Bool, true, false, ◌||◌, ◌&&◌, nat_eq, List, [], ◌∷◌, map, inl, inr, ap, ◌∙◌, sym}
-use Rattle.std.proofs.Common.{subst, pos, arith}
-use Rattle.std.proofs.lemmas.Bool.{and_parts, eqb-true, ltb-true, or_cases}
-use Rattle.ag_value.specs.declared.value.Value.{Value, Num}
-use Rattle.ag_grammar.specs.declared.syntax.node.Operator.{Operator}
-use Rattle.ag_grammar.specs.declared.syntax.node.Operator.TheVariants.{Add}
-use Rattle.ag_grammar.specs.declared.syntax.node.Node.{Node, roll-Node}
-use Rattle.ag_grammar.specs.declared.syntax.node.Node.TheFolds.{fold-roll-Node, ind-Node, map-Node}
-use Rattle.ag_grammar.specs.declared.syntax.node.Node.TheOpen.{Node-F}
-use Rattle.ag_grammar.specs.declared.syntax.node.Node.TheVariants as node_of
+use Rattle.ag_grammar.proofs.Common
+use Common.{ℕ, suc, ◌≡◌, ◌<◌, Bool, true, false, ◌||◌, ◌&&◌, nat_eq, List, [], ◌∷◌, map, inl, inr, ap, ◌∙◌, sym, subst, pos}
+use Common.{arith, and_parts, eqb-true, ltb-true, or_cases, Value, Num, Operator, Add, Node, roll-Node, fold-roll-Node, ind-Node}
+use Common.{map-Node, Node-F, all_hold, below_step, each_holds, is_within}
+use Common.node_of
 use Rattle.ag_grammar.specs.expressions.Laws.{OccurrencesAreListed}
 use Rattle.ag_grammar.specs.expressions.Occurring.{has_occurrence, has_step, some_item, some_operand}
-use Rattle.ag_grammar.specs.expressions.Trees.{all_hold, below_step, each_holds, is_within}
 use Rattle.ag_grammar.specs.grammars.Sample.{rule_s}
 use Rattle.ag_grammar.proofs.expressions.Within.{layer}
 

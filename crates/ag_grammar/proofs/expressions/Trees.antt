@@ -1,20 +1,13 @@
 -- The parts of a tree, one lemma for each variant.
-use Rattle.std.proofs.Common.{◌≡◌, ℕ, zero, suc, ◌<◌, Bool, get_or, slice_get, drop, arith, true, ◌&&◌, List, [], ◌∷◌, ◌++◌}
-use Rattle.std.proofs.Common.{length, map, refl, sym, ap, ◌∙◌, subst}
-use Rattle.std.proofs.lemmas.Bool.{and_parts}
-use Rattle.ag_value.specs.declared.value.Value.{Value}
-use Rattle.ag_grammar.specs.declared.syntax.node.Operator.{Operator}
-use Rattle.ag_grammar.specs.declared.syntax.node.Node.{Node}
+use Rattle.ag_grammar.proofs.Common
+use Common.{◌≡◌, ℕ, zero, suc, ◌<◌, Bool, get_or, slice_get, drop, arith, true, ◌&&◌, List, [], ◌∷◌, ◌++◌, length, map, refl, sym}
+use Common.{ap, ◌∙◌, subst, and_parts, Value, Operator, Node, Node-F, fold-roll-Node, fit, all_below, below_step, is_within}
 use Rattle.ag_grammar.specs.declared.syntax.node.Node.TheVariants as node
 use Rattle.ag_grammar.specs.declared.syntax.node.Node.TheVariants.{rolls-Bound, rolls-Chain, rolls-If, rolls-Let, rolls-Literal}
 use Rattle.ag_grammar.specs.declared.syntax.node.Node.TheVariants.{rolls-Unary}
-use Rattle.ag_grammar.specs.declared.syntax.node.Node.TheOpen.{Node-F}
-use Rattle.ag_grammar.specs.declared.syntax.node.Node.TheFolds.{fold-roll-Node}
 use Rattle.ag_grammar.specs.declared.syntax.node.UnaryCall.{UnaryCall}
 use Rattle.ag_grammar.specs.values.Calls.{unary_call_result, choice_of}
-use Rattle.ag_value.specs.operations.Fitting.{fit}
 use Rattle.ag_grammar.specs.expressions.Evaluation.{Meaning, bound_value, chain_value, value_in, value_step}
-use Rattle.ag_grammar.specs.expressions.Trees.{all_below, below_step, is_within}
 
 within-Chain : (n bound : ℕ) (first : Node) (others : List (Operator × Node))
     → is_within n (node.Chain first others) bound ≡ (is_within n first bound && all_below n bound others)

@@ -1,12 +1,8 @@
 -- The numbers in a tree are in range, a level at a time.
-use Rattle.std.proofs.Common.{◌≡◌, ℕ, nat_lt, List, [], ◌∷◌, Bool, true, ◌&&◌, map, refl, ap, sym, ◌∙◌}
-use Rattle.ag_value.specs.declared.value.Value.{Value}
-use Rattle.ag_grammar.specs.declared.syntax.node.Operator.{Operator}
-use Rattle.ag_grammar.specs.declared.syntax.node.Node.{Node, roll-Node}
+use Rattle.ag_grammar.proofs.Common
+use Common.{◌≡◌, ℕ, nat_lt, List, [], ◌∷◌, Bool, true, ◌&&◌, map, refl, ap, sym, ◌∙◌, Value, Operator, Node, roll-Node, Node-F}
+use Common.{fold-roll-Node, map-Node, is_within, below_step, all_hold, each_holds}
 use Rattle.ag_grammar.specs.declared.syntax.node.Node.TheVariants as node
-use Rattle.ag_grammar.specs.declared.syntax.node.Node.TheOpen.{Node-F}
-use Rattle.ag_grammar.specs.declared.syntax.node.Node.TheFolds.{fold-roll-Node, map-Node}
-use Rattle.ag_grammar.specs.expressions.Trees.{is_within, below_step, all_hold, each_holds}
 
 -- P holds for each member of the list
 abbrev pub Each : {A : Type 0} → (A → Type 0) → List A → Type 0

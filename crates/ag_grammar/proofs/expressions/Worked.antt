@@ -1,17 +1,10 @@
 -- The values of the expressions of the sample grammars.
-use Rattle.std.proofs.Common.{ℕ, ℤ, ◌≡◌, List, [], ◌∷◌, refl, ap, ap₂, ◌∙◌, ◌+ℤ◌, sym, pos}
-use Rattle.ag_value.specs.declared.value.Value.{Value, Num}
-use Rattle.ag_value.specs.declared.value.Value.TheVariants.{outs-Num}
-use Rattle.ag_grammar.specs.declared.syntax.node.Node.{Node, roll-Node}
-use Rattle.ag_grammar.specs.declared.syntax.node.Node.TheFolds.{fold-roll-Node, map-Node}
-use Rattle.ag_grammar.specs.declared.syntax.node.Node.TheOpen.{Node-F}
-use Rattle.ag_grammar.specs.declared.syntax.node.Node.TheVariants as node_of
-use Rattle.ag_grammar.specs.declared.syntax.node.Operator.TheVariants.{Add}
+use Rattle.ag_grammar.proofs.Common
+use Common.{ℕ, ℤ, ◌≡◌, List, [], ◌∷◌, refl, ap, ap₂, ◌∙◌, ◌+ℤ◌, sym, pos, Value, Num, outs-Num, Node, roll-Node, fold-roll-Node}
+use Common.{map-Node, Node-F, Add, fit, number_value, operation_result}
+use Common.node_of
 use Rattle.ag_grammar.specs.expressions.Evaluation.{Meaning, value_step, value_in, value_of}
 use Rattle.ag_value.specs.operations.Arguments.{leftmost}
-use Rattle.ag_value.specs.operations.Fitting.{fit}
-use Rattle.ag_value.specs.operations.Numbers.{number_value}
-use Rattle.ag_grammar.specs.values.Operators.{operation_result}
 use Rattle.ag_value.proofs.Layers.{depth-Num, weight-Num}
 
 -- one level of a tree at a time

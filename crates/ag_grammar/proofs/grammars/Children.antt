@@ -1,15 +1,9 @@
 -- The children of a tree, by index.
-use Rattle.std.proofs.Common.{ℕ, zero, suc, ◌≡◌, List, [], ◌∷◌, Option, Some, None, slice_get, refl, ap, ◌∙◌, subst, ◌<◌, arith}
-use Rattle.ag_value.specs.declared.value.Value.{Value}
-use Rattle.ag_grammar.specs.declared.grammar.Item.TheVariants as item
-use Rattle.ag_grammar.specs.declared.grammar.Item.{Item}
-use Rattle.ag_grammar.specs.declared.grammar.Production.{Production}
-use Rattle.ag_grammar.specs.declared.grammar.Rule.{Rule}
-use Rattle.ag_grammar.specs.declared.grammar.Terminal.TheVariants.{Literal, Class}
-use Rattle.ag_grammar.specs.grammars.AttributeGrammar.{Grammar}
-use Rattle.ag_grammar.specs.grammars.Tree.{Tree, Forest, leaf, node, none, more, Fits, FitsAll}
-use Rattle.ag_grammar.specs.grammars.Passes.{Passes, item_passes}
-use Rattle.ag_grammar.specs.grammars.Solution.{Valuation, rest, Solves, SolvesAll, AtEachNode, AtEachNodeOf, left_passes}
+use Rattle.ag_grammar.proofs.Common
+use Common.{ℕ, zero, suc, ◌≡◌, List, [], ◌∷◌, Option, Some, None, slice_get, refl, ap, ◌∙◌, subst, ◌<◌, arith, Value, Item}
+use Common.{Production, Rule, Literal, Class, Grammar, Tree, Forest, leaf, node, none, more, Fits, FitsAll, Passes, item_passes}
+use Common.{Valuation, rest, Solves, SolvesAll, AtEachNode, AtEachNodeOf, left_passes}
+use Common.item
 
 -- the child with index i
 abbrev pub child : Forest → ℕ → Option Tree

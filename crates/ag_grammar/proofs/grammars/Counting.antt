@@ -1,18 +1,14 @@
 -- The numbers of rules of the passes add up to the number of rules of a tree.
-use Rattle.std.proofs.Common.{◌≡◌, ℕ, zero, suc, ◌+◌, ◌<◌, ◌≤◌, inl, inr, Bool, cond, List, [], ◌∷◌, length, Option, Some, None}
-use Rattle.std.proofs.Common.{slice_get, refl, ap, sym, ◌∙◌, arith}
+use Rattle.ag_grammar.proofs.Common
+use Common.{◌≡◌, ℕ, zero, suc, ◌+◌, ◌<◌, ◌≤◌, inl, inr, Bool, cond, List, [], ◌∷◌, length, Option, Some, None, slice_get, refl}
+use Common.{ap, sym, ◌∙◌, arith, cases_lt, eq-eqb, ne_eqb, Production, Rule, Grammar, Passes, Tree, Forest, leaf, node, none}
+use Common.{more}
 use Rattle.std.specs.Prelude.{nat_eq}
 use Rattle.std.specs.List.{count_by}
-use Rattle.std.proofs.lemmas.Bool.{cases_lt, eq-eqb, ne_eqb}
 use Rattle.std.proofs.lemmas.List.Sums.{sum_by-cons}
-use Rattle.ag_grammar.specs.declared.grammar.Production.{Production}
-use Rattle.ag_grammar.specs.declared.grammar.Rule.{Rule}
-use Rattle.ag_grammar.specs.grammars.AttributeGrammar.{Grammar}
 use Rattle.ag_grammar.specs.grammars.Counts.{is_of_pass, is_pass, pass_at, pass_rule_count, rule_count, sum_of_passes, total}
 use Rattle.ag_grammar.specs.grammars.Counts.{totals}
 use Rattle.ag_grammar.specs.grammars.Laws.{PassesHaveAllRules}
-use Rattle.ag_grammar.specs.grammars.Passes.{Passes}
-use Rattle.ag_grammar.specs.grammars.Tree.{Tree, Forest, leaf, node, none, more}
 use Rattle.ag_grammar.proofs.grammars.Running.{pass_within, target_pass}
 
 -- the count of a list with one more member at its head

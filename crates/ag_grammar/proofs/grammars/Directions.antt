@@ -1,6 +1,6 @@
 -- The direction of a pass, from its parity.
-use Rattle.std.proofs.Common.{ℕ, zero, suc, ◌≡◌, ◌%◌, ◌⊎◌, inl, inr, refl, ap, sym, arith}
-use Rattle.ag_grammar.specs.grammars.Passes.{LeftToRight, RightToLeft, direction_of, other}
+use Rattle.ag_grammar.proofs.Common
+use Common.{ℕ, zero, suc, ◌≡◌, ◌%◌, ◌⊎◌, inl, inr, refl, ap, sym, arith, LeftToRight, RightToLeft, direction_of, other}
 
 pub parity : (k : ℕ) → ((k % 2 ≡ 0) × (direction_of k ≡ LeftToRight)) ⊎ ((k % 2 ≡ 1) × (direction_of k ≡ RightToLeft))
 parity zero = inl (refl, refl)

@@ -1,15 +1,10 @@
 -- What holds at each node of a tree: values are the same, values are well, leaves have their texts, and the
 -- rules that satisfy a predicate hold.
-use Rattle.std.proofs.Common.{◌≡◌, ℕ, ◌≤◌, List, [], ◌∷◌, Option, Some, None, slice_get, refl, sym, subst, ◌∙◌, arith}
-use Rattle.ag_value.specs.declared.value.Value.{Value}
+use Rattle.ag_grammar.proofs.Common
+use Common.{◌≡◌, ℕ, ◌≤◌, List, [], ◌∷◌, Option, Some, None, slice_get, refl, sym, subst, ◌∙◌, arith, Value, Production, Rule}
+use Common.{Grammar, IsProduction, IsRule, Passes, HasPass, AtEachNode, AtEachNodeOf, IsWellOn, NoRule, OfPass, RulesHold, Same}
+use Common.{SameAt, Solves, SolvesAll, Valuation, WellAt, at, children, left_passes, rest, Tree, Forest, leaf, node, none, more}
 use Rattle.ag_value.specs.Well.{IsWell}
-use Rattle.ag_grammar.specs.declared.grammar.Production.{Production}
-use Rattle.ag_grammar.specs.declared.grammar.Rule.{Rule}
-use Rattle.ag_grammar.specs.grammars.AttributeGrammar.{Grammar, IsProduction, IsRule}
-use Rattle.ag_grammar.specs.grammars.Passes.{Passes, HasPass}
-use Rattle.ag_grammar.specs.grammars.Solution.{AtEachNode, AtEachNodeOf, IsWellOn, NoRule, OfPass, RulesHold, Same, SameAt}
-use Rattle.ag_grammar.specs.grammars.Solution.{Solves, SolvesAll, Valuation, WellAt, at, children, left_passes, rest}
-use Rattle.ag_grammar.specs.grammars.Tree.{Tree, Forest, leaf, node, none, more}
 
 -- If R relates the first and the second valuation at each node, S the second and the third, and both imply T
 -- at a node, then T relates the first and the third at each node.

@@ -1,16 +1,10 @@
 -- Equations stay true in later passes.
-use Rattle.std.proofs.Common.{ℕ, zero, suc, ◌≡◌, ◌≤◌, List, [], Option, Some, None, slice_get, refl, ap, ◌∙◌, sym, subst, arith}
-use Rattle.ag_grammar.specs.Lists.{Each}
-use Rattle.ag_grammar.specs.declared.grammar.Item.TheVariants as item
-use Rattle.ag_grammar.specs.declared.grammar.Item.{Item}
-use Rattle.ag_grammar.specs.declared.grammar.Production.{Production}
-use Rattle.ag_grammar.specs.declared.grammar.Rule.{Rule}
-use Rattle.ag_grammar.specs.declared.grammar.Terminal.TheVariants.{Literal, Class}
-use Rattle.ag_grammar.specs.grammars.AttributeGrammar.{Grammar, stored_items, item_at}
-use Rattle.ag_grammar.specs.grammars.Tree.{Tree, Forest, leaf, node, none, more, Fits, FitsAll}
-use Rattle.ag_grammar.specs.grammars.Passes.{Passes, item_passes, HasPass, IsLegalFor}
-use Rattle.ag_grammar.specs.grammars.Solution.{Valuation, children, rest, at, RulesHold, Solves, SolvesAll, AnyRule, NoRule}
-use Rattle.ag_grammar.specs.grammars.Solution.{OfPass, SameAt, Same, AnyPass, AtEachNodeOf, left_passes}
+use Rattle.ag_grammar.proofs.Common
+use Common.{ℕ, zero, suc, ◌≡◌, ◌≤◌, List, [], Option, Some, None, slice_get, refl, ap, ◌∙◌, sym, subst, arith, Each, Item}
+use Common.{Production, Rule, Literal, Class, Grammar, stored_items, item_at, Tree, Forest, leaf, node, none, more, Fits, FitsAll}
+use Common.{Passes, item_passes, HasPass, IsLegalFor, Valuation, children, rest, at, RulesHold, Solves, SolvesAll, AnyRule}
+use Common.{NoRule, OfPass, SameAt, Same, AnyPass, AtEachNodeOf, left_passes}
+use Common.item
 use Rattle.ag_grammar.proofs.grammars.Children.{child, tree_ind, child_fits, child_exists, child_solves, child_each, root_each}
 use Rattle.ag_grammar.proofs.grammars.EachNode.{OfPasses, solves_each, solves_wider}
 use Rattle.ag_grammar.proofs.grammars.OneSolution.{may_le}

@@ -1,6 +1,6 @@
 -- Predicates on all members of a list, a member at a time.
-use Rattle.std.proofs.Common.{ℕ, zero, suc, ◌≡◌, List, [], ◌∷◌, Some, slice_get, refl, ap, ◌∙◌, sym, subst}
-use Rattle.ag_grammar.specs.Lists.{AreRelated, Each, DifferIn}
+use Rattle.ag_grammar.proofs.Common
+use Common.{ℕ, zero, suc, ◌≡◌, List, [], ◌∷◌, Some, slice_get, refl, ap, ◌∙◌, sym, subst, AreRelated, Each, DifferIn}
 
 pub each_none : {A : Type 0} (P : A → Type 0) → Each P []
 each_none P i x e = cc

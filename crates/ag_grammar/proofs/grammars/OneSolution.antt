@@ -1,22 +1,13 @@
 -- Any two solutions on a tree are the same.
-use Rattle.std.proofs.Common.{ℕ, zero, suc, ◌≡◌, ◌-◌, ◌<◌, ◌≤◌, ◌⊎◌, inl, inr, List, [], ◌∷◌, ◌++◌, Option, Some, None, slice_get}
-use Rattle.std.proofs.Common.{length, map, refl, ap, ◌∙◌, sym, subst, arith}
-use Rattle.ag_value.specs.declared.value.Value.{Value}
-use Rattle.ag_grammar.specs.Lists.{Each}
-use Rattle.ag_grammar.specs.declared.grammar.Item.TheVariants as item
-use Rattle.ag_grammar.specs.declared.grammar.Item.{Item}
-use Rattle.ag_grammar.specs.declared.grammar.Production.{Production}
-use Rattle.ag_grammar.specs.declared.grammar.Rule.{Rule}
-use Rattle.ag_grammar.specs.declared.grammar.Target.{Target}
-use Rattle.ag_grammar.specs.declared.grammar.Terminal.TheVariants.{Literal, Class}
-use Rattle.ag_grammar.specs.grammars.AttributeGrammar.{Grammar, stored_items, item_at, IsRule, Kind, Synthesized, Inherited}
-use Rattle.ag_grammar.specs.grammars.AttributeGrammar.{symbol_kinds, item_kinds, defined_kind, used_kind}
+use Rattle.ag_grammar.proofs.Common
+use Common.{ℕ, zero, suc, ◌≡◌, ◌-◌, ◌<◌, ◌≤◌, ◌⊎◌, inl, inr, List, [], ◌∷◌, ◌++◌, Option, Some, None, slice_get, length, map}
+use Common.{refl, ap, ◌∙◌, sym, subst, arith, Value, Each, Item, Production, Rule, Target, Literal, Class, Grammar, stored_items}
+use Common.{item_at, IsRule, Kind, Synthesized, Inherited, symbol_kinds, item_kinds, defined_kind, used_kind, Tree, Forest, leaf}
+use Common.{node, Fits, FitsAll, IsTreeOf, Passes, item_passes, HasPass, Direction, LeftToRight, RightToLeft, direction_of}
+use Common.{IsBefore, MayUse, IsLegalFor, IsLegal, Valuation, children, at, Holds, RulesHold, Solves, AnyRule, SameAt, Same}
+use Common.{AnyPass, left_passes}
+use Common.item
 use Rattle.ag_grammar.specs.grammars.Accepted.{IsStart, IsComplete, IsNormal}
-use Rattle.ag_grammar.specs.grammars.Tree.{Tree, Forest, leaf, node, Fits, FitsAll, IsTreeOf}
-use Rattle.ag_grammar.specs.grammars.Passes.{Passes, item_passes, HasPass, Direction, LeftToRight, RightToLeft, direction_of}
-use Rattle.ag_grammar.specs.grammars.Passes.{IsBefore, MayUse, IsLegalFor, IsLegal}
-use Rattle.ag_grammar.specs.grammars.Solution.{Valuation, children, at, Holds, RulesHold, Solves, AnyRule, SameAt, Same, AnyPass}
-use Rattle.ag_grammar.specs.grammars.Solution.{left_passes}
 use Rattle.ag_grammar.proofs.grammars.EachNode.{same_weaker}
 use Rattle.ag_grammar.proofs.grammars.Rules.{target_same}
 use Rattle.ag_grammar.proofs.grammars.Children.{child, size, tree_ind, child_within, child_fits, child_exists, child_solves}

@@ -1,13 +1,11 @@
 -- A symbol is productive if and only if it has a tree.
-use Rattle.std.proofs.Common.{ℕ, suc, ◌≡◌, ◌↔◌, List, [], ◌∷◌, Some, refl, arith}
+use Rattle.ag_grammar.proofs.Common
+use Common.{ℕ, suc, ◌≡◌, ◌↔◌, List, [], ◌∷◌, Some, refl, arith, Item, Literal, Class, Grammar, stored_items, Tree, Forest, leaf}
+use Common.{node, none, more, Fits, FitsAll}
+use Common.item
 use Rattle.std.proofs.lemmas.Str.{is_utf8-from_IsUtf8}
-use Rattle.ag_grammar.specs.declared.grammar.Item.TheVariants as item
-use Rattle.ag_grammar.specs.declared.grammar.Item.{Item}
-use Rattle.ag_grammar.specs.declared.grammar.Terminal.TheVariants.{Literal, Class}
 use Rattle.ag_grammar.specs.declared.grammar.Terminal.{Terminal}
-use Rattle.ag_grammar.specs.grammars.AttributeGrammar.{Grammar, stored_items}
 use Rattle.ag_grammar.specs.grammars.Accepted.{IsProductive, AreProductive, by_production, nothing, a_symbol, a_terminal}
-use Rattle.ag_grammar.specs.grammars.Tree.{Tree, Forest, leaf, node, none, more, Fits, FitsAll}
 use Rattle.ag_grammar.proofs.grammars.Children.{child, tree_ind}
 
 -- trees of a terminal and of the items after it; the tree of a token class is a leaf with the empty text

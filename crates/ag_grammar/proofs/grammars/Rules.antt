@@ -1,10 +1,6 @@
 -- Lemmas about rules that hold.
-use Rattle.std.proofs.Common.{ℕ, ◌≡◌, Option, Some, None, slice_get, ap, ◌∙◌, sym, pos}
-use Rattle.ag_value.specs.declared.value.Value.{Value, Num}
-use Rattle.ag_grammar.specs.declared.grammar.Rule.{Rule}
-use Rattle.ag_grammar.specs.declared.grammar.Target.{Target}
-use Rattle.ag_grammar.specs.grammars.AttributeGrammar.{IsArgument}
-use Rattle.ag_grammar.specs.grammars.Solution.{Holds, Supplies}
+use Rattle.ag_grammar.proofs.Common
+use Common.{ℕ, ◌≡◌, Option, Some, None, slice_get, ap, ◌∙◌, sym, pos, Value, Num, Rule, Target, IsArgument, Holds, Supplies}
 
 -- an environment that gives a rule's occurrences the values of the attributes that they refer to, and 0 to
 -- other numbers

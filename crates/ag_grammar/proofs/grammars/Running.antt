@@ -1,22 +1,14 @@
 -- Consecutive passes, and the values that they leave.
-use Rattle.std.proofs.Common.{◌≡◌, ℕ, zero, suc, ◌<◌, ◌≤◌, inl, inr, [], ◌∷◌, Option, Some, None, slice_get, refl, sym, subst}
-use Rattle.std.proofs.Common.{arith}
-use Rattle.std.proofs.lemmas.Bool.{cases_lt}
-use Rattle.ag_value.specs.declared.value.Value.{Value}
-use Rattle.ag_grammar.specs.declared.grammar.Item.TheVariants as item
-use Rattle.ag_grammar.specs.declared.grammar.Item.{Item}
-use Rattle.ag_grammar.specs.declared.grammar.Production.{Production}
-use Rattle.ag_grammar.specs.declared.grammar.Rule.{Rule}
-use Rattle.ag_grammar.specs.declared.grammar.Target.{Target}
-use Rattle.ag_grammar.specs.declared.grammar.Terminal.TheVariants.{Literal, Class}
+use Rattle.ag_grammar.proofs.Common
+use Common.{◌≡◌, ℕ, zero, suc, ◌<◌, ◌≤◌, inl, inr, [], ◌∷◌, Option, Some, None, slice_get, refl, sym, subst, arith, cases_lt}
+use Common.{Value, Item, Production, Rule, Target, Literal, Class, Grammar, IsProduction, IsRule, Synthesized, Inherited}
+use Common.{defined_kind, item_at, item_kinds, symbol_kinds, Passes, HasPass, IsLegal, item_passes, AnyRule, NoRule, OfPass}
+use Common.{SameAt, Solves, Valuation}
+use Common.item
 use Rattle.ag_grammar.specs.grammars.Accepted.{IsAccepted}
-use Rattle.ag_grammar.specs.grammars.AttributeGrammar.{Grammar, IsProduction, IsRule, Synthesized, Inherited, defined_kind}
-use Rattle.ag_grammar.specs.grammars.AttributeGrammar.{item_at, item_kinds, symbol_kinds}
 use Rattle.ag_grammar.specs.grammars.Laws.{RunBegins, RunGoesOn, RunIsTheSolution, RunSolvesRest}
-use Rattle.ag_grammar.specs.grammars.Passes.{Passes, HasPass, IsLegal, item_passes}
 use Rattle.ag_grammar.specs.grammars.Running.{FromPass, IsLastPass, IsTheSolution, RanThrough}
 use Rattle.ag_grammar.specs.grammars.Sample.{sample, sample_passes, sample_tree, sample_values}
-use Rattle.ag_grammar.specs.grammars.Solution.{AnyRule, NoRule, OfPass, SameAt, Solves, Valuation}
 use Rattle.ag_grammar.proofs.grammars.EachNode.{OfPasses, same_itself, same_on, same_weaker, solves_each, solves_wider}
 use Rattle.ag_grammar.proofs.grammars.Kept.{equations_kept}
 use Rattle.ag_grammar.proofs.grammars.samples.NumberSample.{accepted as sample_accepted, fits as sample_fits}

@@ -1,12 +1,10 @@
 -- A tree has at most one translation.
-use Rattle.std.proofs.Common.{ℕ, zero, suc, ◌≡◌, List, [], ◌∷◌, ◌++◌, Some, slice_get, map, refl, ap, ◌∙◌, sym, subst}
-use Rattle.ag_value.specs.declared.value.Value.{Value}
-use Rattle.ag_grammar.specs.declared.grammar.Item.TheVariants as item
-use Rattle.ag_grammar.specs.grammars.AttributeGrammar.{Grammar, Synthesized, Inherited, symbol_kinds}
+use Rattle.ag_grammar.proofs.Common
+use Common.{ℕ, zero, suc, ◌≡◌, List, [], ◌∷◌, ◌++◌, Some, slice_get, map, refl, ap, ◌∙◌, sym, subst, Value, Grammar, Synthesized}
+use Common.{Inherited, symbol_kinds, Tree, IsTreeOf, Passes, IsLegal, Valuation, Solves, AnyRule, Same, SameAt, AnyPass}
+use Common.{IsTranslation}
+use Common.item
 use Rattle.ag_grammar.specs.grammars.Accepted.{out_name, IsNamed, IsOut, IsAccepted}
-use Rattle.ag_grammar.specs.grammars.Tree.{Tree, IsTreeOf}
-use Rattle.ag_grammar.specs.grammars.Passes.{Passes, IsLegal}
-use Rattle.ag_grammar.specs.grammars.Solution.{Valuation, Solves, AnyRule, Same, SameAt, AnyPass, IsTranslation}
 use Rattle.ag_grammar.proofs.grammars.Children.{root_each}
 use Rattle.ag_grammar.proofs.grammars.OneSolution.{counterpart, one_solution}
 

@@ -1,10 +1,7 @@
 -- Two well values are the same if and only if their spellings are.
-use Rattle.std.proofs.Common.{◌≡◌, ◌↔◌, [], Bool, IsTrue, bytes_eq, sym, ap, ◌∙◌}
+use Rattle.ag_grammar.proofs.Common.{◌≡◌, ◌↔◌, [], Bool, IsTrue, bytes_eq, sym, ap, ◌∙◌, bytes_eq-Decides, Value, spelling_of}
 use Rattle.std.proofs.lemmas.List.{append-nil}
 use Rattle.std.proofs.lemmas.Bool.Decides.{same_from_decides}
-use Rattle.std.proofs.lemmas.Slice.Eq.{bytes_eq-Decides}
-use Rattle.ag_value.specs.declared.value.Value.{Value}
-use Rattle.ag_value.specs.Spelling.{spelling_of}
 use Rattle.ag_value.specs.Well.{IsWell}
 use Rattle.ag_value.proofs.Codec.{prefix_free}
 

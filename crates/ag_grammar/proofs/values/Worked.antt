@@ -1,21 +1,17 @@
 -- The laws of the results of operations, and lemmas for the worked examples.
-use Rattle.std.proofs.Common.{◌≡◌, ◌≤◌, ◌||◌, ℕ, ℤ, pos, Bool, true, false, nat_lt, bytes_eq, List, Option, Some, None, refl, sym}
-use Rattle.std.proofs.Common.{ap, ◌∙◌, subst, arith}
-use Rattle.std.proofs.lemmas.Bool.{lt-ltb, ltb-true}
-use Rattle.std.proofs.lemmas.Slice.Eq.{bytes_eq-Decides}
+use Rattle.ag_grammar.proofs.Common
+use Common.{◌≡◌, ◌≤◌, ◌||◌, ℕ, ℤ, pos, Bool, true, false, nat_lt, bytes_eq, List, Option, Some, None, refl, sym, ap, ◌∙◌, subst}
+use Common.{arith, lt-ltb, ltb-true, bytes_eq-Decides, Value, out-Value, roll-Value, roll-out-Value, outs-Num, rolls-Fault}
+use Common.{rolls-Table, spelling_of, fit}
 use Rattle.ag_value.specs.declared.value.ErrorCode.{ErrorCode}
 use Rattle.ag_value.specs.declared.value.ErrorCode.TheVariants as code
-use Rattle.ag_value.specs.declared.value.Value.{Value, out-Value, roll-Value, roll-out-Value}
 use Rattle.ag_value.specs.declared.value.Value.TheOpen.{Value-F}
 use Rattle.ag_value.specs.declared.value.Value.TheVariants as value
-use Rattle.ag_value.specs.declared.value.Value.TheVariants.{outs-Num, rolls-Fault, rolls-Table}
 use Rattle.ag_value.specs.declared.value.Value.TheFolds.{fold-roll-Value}
 use Rattle.ag_value.proofs.Layers.{depth-Num, weight-Fault, weight-Num}
 use Rattle.ag_value.specs.Measure.{depth_of, depth_step, max_value_depth, max_weight, weight_of}
-use Rattle.ag_value.specs.Spelling.{spelling_of}
 use Rattle.ag_value.specs.Well.{IsWell, fault_step, is_fault, is_item}
 use Rattle.ag_value.specs.operations.Arguments.{truth}
-use Rattle.ag_value.specs.operations.Fitting.{fit}
 use Rattle.ag_grammar.specs.values.Laws.{BigComesNext, DeepComesFirst, GetIsWell, KeysAreWell, SameIsOne, WhatFitsStays}
 use Rattle.ag_value.specs.operations.Tables.{get_at, keys_at, pair_with}
 use Rattle.ag_grammar.proofs.values.Same.{one_value}

@@ -1,20 +1,12 @@
 -- What the result of reversing a content means if the content is the file of a given tree: it is about this tree.
-use Rattle.std.proofs.Common.{◌≡◌, ℕ, Bool, true, false, List, [], ◌∷◌, ◌++◌, length, Option, Some, None, Result, Ok, Err, ap}
-use Rattle.std.proofs.Common.{sym, subst, ◌∙◌}
-use Rattle.ag_grammar.specs.declared.direction.Direction.{Direction}
-use Rattle.ag_grammar.specs.grammars.Passes.{other}
-use Rattle.backreader.specs.turning.Turning.{IsFileOf, IsReversed, IsWithinLimits, ReversesTree, Reverses}
-use Rattle.backreader.specs.declared.turning.TurnFault.{TurnFault}
-use Rattle.backreader.specs.declared.turning.TurnFault.TheVariants as turn_fault
-use Rattle.treefile.specs.framing.Backward.{ReadsBack, next_before}
-use Rattle.treefile.specs.framing.Ending.{is_tree_file, version_two_usable}
-use Rattle.treefile.specs.records.Orders.{BodyTree, node_count, postfix, prefix}
-use Rattle.treefile.specs.records.TreeFile.{file, frame, version_two}
-use Rattle.treefile.specs.declared.reading.FrameFault.TheVariants as frame_fault
-use Rattle.std.specs.List.{flat_map}
-use Rattle.treefile.proofs.framing.Backward.{reads_apart, reads_same}
+use Rattle.backreader.proofs.Common
+use Common.{◌≡◌, ℕ, Bool, true, false, List, [], ◌∷◌, ◌++◌, length, Option, Some, None, Result, Ok, Err, ap, sym, subst, ◌∙◌}
+use Common.{Direction, other, IsFileOf, Reverses, TurnFault, ReadsBack, next_before, is_tree_file, version_two_usable, BodyTree}
+use Common.{node_count, postfix, prefix, file, frame, version_two, flat_map, reads_apart, reads_same, one_tree}
+use Common.turn_fault
+use Common.frame_fault
+use Rattle.backreader.specs.turning.Turning.{IsReversed, IsWithinLimits, ReversesTree}
 use Rattle.treefile.proofs.framing.Files.{begins}
-use Rattle.treefile.proofs.records.Orders.{one_tree}
 use Rattle.backreader.proofs.turnings.Whole.{tree_back}
 
 module _ (arity : List ℕ → Option ℕ) (pass : ℕ) (content : List ℕ) (honest : Bool) (turned : List ℕ) (direction : Direction)

@@ -1,13 +1,9 @@
 -- The trees that are expected after the bodies of trees.
-use Rattle.std.proofs.Common.{◌≡◌, ℕ, zero, suc, ◌+◌, ◌≤◌, List, [], ◌∷◌, ◌++◌, Option, Some, None, All, refl, ap, sym, ◌∙◌}
-use Rattle.std.proofs.Common.{append_assoc, zero-add, arith}
-use Rattle.std.specs.Prelude.{option_and_then}
-use Rattle.std.proofs.lemmas.List.Elements.{All-cons, All-nil}
-use Rattle.ag_grammar.specs.declared.direction.Direction.{Direction}
-use Rattle.ag_grammar.specs.declared.direction.Direction.TheVariants.{LeftToRight, RightToLeft}
+use Rattle.backreader.proofs.Common
+use Common.{◌≡◌, ℕ, zero, suc, ◌+◌, ◌≤◌, List, [], ◌∷◌, ◌++◌, Option, Some, None, All, refl, ap, sym, ◌∙◌, append_assoc, zero-add}
+use Common.{arith, option_and_then, All-cons, All-nil, Direction, LeftToRight, RightToLeft, AllMatchArity, BodyForest, BodyTree}
+use Common.{MatchesArity, branch, deepest, depth_of, more, none, prefix, prefix_all, tree_count}
 use Rattle.backreader.specs.turning.Taking.{levels_before, pending_levels, pending_trees}
-use Rattle.treefile.specs.records.Orders.{AllMatchArity, BodyForest, BodyTree, MatchesArity, branch, deepest, depth_of, more}
-use Rattle.treefile.specs.records.Orders.{none, prefix, prefix_all, tree_count}
 
 -- a level that is added `count` times after one such level may as well be added `count` times before it
 levels_swap : (count level : ℕ) (levels : List ℕ)

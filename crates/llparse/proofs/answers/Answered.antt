@@ -1,17 +1,8 @@
 -- The meaning of a parse for each tree of its tokens.
-use Rattle.std.proofs.Common.{◌≡◌, ℕ, Bool, List, drop, Result, Ok, Err, refl}
-use Rattle.std.specs.Prelude.{IfErr, IfOk, OnOk}
-use Rattle.ag_grammar.specs.grammars.AttributeGrammar.{Grammar}
-use Rattle.ag_grammar.specs.grammars.Tree.{Tree}
-use Rattle.ag_scan.specs.Tokens.{Token}
-use Rattle.treefile.specs.devices.Device.{WhenHonest}
-use Rattle.treefile.specs.records.TreeFile.{header, version_two}
-use Rattle.llparse.specs.sentence.Parsing.{task_of, IsParsed, IsRefused}
-use Rattle.treefile.specs.records.FirstFile.{IsFirstFile}
-use Rattle.ag_scan.specs.TokenReader.{offset_at}
-use Rattle.llparse.specs.sentence.Sentences.{words_of, IsTreeWith}
-use Rattle.llparse.specs.declared.sentence.parse_fault.ParseFault.{ParseFault}
-use Rattle.llparse.specs.declared.sentence.parse_fault.ParseFault.TheVariants as fault
+use Rattle.llparse.proofs.Common
+use Common.{◌≡◌, ℕ, Bool, List, drop, Result, Ok, Err, refl, IfErr, IfOk, OnOk, Grammar, Tree, Token, WhenHonest, header}
+use Common.{version_two, task_of, IsParsed, IsRefused, IsFirstFile, offset_at, words_of, IsTreeWith, ParseFault}
+use Common.fault
 use Rattle.llparse.proofs.answers.FirstFile.{first_file}
 use Rattle.llparse.proofs.steps.Shown.{whole}
 

@@ -1,15 +1,11 @@
 -- The bytes that a parser writes of a tree are its file of pass 0.
-use Rattle.std.proofs.Common.{◌≡◌, ℕ, List, ◌++◌, refl, append-nil}
+use Rattle.llparse.proofs.Common
+use Common.{◌≡◌, ℕ, List, ◌++◌, refl, append-nil, Grammar, Tree, Forest, IsTreeOf, leaf, node, none, more, IsFirstFile}
+use Common.{first_bodies, first_bodies_all, frame, header, version_two, is_first_file, leaf_frame, tree_frames, forest_frames}
 use Rattle.std.specs.List.{flat_map}
 use Rattle.std.proofs.lemmas.Grind.{flat_map-append}
-use Rattle.ag_grammar.specs.grammars.AttributeGrammar.{Grammar}
 use Rattle.ag_grammar.specs.declared.direction.Direction.TheVariants.{LeftToRight}
-use Rattle.ag_grammar.specs.grammars.Tree.{Tree, Forest, IsTreeOf, leaf, node, none, more}
-use Rattle.treefile.specs.records.FirstFile.{IsFirstFile, first_bodies, first_bodies_all}
 use Rattle.treefile.specs.records.Orders.{postfix, postfix_all}
-use Rattle.treefile.specs.records.TreeFile.{frame, header, version_two}
-use Rattle.treefile.proofs.records.FirstFile.{is_first_file}
-use Rattle.llparse.specs.sentence.Parsing.{leaf_frame, tree_frames, forest_frames}
 
 mutual
   frames : (t : Tree) → flat_map frame (postfix LeftToRight (first_bodies version_two t)) ≡ tree_frames t

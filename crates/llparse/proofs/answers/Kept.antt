@@ -1,23 +1,12 @@
 -- The texts that a parser keeps: at the end of a node its own are few, and each is well.
-use Rattle.std.proofs.Common.{◌≡◌, ℕ, ◌≤◌, List, [], ◌∷◌, ◌++◌, length, take, drop, All, refl, sym, arith}
+use Rattle.llparse.proofs.Common
+use Common.{◌≡◌, ℕ, ◌≤◌, List, [], ◌∷◌, ◌++◌, length, take, drop, All, refl, sym, arith, All-cons, All-nil, Value, Text, IsWell}
+use Common.{Item, Production, Literal, Class, IsAccepted, max_children, Grammar, stored_items, IsProduction, Tree, leaf, node}
+use Common.{Forest, none, more, Fits, FitsAll, IsTreeOf, Lexeme, joined, Open, Continues, leaf_texts, Task, Output, Reading, kept}
+use Common.{OpenProduction, text_well}
+use Common.item
 use Rattle.std.proofs.lemmas.List.{drop_at, length-append, take_at}
-use Rattle.std.proofs.lemmas.List.Elements.{All-cons, All-nil}
-use Rattle.ag_value.specs.declared.value.Value.{Value, Text}
-use Rattle.ag_value.specs.Well.{IsWell}
-use Rattle.ag_grammar.specs.declared.grammar.Item.TheVariants as item
-use Rattle.ag_grammar.specs.declared.grammar.Item.{Item}
-use Rattle.ag_grammar.specs.declared.grammar.Production.{Production}
-use Rattle.ag_grammar.specs.declared.grammar.Terminal.TheVariants.{Literal, Class}
-use Rattle.ag_grammar.specs.grammars.Accepted.{IsAccepted, max_children}
-use Rattle.ag_grammar.specs.grammars.AttributeGrammar.{Grammar, stored_items, IsProduction}
-use Rattle.ag_grammar.specs.grammars.Tree.{Tree, leaf, node, Forest, none, more, Fits, FitsAll, IsTreeOf}
-use Rattle.ag_grammar.specs.grammars.Yield.{Lexeme}
-use Rattle.llparse.specs.sentence.Opened.{joined, Open, Continues}
-use Rattle.treefile.specs.records.FirstFile.{leaf_texts}
-use Rattle.llparse.specs.sentence.Parsing.{Task, Output, Reading, kept}
-use Rattle.llparse.specs.declared.sentence.parser.OpenProduction.{OpenProduction}
 use Rattle.llparse.proofs.steps.Begins.{finish}
-use Rattle.treefile.proofs.records.FirstFile.{text_well}
 use Rattle.llparse.proofs.steps.Steps as step
 
 pub texts-joined : (a b : Forest) → leaf_texts (joined a b) ≡ leaf_texts a ++ leaf_texts b

@@ -1,15 +1,9 @@
 -- The remaining words, by the tokens.
-use Rattle.std.proofs.Common.{◌≡◌, ℕ, zero, suc, ◌+◌, ◌<◌, ◌≤◌, true, false, List, [], ◌∷◌, drop, length, slice_get, Option, Some}
-use Rattle.std.proofs.Common.{None, is_some, option_map, refl, sym, add-one}
-use Rattle.std.proofs.lemmas.Option.{slice_get_within}
-use Rattle.ag_scan.specs.TokenReader.{token_of}
-use Rattle.ag_scan.specs.Tokens.{Token}
+use Rattle.llparse.proofs.Common
+use Common.{◌≡◌, ℕ, zero, suc, ◌+◌, ◌<◌, ◌≤◌, true, false, List, [], ◌∷◌, drop, length, slice_get, Option, Some, None, is_some}
+use Common.{option_map, refl, sym, add-one, slice_get_within, token_of, Token, rest_none, ended, Terminal, ahead_of, words_of}
+use Common.ahead
 use Rattle.ag_scan.specs.declared.token.Token as lent
-use Rattle.ag_scan.proofs.Lefts.{rest_none, ended}
-use Rattle.ag_grammar.specs.declared.grammar.Terminal.{Terminal}
-use Rattle.llparse.specs.Ahead.{ahead_of}
-use Rattle.llparse.specs.declared.ahead.Ahead.TheVariants as ahead
-use Rattle.llparse.specs.sentence.Sentences.{words_of}
 
 pub next_is : (xs : List Token) (i : ℕ) (x : Token) → slice_get xs i ≡ Some x
     → drop i (words_of xs) ≡ (x.kind, x.lex) ∷ drop (i + 1) (words_of xs)

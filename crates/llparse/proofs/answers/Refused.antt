@@ -1,20 +1,10 @@
 -- Faults are justified where a parser stops.
-use Rattle.std.proofs.Common.{◌≡◌, ℕ, ◌≤◌, Bool, List, ◌∷◌, length, reverse, slice_get, Some, refl, arith}
-use Rattle.std.proofs.lemmas.List.{length-reverse}
-use Rattle.ag_grammar.specs.declared.grammar.Item.TheVariants as item
-use Rattle.ag_grammar.specs.declared.grammar.Terminal.TheVariants.{Class}
-use Rattle.ag_grammar.specs.grammars.Accepted.{IsAccepted}
-use Rattle.ag_grammar.specs.grammars.AttributeGrammar.{Grammar, literal_text}
-use Rattle.ag_grammar.specs.grammars.Tree.{max_depth}
-use Rattle.ag_scan.specs.Tokens.{Token}
-use Rattle.llparse.specs.sentence.Parsing.{task_of, IsRefused}
-use Rattle.ag_scan.specs.TokenReader.{offset_at}
-use Rattle.llparse.specs.sentence.Sentences.{words_of, IsStuckAt}
-use Rattle.llparse.specs.sentence.Turns.{IsAtSymbol, IsAtItem, IsFull}
-use Rattle.llparse.specs.declared.sentence.parse_fault.ParseFault.{ParseFault}
-use Rattle.llparse.specs.declared.sentence.parse_fault.ParseFault.TheVariants as fault
-use Rattle.llparse.specs.declared.sentence.parser.OpenProduction.{OpenProduction}
-use Rattle.llparse.specs.declared.sentence.parser.Parser.{Parser}
+use Rattle.llparse.proofs.Common
+use Common.{◌≡◌, ℕ, ◌≤◌, Bool, List, ◌∷◌, length, reverse, slice_get, Some, refl, arith, length-reverse, Class, IsAccepted}
+use Common.{Grammar, literal_text, max_depth, Token, task_of, IsRefused, offset_at, words_of, IsStuckAt, IsAtSymbol, IsAtItem}
+use Common.{IsFull, ParseFault, OpenProduction, Parser}
+use Common.item
+use Common.fault
 use Rattle.llparse.proofs.steps.Leaves as leaves
 use Rattle.llparse.proofs.steps.Starts as starts
 

@@ -1,18 +1,11 @@
 -- The look-aheads with which the items of a right side can start, item by item.
-use Rattle.std.proofs.Common.{ℕ, Contains, ◌+◌, ◌≡◌, ◌<◌, ◌⊎◌, ◌↔◌, Bool, true, false, ◌&&◌, ◌||◌, List, [], ◌∷◌, ◌++◌, length}
-use Rattle.std.proofs.Common.{get_or, drop, refl, sym, inl, inr, arith}
-use Rattle.std.proofs.lemmas.List.{drop_more}
-use Rattle.ag_grammar.specs.declared.grammar.Item.TheVariants as item
-use Rattle.ag_grammar.specs.declared.grammar.Item.{Item}
-use Rattle.ag_grammar.specs.declared.grammar.Terminal.{Terminal}
-use Rattle.ag_grammar.specs.grammars.AttributeGrammar.{Grammar}
-use Rattle.ag_grammar.specs.grammars.Accepted.{IsNamedItem}
-use Rattle.llparse.specs.Ahead.{IsNullable, AreNullable, nothing, a_symbol, InFirstOf, here, inside, later, IsInFirstOf}
-use Rattle.llparse.specs.table.CanStart.{can_start_in, all_nullable, OfRest}
-use Rattle.llparse.specs.table.Edges.{Adds, InFirstOfItem}
-use Rattle.llparse.specs.table.Nullable.{is_nullable_item}
-use Rattle.llparse.specs.declared.ahead.Ahead.{Ahead}
-use Rattle.llparse.specs.declared.ahead.Ahead.TheVariants as ahead
+use Rattle.llparse.proofs.Common
+use Common.{ℕ, Contains, ◌+◌, ◌≡◌, ◌<◌, ◌⊎◌, ◌↔◌, Bool, true, false, ◌&&◌, ◌||◌, List, [], ◌∷◌, ◌++◌, length, get_or, drop, refl}
+use Common.{sym, inl, inr, arith, drop_more, Item, Terminal, Grammar, IsNamedItem, IsNullable, AreNullable, nothing, a_symbol}
+use Common.{InFirstOf, here, inside, later, IsInFirstOf, can_start_in, all_nullable, OfRest, Adds, InFirstOfItem}
+use Common.{is_nullable_item, Ahead}
+use Common.item
+use Common.ahead
 use Rattle.llparse.proofs.look_ahead.Edges.{contains_here, contains_there}
 
 -- `b || (n && c)`, as `can_start_in` computes at an item

@@ -1,13 +1,9 @@
 -- The choices of one look-ahead.
-use Rattle.std.proofs.Common.{ℕ, ◌+◌, ◌≡◌, ◌<◌, ◌≤◌, ◌⊎◌, Bool, true, false, List, Option, Some, None, length}
-use Rattle.std.proofs.Common.{slice_get, set, refl, inl, inr, arith}
-use Rattle.std.proofs.lemmas.Bool.{cases_eq, false≢true}
+use Rattle.llparse.proofs.Common
+use Common.{ℕ, ◌+◌, ◌≡◌, ◌<◌, ◌≤◌, ◌⊎◌, Bool, true, false, List, Option, Some, None, length, slice_get, set, refl, inl, inr}
+use Common.{arith, cases_eq, false≢true, same_Some, Production, choice_at, AreEarliestFrom, AreConflicting, IsLeastFrom}
+use Common.{IsMarkedOf, is_marked, Pair}
 use Rattle.std.proofs.lemmas.List.{get_or-set_other, get_or-set_same}
-use Rattle.std.proofs.lemmas.Option.{same_Some}
-use Rattle.ag_grammar.specs.declared.grammar.Production.{Production}
-use Rattle.llparse.specs.table.Predicted.{choice_at, AreEarliestFrom, AreConflicting, IsLeastFrom, IsMarkedOf}
-use Rattle.closure.specs.Following.{is_marked}
-use Rattle.llparse.specs.declared.table.choosing.Pair.{Pair}
 
 module _ (qs : List Production) (marks : List Bool) where
   -- a number from i on is i, or comes after it

@@ -1,31 +1,18 @@
 -- The invariants of filling the columns, and the properties of full columns.
-use Rattle.std.proofs.Common.{ℕ, ◌+◌, ◌≡◌, ◌<◌, ◌≤◌, ◌⊎◌, ◌↔◌, Bool, true, false, List, [], ◌∷◌, ◌++◌, Option}
-use Rattle.std.proofs.Common.{Some, None, length, get_or, slice_get, refl, inl, inr, arith}
-use Rattle.std.proofs.lemmas.Bool.{cases_eq}
+use Rattle.llparse.proofs.Common
+use Common.{ℕ, ◌+◌, ◌≡◌, ◌<◌, ◌≤◌, ◌⊎◌, ◌↔◌, Bool, true, false, List, [], ◌∷◌, ◌++◌, Option, Some, None, length, get_or}
+use Common.{slice_get, refl, inl, inr, arith, cases_eq, get_or_append_left, get_or_push, length-map, get_or_from_slice_get, Item}
+use Common.{Production, Terminal, Literal, Class, Grammar, IsAccepted, InFirst, of_production, InFirstOf, here, inside, later}
+use Common.{InFollow, at_end, next, last, Predicts, IsConflict, HasNoConflict, IsKnownAhead, index_of, choice_at, AreEarliestFrom}
+use Common.{ArePredicted, AreConflicting, IsLeastFrom, IsMarkedOf, rows, choice_of, is_known, Choices, FitsGrammar, IsChoice}
+use Common.{IsLeastConflict, Ahead, Pair, element_at}
+use Common.item
+use Common.ahead
 use Rattle.std.proofs.lemmas.Bool.Decides.{nat_tests}
-use Rattle.std.proofs.lemmas.List.{get_or_append_left, get_or_push, length-map, map-append}
-use Rattle.std.proofs.lemmas.Option.{get_or_from_slice_get}
+use Rattle.std.proofs.lemmas.List.{map-append}
 use Rattle.std.specs.Global.{Vec}
-use Rattle.ag_grammar.specs.declared.grammar.Item.TheVariants as item
-use Rattle.ag_grammar.specs.declared.grammar.Item.{Item}
-use Rattle.ag_grammar.specs.declared.grammar.Production.{Production}
-use Rattle.ag_grammar.specs.declared.grammar.Terminal.{Terminal}
-use Rattle.ag_grammar.specs.declared.grammar.Terminal.TheVariants.{Literal, Class}
-use Rattle.ag_grammar.specs.grammars.AttributeGrammar.{Grammar}
-use Rattle.ag_grammar.specs.grammars.Accepted.{IsAccepted}
-use Rattle.llparse.specs.Ahead.{InFirst, of_production, InFirstOf, here, inside, later, InFollow, at_end, next, last, Predicts}
-use Rattle.llparse.specs.Ahead.{IsConflict, HasNoConflict}
 use Rattle.llparse.specs.table.Columns.{AreColumns, IsColumn, IsLeastAt, IsLeastBelow, IsLesserConflict, at_ahead}
-use Rattle.llparse.specs.table.Edges.{IsKnownAhead}
-use Rattle.llparse.specs.table.Nodes.{index_of}
-use Rattle.llparse.specs.table.Predicted.{choice_at, AreEarliestFrom, ArePredicted, AreConflicting, IsLeastFrom, IsMarkedOf}
-use Rattle.closure.specs.Waiting.{rows}
-use Rattle.llparse.specs.table.Tables.{choice_of, is_known, Choices, FitsGrammar, IsChoice, IsLeastConflict}
-use Rattle.llparse.specs.declared.ahead.Ahead.{Ahead}
-use Rattle.llparse.specs.declared.ahead.Ahead.TheVariants as ahead
-use Rattle.llparse.specs.declared.table.choosing.Pair.{Pair}
 use Rattle.llparse.specs.declared.table.filling.Conflict.{Conflict}
-use Rattle.closure.proofs.Positions.{element_at}
 use Rattle.llparse.proofs.look_ahead.CanStart.{AreNamed}
 use Rattle.llparse.proofs.look_ahead.Edges.{contains_here, contains_there}
 use Rattle.llparse.proofs.look_ahead.Firsts.{known_terminal, named_in, index_below, same_ahead}

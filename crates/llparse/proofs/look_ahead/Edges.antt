@@ -1,13 +1,11 @@
 -- Edges added to lists.
-use Rattle.std.proofs.Common.{ℕ, zero, suc, Contains, ◌+◌, ◌≡◌, ◌<◌, ◌≤◌, ◌⊎◌, ◌↔◌, Bool, true, false, List, [], ◌∷◌, ◌++◌}
-use Rattle.std.proofs.Common.{length, get_or, take, drop, refl, inl, inr, arith, append_assoc, take_all}
-use Rattle.std.proofs.lemmas.List.{take_more, drop_all, drop_more, append-nil}
+use Rattle.llparse.proofs.Common
+use Common.{ℕ, zero, suc, Contains, ◌+◌, ◌≡◌, ◌<◌, ◌≤◌, ◌⊎◌, ◌↔◌, Bool, true, false, List, [], ◌∷◌, ◌++◌, length, get_or, take}
+use Common.{drop, refl, inl, inr, arith, append_assoc, take_all, drop_all, drop_more, Item, starting_items, Adds, IsEdge, OfSome}
+use Common.{Edge, is_nullable_item}
+use Rattle.std.proofs.lemmas.List.{take_more, append-nil}
 use Rattle.std.proofs.lemmas.List.Elements.{Contains-push_cases, Contains-append_left}
 use Rattle.std.proofs.lemmas.List.Elements.{Contains-push}
-use Rattle.ag_grammar.specs.declared.grammar.Item.{Item}
-use Rattle.llparse.specs.table.Edges.{starting_items, Adds, IsEdge, OfSome}
-use Rattle.closure.specs.declared.edges.Edge.{Edge}
-use Rattle.llparse.specs.table.Nullable.{is_nullable_item}
 
 pub contains_none : {X : Type 0} (x : X) → Contains [] x → ⊥
 contains_none x h = omega (arith, h.1)

@@ -1,26 +1,13 @@
 -- The symbols with a look-ahead in FIRST are those that the edges for FIRST reach from it.
-use Rattle.std.proofs.Common.{ℕ, Contains, ◌+◌, ◌≡◌, ◌<◌, ◌⊎◌, ◌↔◌, Bool, true, false, List, [], ◌∷◌, length, map, get_or}
-use Rattle.std.proofs.Common.{All, refl, subst, sym, inl, inr, arith}
-use Rattle.std.specs.Prelude.{if◌then◌else◌}
-use Rattle.std.proofs.lemmas.List.Elements.{Contains-get_or}
-use Rattle.ag_grammar.specs.declared.grammar.Item.TheVariants as item
-use Rattle.ag_grammar.specs.declared.grammar.Item.{Item}
-use Rattle.ag_grammar.specs.declared.grammar.Production.{Production}
-use Rattle.ag_grammar.specs.declared.grammar.Terminal.{Terminal}
-use Rattle.ag_grammar.specs.declared.grammar.Terminal.TheVariants.{Literal, Class}
-use Rattle.ag_grammar.specs.grammars.AttributeGrammar.{Grammar}
-use Rattle.ag_grammar.specs.grammars.Accepted.{IsAccepted, IsNamedItem}
+use Rattle.llparse.proofs.Common
+use Common.{ℕ, Contains, ◌+◌, ◌≡◌, ◌<◌, ◌⊎◌, ◌↔◌, Bool, true, false, List, [], ◌∷◌, length, map, get_or, All, refl, subst, sym}
+use Common.{inl, inr, arith, if◌then◌else◌, Contains-get_or, Item, Production, Terminal, Literal, Class, Grammar, IsAccepted}
+use Common.{IsNamedItem, Follows, seed, Edge, element_at, position_of_element, reached_in, step, IsNullable, InFirst}
+use Common.{of_production, InFirstOf, here, inside, later, starting_items, node_in, InFirstOfItem, IsFirstEdge, IsKnownAhead}
+use Common.{OfSome, index_of, is_nullable_item, Ahead}
+use Common.item
+use Common.ahead
 use Rattle.closure.specs.Edges.{clause_of_edge, IsEdgeBelow}
-use Rattle.closure.specs.Following.{Follows, seed}
-use Rattle.closure.specs.declared.edges.Edge.{Edge}
-use Rattle.closure.proofs.Positions.{element_at, position_of_element}
-use Rattle.closure.proofs.Reached.{reached_in, step}
-use Rattle.llparse.specs.Ahead.{IsNullable, InFirst, of_production, InFirstOf, here, inside, later}
-use Rattle.llparse.specs.table.Edges.{starting_items, node_in, InFirstOfItem, IsFirstEdge, IsKnownAhead, OfSome}
-use Rattle.llparse.specs.table.Nodes.{index_of}
-use Rattle.llparse.specs.table.Nullable.{is_nullable_item}
-use Rattle.llparse.specs.declared.ahead.Ahead.{Ahead}
-use Rattle.llparse.specs.declared.ahead.Ahead.TheVariants as ahead
 use Rattle.llparse.proofs.look_ahead.Edges.{contains_none, contains_here, contains_there, cons_cases}
 
 -- an element of a list that is empty unless b holds

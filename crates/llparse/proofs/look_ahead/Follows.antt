@@ -1,23 +1,12 @@
 -- The symbols with a look-ahead in FOLLOW are those that the edges for FOLLOW reach from its seeds.
-use Rattle.std.proofs.Common.{ℕ, Contains, ◌+◌, ◌≡◌, ◌<◌, ◌⊎◌, ◌↔◌, Bool, true, List, ◌∷◌, ◌++◌, length, map, get_or}
-use Rattle.std.proofs.Common.{All, refl, inl, inr, arith}
-use Rattle.std.proofs.lemmas.List.Elements.{Contains-get_or, Contains-append_right}
-use Rattle.std.proofs.lemmas.Option.{slice_get_within}
-use Rattle.ag_grammar.specs.declared.grammar.Item.TheVariants as item
-use Rattle.ag_grammar.specs.declared.grammar.Item.{Item}
-use Rattle.ag_grammar.specs.declared.grammar.Production.{Production}
-use Rattle.ag_grammar.specs.grammars.AttributeGrammar.{Grammar, IsProduction}
-use Rattle.ag_grammar.specs.grammars.Accepted.{IsAccepted, IsNamedItem}
+use Rattle.llparse.proofs.Common
+use Common.{ℕ, Contains, ◌+◌, ◌≡◌, ◌<◌, ◌⊎◌, ◌↔◌, Bool, true, List, ◌∷◌, ◌++◌, length, map, get_or, All, refl, inl, inr, arith}
+use Common.{Contains-get_or, Contains-append_right, slice_get_within, Item, Production, Grammar, IsProduction, IsAccepted}
+use Common.{IsNamedItem, Follows, seed, Edge, element_at, position_of_element, reached_in, step, IsNullable, IsInFirstOf}
+use Common.{InFollow, at_end, next, last, IsFollowEdge, IsFollowSeed, node_in, Adds, InFirstOfItem, OfSome, Ahead}
+use Common.item
+use Common.ahead
 use Rattle.closure.specs.Edges.{clause_of_edge, IsEdgeBelow}
-use Rattle.closure.specs.Following.{Follows, seed}
-use Rattle.closure.specs.declared.edges.Edge.{Edge}
-use Rattle.closure.proofs.Positions.{element_at, position_of_element}
-use Rattle.closure.proofs.Reached.{reached_in, step}
-use Rattle.llparse.specs.Ahead.{IsNullable, IsInFirstOf, InFollow, at_end, next, last}
-use Rattle.llparse.specs.table.CanStart.{IsFollowEdge, IsFollowSeed}
-use Rattle.llparse.specs.table.Edges.{node_in, Adds, InFirstOfItem, OfSome}
-use Rattle.llparse.specs.declared.ahead.Ahead.{Ahead}
-use Rattle.llparse.specs.declared.ahead.Ahead.TheVariants as ahead
 use Rattle.llparse.proofs.look_ahead.CanStart.{can_start_iff, nullable_iff, rest_of_split, rest_split}
 use Rattle.llparse.proofs.look_ahead.Edges.{contains_here, contains_there}
 use Rattle.llparse.proofs.look_ahead.Firsts.{left_in, named_in, node_below, symbol_item}

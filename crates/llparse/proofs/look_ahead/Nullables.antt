@@ -1,17 +1,12 @@
 -- The consequences of the clauses of a grammar are its nullable symbols.
-use Rattle.std.proofs.Common.{ℕ, ◌+◌, ◌<◌, ◌↔◌, List, [], ◌∷◌, length, map, get_or, All, arith}
-use Rattle.std.proofs.lemmas.List.Elements.{All-head, All-map, All-tail, Contains-get_or}
-use Rattle.ag_grammar.specs.declared.grammar.Item.TheVariants as item
-use Rattle.ag_grammar.specs.declared.grammar.Item.{Item}
-use Rattle.ag_grammar.specs.grammars.AttributeGrammar.{Grammar}
-use Rattle.ag_grammar.specs.grammars.Accepted.{IsAccepted}
-use Rattle.closure.specs.Clauses.{IsClauseBelow}
-use Rattle.closure.specs.Following.{Follows, FollowAll, by_clause, nothing as no_number, one_more}
+use Rattle.llparse.proofs.Common
+use Common.{ℕ, ◌+◌, ◌<◌, ◌↔◌, List, [], ◌∷◌, length, map, get_or, All, arith, Contains-get_or, Item, Grammar, IsAccepted}
+use Common.{IsClauseBelow, Follows, at_mapped, mapped_at, IsNullable, by_production, AreNullable, nothing, a_symbol, node_in}
+use Common.{clause_of, clauses_of}
+use Common.item
+use Rattle.std.proofs.lemmas.List.Elements.{All-head, All-map, All-tail}
+use Rattle.closure.specs.Following.{FollowAll, by_clause, nothing as no_number, one_more}
 use Rattle.closure.proofs.Following.{follows_in}
-use Rattle.closure.proofs.Positions.{at_mapped, mapped_at}
-use Rattle.llparse.specs.Ahead.{IsNullable, by_production, AreNullable, nothing, a_symbol}
-use Rattle.llparse.specs.table.Edges.{node_in}
-use Rattle.llparse.specs.table.Nullable.{clause_of, clauses_of}
 use Rattle.llparse.proofs.look_ahead.Firsts.{left_in, named_in, node_below}
 
 module _ (g : Grammar) (ok : IsAccepted g) where

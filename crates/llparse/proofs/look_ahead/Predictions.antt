@@ -1,20 +1,10 @@
 -- The productions that a look-ahead predicts.
-use Rattle.std.proofs.Common.{ℕ, ◌+◌, ◌≡◌, ◌<◌, ◌↔◌, Bool, true, false, List, [], ◌∷◌, ◌++◌, length}
-use Rattle.std.proofs.Common.{inl, inr, arith}
-use Rattle.std.proofs.lemmas.Bool.{cases_eq}
-use Rattle.std.proofs.lemmas.List.{get_or_append_left, get_or_push}
-use Rattle.ag_grammar.specs.declared.grammar.Item.{Item}
-use Rattle.ag_grammar.specs.declared.grammar.Production.{Production}
-use Rattle.ag_grammar.specs.grammars.AttributeGrammar.{Grammar, IsProduction}
-use Rattle.ag_grammar.specs.grammars.Accepted.{IsAccepted}
-use Rattle.llparse.specs.Ahead.{IsNullable, Predicts}
-use Rattle.llparse.specs.table.CanStart.{can_start_in, AreFollowMarks}
-use Rattle.llparse.specs.table.Edges.{node_in, AreFirstMarks}
-use Rattle.llparse.specs.table.Nullable.{is_nullable_item}
-use Rattle.closure.specs.Following.{is_marked}
-use Rattle.llparse.specs.declared.ahead.Ahead.{Ahead}
+use Rattle.llparse.proofs.Common
+use Common.{ℕ, ◌+◌, ◌≡◌, ◌<◌, ◌↔◌, Bool, true, false, List, [], ◌∷◌, ◌++◌, length, inl, inr, arith, cases_eq, get_or_append_left}
+use Common.{get_or_push, Item, Production, Grammar, IsProduction, IsAccepted, IsNullable, Predicts, can_start_in, AreFollowMarks}
+use Common.{node_in, is_nullable_item, is_marked, Ahead, element_at}
+use Rattle.llparse.specs.table.Edges.{AreFirstMarks}
 use Rattle.llparse.proofs.look_ahead.CanStart.{can_start_iff, next_after, next_cases, next_first, nullable_iff}
-use Rattle.closure.proofs.Positions.{element_at}
 use Rattle.llparse.proofs.look_ahead.Firsts.{left_in, named_in}
 
 -- a production is predicted exactly if its items can start with the look-ahead, or are all nullable and its left side has it in

@@ -1,24 +1,14 @@
 -- The open nodes can be completed to a whole tree, since each symbol of an accepted grammar has a tree.
-use Rattle.std.proofs.Common.{◌≡◌, ℕ, ◌<◌, List, [], ◌∷◌, ◌++◌, Contains, length, refl}
-use Rattle.std.proofs.Common.{append_assoc, arith}
-use Rattle.std.proofs.lemmas.List.Elements.{Contains-append_right}
-use Rattle.std.proofs.lemmas.Option.{slice_get_within}
+use Rattle.llparse.proofs.Common
+use Common.{◌≡◌, ℕ, ◌<◌, List, [], ◌∷◌, ◌++◌, Contains, length, refl, append_assoc, arith, Contains-append_right}
+use Common.{slice_get_within, Item, Production, Literal, Class, IsAccepted, Grammar, stored_items, IsProduction, IsTokenText}
+use Common.{Tree, leaf, node, Forest, none, more, Fits, FitsAll, Lexeme, yield_along, yield_of, element_at, joined, Open, open_at}
+use Common.{Continues, IsCutAt, IsNext, IsStack, Task, Output, IsTreeAfter, Reading, AtSymbol, OpenProduction}
+use Common.item
 use Rattle.std.proofs.lemmas.Str.{is_utf8-from_IsUtf8}
-use Rattle.ag_grammar.specs.declared.grammar.Item.TheVariants as item
-use Rattle.ag_grammar.specs.declared.grammar.Item.{Item}
-use Rattle.ag_grammar.specs.declared.grammar.Production.{Production}
-use Rattle.ag_grammar.specs.declared.grammar.Terminal.TheVariants.{Literal, Class}
-use Rattle.ag_grammar.specs.grammars.Accepted.{IsAccepted}
-use Rattle.ag_grammar.specs.grammars.AttributeGrammar.{Grammar, stored_items, IsProduction}
-use Rattle.ag_grammar.specs.grammars.Tree.{IsTokenText, Tree, leaf, node, Forest, none, more, Fits, FitsAll}
-use Rattle.ag_grammar.specs.grammars.Yield.{Lexeme, yield_along, yield_of}
 use Rattle.ag_grammar.proofs.grammars.Productive.{by_trees}
-use Rattle.closure.proofs.Positions.{element_at}
 use Rattle.llparse.proofs.look_ahead.Edges.{contains_here}
 use Rattle.llparse.proofs.look_ahead.Firsts.{named_in}
-use Rattle.llparse.specs.sentence.Opened.{joined, Open, open_at, Continues, IsCutAt, IsNext, IsStack}
-use Rattle.llparse.specs.sentence.Parsing.{Task, Output, IsTreeAfter, Reading, AtSymbol}
-use Rattle.llparse.specs.declared.sentence.parser.OpenProduction.{OpenProduction}
 
 -- a token's text may be empty
 no_text : IsTokenText []

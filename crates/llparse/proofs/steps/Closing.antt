@@ -1,20 +1,12 @@
 -- The invariants of closing a node, and the state at the end.
-use Rattle.std.proofs.Common.{◌≡◌, ℕ, ◌<◌, ◌≤◌, List, [], ◌∷◌, ◌++◌, length, take, drop, refl}
-use Rattle.std.proofs.Common.{append_assoc, append-nil, arith}
-use Rattle.std.proofs.lemmas.List.{drop_all, length-drop, take_all}
-use Rattle.ag_grammar.specs.declared.grammar.Item.TheVariants as item
-use Rattle.ag_grammar.specs.grammars.AttributeGrammar.{Grammar}
-use Rattle.ag_grammar.specs.grammars.Tree.{Tree, node, Forest, none, more}
-use Rattle.ag_grammar.specs.grammars.Yield.{Lexeme}
-use Rattle.treefile.specs.devices.Device.{WhenHonest}
-use Rattle.llparse.specs.Ahead.{ahead_of}
-use Rattle.llparse.specs.sentence.Opened.{joined, Open, open_at, Completes, FitsStack}
-use Rattle.treefile.specs.records.FirstFile.{leaf_texts}
-use Rattle.llparse.specs.sentence.Parsing.{Task, Output, IsTreeAfter, Shows, kept, written, Agrees, Reading, Between, Finished}
-use Rattle.llparse.specs.sentence.Parsing.{IsParsed, node_frame, tree_frames, forest_frames}
-use Rattle.llparse.specs.sentence.Sentences.{IsStuckAt}
-use Rattle.llparse.specs.declared.ahead.Ahead.TheVariants as ahead
-use Rattle.llparse.specs.declared.sentence.parser.OpenProduction.{OpenProduction}
+use Rattle.llparse.proofs.Common
+use Common.{◌≡◌, ℕ, ◌<◌, ◌≤◌, List, [], ◌∷◌, ◌++◌, length, take, drop, refl, append_assoc, append-nil, arith, drop_all, Grammar}
+use Common.{Tree, node, Forest, none, more, Lexeme, WhenHonest, ahead_of, joined, Open, open_at, Completes, FitsStack, leaf_texts}
+use Common.{Task, Output, IsTreeAfter, Shows, kept, written, Agrees, Reading, Between, Finished, IsParsed, node_frame}
+use Common.{tree_frames, forest_frames, IsStuckAt, OpenProduction}
+use Common.item
+use Common.ahead
+use Rattle.std.proofs.lemmas.List.{length-drop, take_all}
 use Rattle.llparse.proofs.answers.Kept.{parted, texts-joined}
 use Rattle.llparse.proofs.steps.Sizes as size
 use Rattle.llparse.proofs.steps.Steps as step

@@ -1,22 +1,11 @@
 -- The invariants of taking a token of a class.
-use Rattle.std.proofs.Common.{◌≡◌, ℕ, suc, ◌+◌, ◌<◌, ◌≤◌, List, [], ◌∷◌, ◌++◌, length, drop, append_assoc}
-use Rattle.std.proofs.Common.{append-nil, arith}
-use Rattle.ag_value.specs.declared.value.Value.{Text}
-use Rattle.ag_grammar.specs.declared.grammar.Item.TheVariants as item
-use Rattle.ag_grammar.specs.declared.grammar.Item.{Item}
-use Rattle.ag_grammar.specs.declared.grammar.Terminal.TheVariants.{Class}
-use Rattle.ag_grammar.specs.grammars.Accepted.{IsAccepted}
-use Rattle.ag_grammar.specs.grammars.AttributeGrammar.{Grammar}
-use Rattle.ag_grammar.specs.grammars.Tree.{IsTokenText, Tree, leaf, none, more, depth_of, node_count}
-use Rattle.ag_grammar.specs.grammars.Yield.{Lexeme}
-use Rattle.treefile.specs.devices.Device.{WhenHonest}
-use Rattle.llparse.specs.sentence.Opened.{joined, Completes, Open, open_at, opened}
-use Rattle.treefile.specs.records.FirstFile.{leaf_texts}
-use Rattle.llparse.specs.sentence.Parsing.{Task, Output, kept, written, Reading, IsTooDeep, IsTooLarge, leaf_frame, forest_frames}
-use Rattle.llparse.specs.sentence.Sentences.{LeavesOnly}
-use Rattle.llparse.specs.declared.sentence.parser.OpenProduction.{OpenProduction}
+use Rattle.llparse.proofs.Common
+use Common.{◌≡◌, ℕ, suc, ◌+◌, ◌<◌, ◌≤◌, List, [], ◌∷◌, ◌++◌, length, drop, append_assoc, append-nil, arith, Text, Item, Class}
+use Common.{IsAccepted, Grammar, IsTokenText, Tree, leaf, none, more, depth_of, node_count, Lexeme, WhenHonest, joined, Completes}
+use Common.{Open, open_at, opened, leaf_texts, Task, Output, kept, written, Reading, IsTooDeep, IsTooLarge, leaf_frame}
+use Common.{forest_frames, LeavesOnly, OpenProduction, following}
+use Common.item
 use Rattle.llparse.proofs.steps.Begins.{begins_leaf}
-use Rattle.ag_scan.proofs.Lefts.{following}
 use Rattle.llparse.proofs.steps.Prefixes.{one_more}
 use Rattle.llparse.proofs.answers.Kept.{texts-joined}
 use Rattle.llparse.proofs.steps.Shown.{length-shows}

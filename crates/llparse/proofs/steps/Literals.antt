@@ -1,19 +1,10 @@
 -- The invariants of taking a token of a literal, and of refusing a token.
-use Rattle.std.proofs.Common.{◌≡◌, ℕ, ◌+◌, List, [], ◌∷◌, ◌++◌, drop, append_assoc}
-use Rattle.ag_grammar.specs.declared.grammar.Item.TheVariants as item
-use Rattle.ag_grammar.specs.declared.grammar.Item.{Item}
-use Rattle.ag_grammar.specs.declared.grammar.Terminal.{Terminal}
-use Rattle.ag_grammar.specs.declared.grammar.Terminal.TheVariants.{Literal}
-use Rattle.ag_grammar.specs.grammars.Accepted.{IsAccepted}
-use Rattle.ag_grammar.specs.grammars.AttributeGrammar.{Grammar, literal_text}
-use Rattle.ag_grammar.specs.grammars.Yield.{Lexeme}
-use Rattle.llparse.specs.Ahead.{ahead_of}
-use Rattle.llparse.specs.sentence.Parsing.{Task, Output, Reading}
-use Rattle.llparse.specs.sentence.Sentences.{IsStuckAt}
-use Rattle.llparse.specs.declared.ahead.Ahead.TheVariants as ahead
-use Rattle.llparse.specs.declared.sentence.parser.OpenProduction.{OpenProduction}
+use Rattle.llparse.proofs.Common
+use Common.{◌≡◌, ℕ, ◌+◌, List, [], ◌∷◌, ◌++◌, drop, append_assoc, Item, Terminal, Literal, IsAccepted, Grammar, literal_text}
+use Common.{Lexeme, ahead_of, Task, Output, Reading, IsStuckAt, OpenProduction, following}
+use Common.item
+use Common.ahead
 use Rattle.llparse.proofs.steps.Begins.{begins_reading}
-use Rattle.ag_scan.proofs.Lefts.{following}
 use Rattle.llparse.proofs.steps.Prefixes.{one_more}
 use Rattle.llparse.proofs.steps.Steps as step
 

@@ -1,6 +1,5 @@
 -- Prefixes of lists that grow by one element, and stacks from their top.
-use Rattle.std.proofs.Common.{◌≡◌, ℕ, zero, suc, ◌+◌, List, [], ◌∷◌, ◌++◌, take, drop, reverse, append_assoc}
-use Rattle.std.proofs.Common.{add-one}
+use Rattle.llparse.proofs.Common.{◌≡◌, ℕ, zero, suc, ◌+◌, List, [], ◌∷◌, ◌++◌, take, drop, reverse, append_assoc, add-one}
 use Rattle.std.proofs.lemmas.List.{reverse-append}
 
 -- the prefix of i elements, with the next element, is the prefix of i + 1

@@ -1,13 +1,8 @@
 -- The open nodes of a stack, and the words read so far as a part of all words.
-use Rattle.std.proofs.Common.{◌≡◌, ℕ, suc, List, [], ◌∷◌, ◌++◌, length, take, drop, refl, ap}
+use Rattle.llparse.proofs.Common
+use Common.{◌≡◌, ℕ, suc, List, [], ◌∷◌, ◌++◌, length, take, drop, refl, ap, Grammar, Tree, Lexeme, Open, Shows, IsTreeWith}
+use Common.{OpenProduction}
 use Rattle.std.proofs.lemmas.List.{take-append-drop}
-use Rattle.ag_grammar.specs.grammars.AttributeGrammar.{Grammar}
-use Rattle.ag_grammar.specs.grammars.Tree.{Tree}
-use Rattle.ag_grammar.specs.grammars.Yield.{Lexeme}
-use Rattle.llparse.specs.sentence.Opened.{Open}
-use Rattle.llparse.specs.sentence.Parsing.{Shows}
-use Rattle.llparse.specs.sentence.Sentences.{IsTreeWith}
-use Rattle.llparse.specs.declared.sentence.parser.OpenProduction.{OpenProduction}
 
 pub length-shows : (g : Grammar) (os : List Open) (fs : List OpenProduction) → Shows g os fs → length os ≡ length fs
 length-shows g [] [] h = refl

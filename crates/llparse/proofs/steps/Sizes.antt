@@ -1,10 +1,8 @@
 -- The nodes that are open or done are a part of each tree that completes them.
-use Rattle.std.proofs.Common.{◌≡◌, suc, ◌+◌, ◌≤◌, max, List, [], ◌∷◌, ◌++◌, length, refl, append_assoc, arith}
-use Rattle.ag_grammar.specs.grammars.AttributeGrammar.{Grammar}
-use Rattle.ag_grammar.specs.grammars.Tree.{Tree, leaf, node, Forest, none, more, depth_of, deepest, node_count, node_counts}
-use Rattle.ag_grammar.specs.grammars.Yield.{Lexeme}
-use Rattle.llparse.specs.sentence.Opened.{joined, Open, opened, Continues, Completes}
-use Rattle.llparse.specs.sentence.Parsing.{tree_frames, forest_frames}
+use Rattle.llparse.proofs.Common
+use Common.{◌≡◌, suc, ◌+◌, ◌≤◌, max, List, [], ◌∷◌, ◌++◌, length, refl, append_assoc, arith, Grammar, Tree, leaf, node, Forest}
+use Common.{none, more, depth_of, deepest, node_count, node_counts, Lexeme, joined, Open, opened, Continues, Completes}
+use Common.{tree_frames, forest_frames}
 
 pub node_counts-joined : (a b : Forest) → node_counts (joined a b) ≡ node_counts a + node_counts b
 node_counts-joined none b = omega arith

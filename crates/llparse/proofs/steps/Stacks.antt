@@ -1,18 +1,11 @@
 -- The invariants of each step, over the stack of open nodes from its top.
-use Rattle.std.proofs.Common.{◌≡◌, ℕ, zero, suc, ◌+◌, ◌-◌, ◌*◌, ◌<◌, ◌≤◌, List, [], ◌∷◌, ◌++◌, length, take, drop, slice_get}
-use Rattle.std.proofs.Common.{Some, None, ap, arith}
+use Rattle.llparse.proofs.Common
+use Common.{◌≡◌, ℕ, zero, suc, ◌+◌, ◌-◌, ◌*◌, ◌<◌, ◌≤◌, List, [], ◌∷◌, ◌++◌, length, take, drop, slice_get, Some, None, ap, arith}
+use Common.{Item, Production, Grammar, WhenHonest, Task, Output, Reading, Between, AtItem, right_side, node_frame, total_length}
+use Common.{steps_left, advanced, OpenProduction, rest_at, rest_none}
 use Rattle.std.proofs.Math.Nat.{mul-suc, mul-le-mul_left}
-use Rattle.ag_grammar.specs.declared.grammar.Item.{Item}
-use Rattle.ag_grammar.specs.declared.grammar.Production.{Production}
-use Rattle.ag_grammar.specs.grammars.AttributeGrammar.{Grammar}
 use Rattle.ag_grammar.specs.grammars.Yield as yields
-use Rattle.treefile.specs.devices.Device.{WhenHonest}
-use Rattle.llparse.specs.sentence.Parsing.{Task, Output, Reading, Between, AtItem, right_side}
-use Rattle.llparse.specs.sentence.Parsing.{node_frame, total_length, steps_left}
-use Rattle.llparse.specs.sentence.Turns.{advanced}
-use Rattle.llparse.specs.declared.sentence.parser.OpenProduction.{OpenProduction}
 use Rattle.llparse.proofs.steps.Closing as closing
-use Rattle.ag_scan.proofs.Lefts.{rest_at, rest_none}
 
 module _ (k : Task) where
   -- an open node that has a next item moves past it

@@ -1,19 +1,10 @@
 -- The expected symbol at the beginning, and the invariants of opening a node.
-use Rattle.std.proofs.Common.{◌≡◌, ℕ, ◌+◌, ◌<◌, ◌≤◌, List, [], ◌∷◌, length, drop, Some, None, refl}
-use Rattle.std.proofs.Common.{append-nil, arith}
-use Rattle.ag_grammar.specs.declared.grammar.Item.TheVariants as item
-use Rattle.ag_grammar.specs.declared.grammar.Item.{Item}
-use Rattle.ag_grammar.specs.declared.grammar.Production.{Production}
-use Rattle.ag_grammar.specs.grammars.Accepted.{IsAccepted}
-use Rattle.ag_grammar.specs.grammars.AttributeGrammar.{Grammar}
-use Rattle.ag_grammar.specs.grammars.Tree.{Tree, none, depth_of, node_count}
-use Rattle.ag_grammar.specs.grammars.Yield.{Lexeme}
-use Rattle.llparse.specs.Ahead.{ahead_of}
-use Rattle.llparse.specs.sentence.Opened.{Continues, Open, open_at, opened}
-use Rattle.llparse.specs.sentence.Parsing.{Task, Output, kept, written, Reading, AtSymbol, IsTooDeep, IsTooLarge, right_side}
-use Rattle.llparse.specs.sentence.Sentences.{IsStuckAt, LeavesOnly}
-use Rattle.llparse.specs.table.Tables.{Choices, FitsGrammar, choice_of}
-use Rattle.llparse.specs.declared.sentence.parser.OpenProduction.{OpenProduction}
+use Rattle.llparse.proofs.Common
+use Common.{◌≡◌, ℕ, ◌+◌, ◌<◌, ◌≤◌, List, [], ◌∷◌, length, drop, Some, None, refl, append-nil, arith, Item, Production, IsAccepted}
+use Common.{Grammar, Tree, none, depth_of, node_count, Lexeme, ahead_of, Continues, Open, open_at, opened, Task, Output, kept}
+use Common.{written, Reading, AtSymbol, IsTooDeep, IsTooLarge, right_side, IsStuckAt, LeavesOnly, Choices, FitsGrammar, choice_of}
+use Common.{OpenProduction}
+use Common.item
 use Rattle.llparse.proofs.steps.Begins.{begins_symbol}
 use Rattle.llparse.proofs.steps.Shown.{length-shows}
 use Rattle.llparse.proofs.steps.Sizes as size

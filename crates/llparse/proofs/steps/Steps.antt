@@ -1,19 +1,11 @@
 -- The effect of each step of the parser on the trees that complete the open nodes.
-use Rattle.std.proofs.Common.{ap, ◌≡◌, ◌↔◌, ℕ, List, [], ◌∷◌, ◌++◌, Some, None, refl, append_assoc}
-use Rattle.std.proofs.Common.{append-nil, arith}
-use Rattle.ag_grammar.specs.declared.grammar.Item.TheVariants as item
-use Rattle.ag_grammar.specs.declared.grammar.Item.{Item}
-use Rattle.ag_grammar.specs.declared.grammar.Production.{Production}
-use Rattle.ag_grammar.specs.declared.grammar.Terminal.{Terminal}
-use Rattle.ag_grammar.specs.declared.grammar.Terminal.TheVariants.{Literal, Class}
-use Rattle.ag_grammar.specs.grammars.AttributeGrammar.{Grammar, IsProduction, literal_text}
-use Rattle.ag_grammar.specs.grammars.Tree.{IsTokenText, Tree, leaf, node, Forest, none, more}
-use Rattle.ag_grammar.specs.grammars.Yield.{Lexeme, yield_along, yield_of}
-use Rattle.llparse.specs.Ahead.{HasNoConflict, InFollow, at_end, Predicts, ahead_of}
-use Rattle.llparse.specs.sentence.Opened.{joined, Open, open_at, Continues, Completes, IsStack, ContinuesWith}
-use Rattle.llparse.specs.sentence.Sentences.{IsTreeWith}
-use Rattle.llparse.specs.table.Tables.{Choices, FitsGrammar, choice_of}
-use Rattle.llparse.specs.declared.ahead.Ahead.TheVariants as ahead
+use Rattle.llparse.proofs.Common
+use Common.{ap, ◌≡◌, ◌↔◌, ℕ, List, [], ◌∷◌, ◌++◌, Some, None, refl, append_assoc, append-nil, arith, Item, Production, Terminal}
+use Common.{Literal, Class, Grammar, IsProduction, literal_text, IsTokenText, Tree, leaf, node, Forest, none, more, Lexeme}
+use Common.{yield_along, yield_of, HasNoConflict, InFollow, at_end, Predicts, ahead_of, joined, Open, open_at, Continues}
+use Common.{Completes, IsStack, ContinuesWith, IsTreeWith, Choices, FitsGrammar, choice_of}
+use Common.item
+use Common.ahead
 use Rattle.llparse.proofs.Unique as unique
 
 pub joined_assoc : (a b c : Forest) → joined (joined a b) c ≡ joined a (joined b c)

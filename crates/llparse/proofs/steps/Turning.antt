@@ -1,24 +1,9 @@
 -- The invariants of one step of a parser: the innermost open node is closed, or moves past its next item.
-use Rattle.std.proofs.Common.{◌≡◌, ℕ, ◌<◌, ◌≤◌, Bool, List, [], ◌∷◌, ◌++◌, drop, take, length, reverse, All, Some, None, refl}
-use Rattle.std.proofs.Common.{arith}
-use Rattle.std.proofs.lemmas.List.{length-map}
-use Rattle.std.proofs.lemmas.Option.{slice_get_within}
-use Rattle.ag_value.specs.declared.value.Value.{Value}
-use Rattle.ag_value.specs.Well.{IsWell}
-use Rattle.ag_grammar.specs.declared.grammar.Item.{Item}
-use Rattle.ag_grammar.specs.grammars.Accepted.{IsAccepted, max_children}
-use Rattle.ag_grammar.specs.grammars.AttributeGrammar.{Grammar}
-use Rattle.ag_grammar.specs.grammars.Tree.{max_nodes}
-use Rattle.ag_grammar.specs.grammars.Yield.{Lexeme}
-use Rattle.ag_scan.specs.Tokens.{Token}
-use Rattle.treefile.specs.devices.Device.{Persists, WhenHonest}
-use Rattle.llparse.specs.Ahead.{ahead_of}
-use Rattle.llparse.specs.sentence.Parsing.{Task, task_of, Output, AtSymbol, Between, Finished, IsParsed, node_frame, right_side}
-use Rattle.llparse.specs.sentence.Sentences.{IsStuckAt, words_of}
-use Rattle.llparse.specs.table.Tables.{Choices, FitsGrammar, choice_of}
-use Rattle.llparse.specs.sentence.Turns.{advanced, left_of, Advances, IsAtItem, IsBetween}
-use Rattle.llparse.specs.declared.sentence.parser.OpenProduction.{OpenProduction}
-use Rattle.llparse.specs.declared.sentence.parser.Parser.{Parser}
+use Rattle.llparse.proofs.Common
+use Common.{◌≡◌, ℕ, ◌<◌, ◌≤◌, Bool, List, [], ◌∷◌, ◌++◌, drop, take, length, reverse, All, Some, None, refl, arith, length-map}
+use Common.{slice_get_within, Value, IsWell, Item, IsAccepted, max_children, Grammar, max_nodes, Lexeme, Token, Persists}
+use Common.{WhenHonest, ahead_of, Task, task_of, Output, AtSymbol, Between, Finished, IsParsed, node_frame, right_side, IsStuckAt}
+use Common.{words_of, Choices, FitsGrammar, choice_of, advanced, left_of, Advances, IsAtItem, IsBetween, OpenProduction, Parser}
 use Rattle.llparse.proofs.steps.Closing.{no_end, on_end}
 use Rattle.llparse.proofs.answers.Kept.{own_texts}
 use Rattle.llparse.proofs.steps.Stacks.{closed, ends, faces, fewer_counted, fewer_passed}

@@ -1,16 +1,11 @@
 -- Keys of which none is among the earlier ones are distinct, and the converse.
-use Rattle.std.proofs.Common.{zero, suc, ℕ, ◌≡◌, ◌<◌, ◌≢◌, Bool, true, false, cond, not, List, [], ◌∷◌, ◌++◌, length, get_or, map}
-use Rattle.std.proofs.Common.{None, Some, slice_get, AllPairs, refl, sym, ◌∙◌, inl, inr, arith, append-nil, append_assoc}
-use Rattle.std.proofs.Common.{length-append}
-use Rattle.std.proofs.lemmas.Bool.{false≢true, cases_eq, cases_lt}
-use Rattle.std.proofs.lemmas.List.{get_or_append_left, get_or_at, length-map, get_or-map}
-use Rattle.std.proofs.lemmas.List.Folds.{list_any_at, list_any_none}
+use Rattle.normalform.proofs.Common
+use Common.{zero, suc, ℕ, ◌≡◌, ◌<◌, ◌≢◌, Bool, true, false, cond, not, List, [], ◌∷◌, ◌++◌, length, get_or, map, None, Some}
+use Common.{slice_get, AllPairs, refl, sym, ◌∙◌, inl, inr, arith, append-nil, append_assoc, length-append, false≢true, cases_eq}
+use Common.{cases_lt, length-map, get_or-map, list_any_at, list_any_none, get_or_from_slice_get, slice_get_within}
+use Common.{slice_get-get_or, list_any, DifferIn, NormalFault, Check, first_wrong, checks_along}
+use Rattle.std.proofs.lemmas.List.{get_or_append_left, get_or_at}
 use Rattle.std.proofs.lemmas.List.Quantifiers.{all_pairs_push}
-use Rattle.std.proofs.lemmas.Option.{get_or_from_slice_get, slice_get_within, slice_get-get_or}
-use Rattle.std.specs.List.{list_any}
-use Rattle.ag_grammar.specs.Lists.{DifferIn}
-use Rattle.normalform.specs.declared.fault.NormalFault.{NormalFault}
-use Rattle.normalform.specs.faults.Faults.{Check, first_wrong, checks_along}
 use Rattle.normalform.proofs.found.Right.{both_right, together, is_right, right_is}
 
 -- no key occurs twice

@@ -1,12 +1,7 @@
 -- A raw grammar has at most one first fault.
-use Rattle.std.proofs.Common.{ℕ, ◌≡◌, inl, inr, List, ap, arith}
-use Rattle.std.proofs.lemmas.Bool.{cases_lt, cases_eq}
-use Rattle.std.proofs.lemmas.Option.{slice_get_within}
-use Rattle.ag_grammar.specs.declared.raw.Named.{Named}
-use Rattle.ag_grammar.specs.declared.raw.RawGrammar.{RawGrammar}
-use Rattle.ag_grammar.specs.declared.raw.RawSymbol.{RawSymbol}
-use Rattle.normalform.specs.declared.fault.NormalFault.{NormalFault}
-use Rattle.normalform.specs.faults.Faults.{IsFirstFault, IsFirstNot, in_names, in_productive, in_reached, in_rules}
+use Rattle.normalform.proofs.Common
+use Common.{ℕ, ◌≡◌, inl, inr, List, ap, arith, cases_lt, cases_eq, slice_get_within, Named, RawGrammar, RawSymbol, NormalFault}
+use Common.{IsFirstFault, IsFirstNot, in_names, in_productive, in_reached, in_rules}
 
 same_number : (P : ℕ → Type 0) (ss : List RawSymbol) (a b : Named) (x : IsFirstNot P ss a) (y : IsFirstNot P ss b)
     → x.number ≡ y.number

@@ -1,18 +1,10 @@
 -- The fault that the search finds is the first one.
-use Rattle.std.proofs.Common.{ℕ, ◌≡◌, ◌<◌, ◌++◌, [], ◌∷◌, map, length, Some, None, Option, Result, Ok, Err, IfOk, IfSome, All}
-use Rattle.std.proofs.lemmas.List.{length-map}
-use Rattle.std.proofs.lemmas.List.Elements.{All-cons, All-nil}
+use Rattle.normalform.proofs.Common
+use Common.{ℕ, ◌≡◌, ◌<◌, ◌++◌, [], ◌∷◌, map, length, Some, None, Option, Result, Ok, Err, IfOk, IfSome, All, length-map, All-cons}
+use Common.{All-nil, RawGrammar, first_wrong, unknown_checks, doubled_checks, start_checks, naming_checks, AreAll, in_productive}
+use Common.{in_reached, IsFoundAt, symbol_of, numbered, IsClauseBelow, clause_of_edge, IsEdgeBelow, Follows, IsFirstUnderivable}
+use Common.fault
 use Rattle.ag_grammar.specs.grammars.Accepted.{IsProductive, IsReached}
-use Rattle.ag_grammar.specs.declared.raw.RawGrammar.{RawGrammar}
-use Rattle.normalform.specs.declared.fault.NormalFault.TheVariants as fault
-use Rattle.normalform.specs.faults.Faults.{first_wrong, unknown_checks, doubled_checks, start_checks, naming_checks, AreAll}
-use Rattle.normalform.specs.faults.Faults.{in_productive, in_reached}
-use Rattle.normalform.specs.faults.Found.{IsFoundAt}
-use Rattle.normalform.specs.numbers.Numbers.{symbol_of, numbered}
-use Rattle.closure.specs.Clauses.{IsClauseBelow}
-use Rattle.closure.specs.Edges.{clause_of_edge, IsEdgeBelow}
-use Rattle.closure.specs.Following.{Follows}
-use Rattle.normalform.specs.faults.Underivable.{IsFirstUnderivable}
 use Rattle.normalform.proofs.found.Reduced.{symbols, clauses, edges, follows_productive, productive_follows, follows_reached}
 use Rattle.normalform.proofs.found.Reduced.{reached_follows, clauses_below, edges_below, start, start_below, FollowsStart}
 use Rattle.normalform.proofs.found.Right.{both_right}

@@ -1,34 +1,18 @@
 -- Names are known and distinct exactly if the numbered grammar's are. The names of an item or a rule are *known* if the checks of
 -- N1 hold. Its numbered form is *named* if its numbers are in range (`IsNamedItem`, `IsNamedRule` of `ag_grammar`).
-use Rattle.std.proofs.Common.{ℕ, ◌≡◌, ◌<◌, true, List, [], ◌∷◌, ◌++◌, length, map, flat_map, None, bytes_eq}
-use Rattle.std.proofs.Common.{refl, sym, subst}
-use Rattle.std.proofs.lemmas.List.{length-map, map-append, map-id}
-use Rattle.std.specs.List.{list_any}
-use Rattle.ag_grammar.specs.Lists.{Each, DifferIn, Differ, AreRelated}
-use Rattle.ag_grammar.specs.declared.grammar.Symbol.{Symbol}
-use Rattle.ag_grammar.specs.declared.grammar.Target.{Target}
-use Rattle.ag_grammar.specs.declared.syntax.occurrence.Occ.{Occ}
+use Rattle.normalform.proofs.Common
+use Common.{ℕ, ◌≡◌, ◌<◌, true, List, [], ◌∷◌, ◌++◌, length, map, flat_map, None, bytes_eq, refl, sym, subst, length-map}
+use Common.{map-append, map-id, list_any, Each, DifferIn, Differ, AreRelated, Symbol, Target, Occ, attribute_names, RefersTo}
+use Common.{is_below, Named, RawGrammar, RawItem, RawProduction, RawRule, RawSymbol, NormalFault, Check, first_wrong, name_check}
+use Common.{item_checks, occurrence_check, rule_checks, unknown_in, unknown_checks, doubled_names, doubled_checks, number_in}
+use Common.{symbol_of, declared_names, item_of, names_at, target_of, rule_of, literals_of, numbered, placed, at_mapped, mapped_at}
+use Common.raw_item
+use Common.fault
 use Rattle.ag_grammar.specs.grammars.Accepted.{IsNamed, IsNamedItem, IsNamedRule}
-use Rattle.ag_grammar.specs.grammars.AttributeGrammar.{attribute_names, RefersTo}
-use Rattle.ag_grammar.specs.expressions.Trees.{is_below}
-use Rattle.ag_grammar.specs.declared.raw.Named.{Named}
-use Rattle.ag_grammar.specs.declared.raw.RawGrammar.{RawGrammar}
-use Rattle.ag_grammar.specs.declared.raw.RawItem.{RawItem}
-use Rattle.ag_grammar.specs.declared.raw.RawItem.TheVariants as raw_item
-use Rattle.ag_grammar.specs.declared.raw.RawProduction.{RawProduction}
-use Rattle.ag_grammar.specs.declared.raw.RawRule.{RawRule}
-use Rattle.ag_grammar.specs.declared.raw.RawSymbol.{RawSymbol}
-use Rattle.normalform.specs.declared.fault.NormalFault.{NormalFault}
-use Rattle.normalform.specs.declared.fault.NormalFault.TheVariants as fault
-use Rattle.normalform.specs.faults.Faults.{Check, first_wrong, name_check, item_checks, occurrence_check, rule_checks, unknown_in}
-use Rattle.normalform.specs.faults.Faults.{unknown_checks, doubled_names, doubled_checks}
-use Rattle.normalform.specs.numbers.Numbers.{number_in, symbol_of, declared_names, item_of, names_at, target_of, rule_of}
-use Rattle.normalform.specs.numbers.Numbers.{literals_of, numbered, placed}
 use Rattle.normalform.proofs.found.Apart.{Apart, none_apart, apart_along, more_along, along_apart, apart_differ, differ_apart}
 use Rattle.normalform.proofs.numbered.Listed.{decides_texts, has_any}
 use Rattle.normalform.proofs.numbered.Placing.{some_kind, stands_for, named_there, names_of}
 use Rattle.normalform.proofs.found.Reduced.{symbols, produces, places, name_known, below_known, unknown_parts}
-use Rattle.closure.proofs.Positions.{at_mapped, mapped_at}
 use Rattle.normalform.proofs.found.Right.{both_right, together, is_right, right_is, flat_each, each_flat, map_each, each_map}
 use Rattle.normalform.proofs.found.Ruled.{differ_mapped, mapped_differ, each_mapped, mapped_each}
 

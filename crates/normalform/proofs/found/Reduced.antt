@@ -1,42 +1,26 @@
 -- The numbers that follow from the clauses of a raw grammar are productive, and those that follow from the
 -- edges are reached.
-use Rattle.std.proofs.Common.{arith, Bool, true, false, cond, is_some, nat_lt, bytes_eq, Option, ℕ, zero, suc, ◌≡◌, ◌<◌, ◌⊎◌, inl}
-use Rattle.std.proofs.Common.{inr, List, [], ◌∷◌, ◌++◌, length, map, flat_map, All, Some, None, slice_get, refl, ap, sym}
-use Rattle.std.proofs.Common.{subst}
-use Rattle.std.proofs.lemmas.Bool.{ltb-true, lt-ltb}
-use Rattle.std.proofs.lemmas.List.{length-map}
-use Rattle.std.proofs.lemmas.Option.{slice_get_within}
-use Rattle.std.specs.List.{list_any}
-use Rattle.std.proofs.lemmas.List.Elements.{All-append, All-nil, All-cons, All-head, All-tail, All-map, All-contains}
+use Rattle.normalform.proofs.Common
+use Common.{arith, Bool, true, false, cond, is_some, nat_lt, bytes_eq, Option, ℕ, zero, suc, ◌≡◌, ◌<◌, ◌⊎◌, inl, inr, List, []}
+use Common.{◌∷◌, ◌++◌, length, map, flat_map, All, Some, None, slice_get, refl, ap, sym, subst, ltb-true, lt-ltb, length-map}
+use Common.{slice_get_within, list_any, All-nil, All-cons, Has, Item, Production, Symbol, Grammar, RawGrammar, RawItem}
+use Common.{RawProduction, IsClauseBelow, clause_of_edge, IsEdgeBelow, Follows, seed, at_mapped, mapped_at, body_of, clause_of}
+use Common.{clauses_of, edge, edges_of, reach_edges, number_in, symbol_of, declared_names, item_of, literals_of, placed}
+use Common.{production_of, numbered, Named, first_wrong, name_check, item_checks, rule_checks, unknown_in, unknown_checks}
+use Common.{is_start, start_checks}
+use Common.item
+use Common.raw_item
+use Common.fault
+use Rattle.std.proofs.lemmas.List.Elements.{All-append, All-head, All-tail, All-map, All-contains}
 use Rattle.std.proofs.lemmas.List.Elements.{Contains-get_or}
-use Rattle.ag_grammar.specs.Lists.{Has}
-use Rattle.ag_grammar.specs.declared.grammar.Item.{Item}
-use Rattle.ag_grammar.specs.declared.grammar.Item.TheVariants as item
-use Rattle.ag_grammar.specs.declared.grammar.Production.{Production}
-use Rattle.ag_grammar.specs.declared.grammar.Symbol.{Symbol}
 use Rattle.ag_grammar.specs.grammars.Accepted.{IsProductive, AreProductive, by_production, nothing as no_item, a_symbol}
 use Rattle.ag_grammar.specs.grammars.Accepted.{a_terminal, IsReached, at_start, within}
-use Rattle.ag_grammar.specs.grammars.AttributeGrammar.{Grammar}
-use Rattle.ag_grammar.specs.declared.raw.RawGrammar.{RawGrammar}
-use Rattle.ag_grammar.specs.declared.raw.RawItem.{RawItem}
-use Rattle.ag_grammar.specs.declared.raw.RawItem.TheVariants as raw_item
-use Rattle.ag_grammar.specs.declared.raw.RawProduction.{RawProduction}
 use Rattle.closure.specs.declared.clause.Clause.{Clause}
-use Rattle.closure.specs.Clauses.{IsClauseBelow}
-use Rattle.closure.specs.Edges.{clause_of_edge, IsEdgeBelow}
-use Rattle.closure.specs.Following.{Follows, seed}
 use Rattle.closure.specs.declared.edges.Edge.{Edge}
-use Rattle.closure.proofs.Positions.{at_mapped, element_at, mapped_at, position_of_element}
+use Rattle.closure.proofs.Positions.{element_at, position_of_element}
 use Rattle.closure.proofs.Reached.{reached_in, step}
 use Rattle.closure.proofs.Following.{follows_in, head_follows}
-use Rattle.normalform.specs.faults.Clauses.{body_of, clause_of, clauses_of, edge, edges_of, reach_edges}
-use Rattle.normalform.specs.numbers.Numbers.{number_in, symbol_of, declared_names, item_of, literals_of, placed, production_of}
-use Rattle.normalform.specs.numbers.Numbers.{numbered}
 use Rattle.normalform.proofs.numbered.Texts.{found}
-use Rattle.ag_grammar.specs.declared.raw.Named.{Named}
-use Rattle.normalform.specs.declared.fault.NormalFault.TheVariants as fault
-use Rattle.normalform.specs.faults.Faults.{first_wrong, name_check, item_checks, rule_checks, unknown_in, unknown_checks}
-use Rattle.normalform.specs.faults.Faults.{is_start, start_checks}
 use Rattle.normalform.proofs.found.Right.{is_right, both_right, has_flat}
 
 abbrev symbols_of : List Item → List ℕ

@@ -1,10 +1,7 @@
 -- Lists of checks that all hold, and elements of mapped and concatenated lists.
-use Rattle.std.proofs.Common.{ℕ, zero, suc, ◌≡◌, ◌+◌, true, List, [], ◌∷◌, ◌++◌, map, flat_map, Some, None, Option}
-use Rattle.std.proofs.Common.{slice_get, refl, sym, ◌∙◌, arith}
-use Rattle.std.specs.Option.{option_or}
-use Rattle.ag_grammar.specs.Lists.{Has}
-use Rattle.normalform.specs.declared.fault.NormalFault.{NormalFault}
-use Rattle.normalform.specs.faults.Faults.{Check, first_wrong, checks_along, next_index}
+use Rattle.normalform.proofs.Common
+use Common.{ℕ, zero, suc, ◌≡◌, ◌+◌, true, List, [], ◌∷◌, ◌++◌, map, flat_map, Some, None, Option, slice_get, refl, sym, ◌∙◌}
+use Common.{arith, option_or, Has, NormalFault, Check, first_wrong, checks_along, next_index}
 use Rattle.normalform.proofs.found.Wrong.{wrong-append}
 
 pub both_right : (xs ys : List Check) → first_wrong (xs ++ ys) ≡ None → (first_wrong xs ≡ None) × (first_wrong ys ≡ None)

@@ -1,35 +1,21 @@
 -- The rules of a production: none is missing or duplicate, each target is one that they define, and each
 -- argument one that they use.
-use Rattle.std.proofs.Common.{ℕ, zero, suc, ◌≡◌, ◌+◌, ◌-◌, ◌<◌, ◌≤◌, ◌⊎◌, inl, inr, true}
-use Rattle.std.proofs.Common.{nat_lt, nat_le, List, [], ◌∷◌, length, map, fold, Some, None, Option, slice_get, refl, ap}
-use Rattle.std.proofs.Common.{sym, ◌∙◌, arith, subst}
-use Rattle.std.proofs.lemmas.Bool.{and_parts, ltb-true, lt-ltb, leb-true, le-leb, eqb-true, eq-eqb, cases_eq}
-use Rattle.std.proofs.lemmas.List.Folds.{list_any-append}
-use Rattle.std.specs.List.{list_any, range_with_len}
-use Rattle.ag_grammar.specs.Lists.{Has, Each, DifferIn}
-use Rattle.ag_grammar.specs.declared.grammar.Item.{Item}
-use Rattle.ag_grammar.specs.declared.grammar.Item.TheVariants as item
+use Rattle.normalform.proofs.Common
+use Common.{ℕ, zero, suc, ◌≡◌, ◌+◌, ◌-◌, ◌<◌, ◌≤◌, ◌⊎◌, inl, inr, true, nat_lt, nat_le, List, [], ◌∷◌, length, map, fold, Some}
+use Common.{None, Option, slice_get, refl, ap, sym, ◌∙◌, arith, subst, and_parts, ltb-true, lt-ltb, leb-true, le-leb, eqb-true}
+use Common.{eq-eqb, cases_eq, list_any-append, list_any, range_with_len, Has, Each, DifferIn, Item, Symbol, Target, Literal}
+use Common.{Class, Synthesized, Inherited, item_kinds, symbol_kinds, defined_kind, used_kind, HasKind, IsRule, RawGrammar}
+use Common.{RawProduction, RawRule, NormalFault, Check, first_wrong, defined_at, numbers_defined, same_target, with_target}
+use Common.{with_rule, targets_of, missing_check, missing_at, missing_in, doubled_in, is_kind, has_kind, defined_check}
+use Common.{not_defined_in, used_check, not_normal_in, declared, placed, target_of, rule_of, numbered, at_mapped, mapped_at}
+use Common.item
+use Common.fault
 use Rattle.ag_grammar.specs.declared.grammar.Rule.{Rule}
-use Rattle.ag_grammar.specs.declared.grammar.Symbol.{Symbol}
-use Rattle.ag_grammar.specs.declared.grammar.Target.{Target}
-use Rattle.ag_grammar.specs.declared.grammar.Terminal.TheVariants.{Literal, Class}
 use Rattle.ag_grammar.specs.grammars.Accepted.{IsNormal}
-use Rattle.ag_grammar.specs.grammars.AttributeGrammar.{Synthesized, Inherited, item_kinds, symbol_kinds, defined_kind, used_kind}
-use Rattle.ag_grammar.specs.grammars.AttributeGrammar.{HasKind, IsRule}
-use Rattle.ag_grammar.specs.declared.raw.RawGrammar.{RawGrammar}
-use Rattle.ag_grammar.specs.declared.raw.RawProduction.{RawProduction}
-use Rattle.ag_grammar.specs.declared.raw.RawRule.{RawRule}
-use Rattle.normalform.specs.declared.fault.NormalFault.{NormalFault}
-use Rattle.normalform.specs.declared.fault.NormalFault.TheVariants as fault
-use Rattle.normalform.specs.faults.Faults.{Check, first_wrong, defined_at, numbers_defined, same_target, with_target, with_rule}
-use Rattle.normalform.specs.faults.Faults.{targets_of, missing_check, missing_at, missing_in, doubled_in, is_kind, has_kind}
-use Rattle.normalform.specs.faults.Faults.{defined_check, not_defined_in, used_check, not_normal_in}
-use Rattle.normalform.specs.numbers.Numbers.{declared, placed, target_of, rule_of, numbered}
 use Rattle.normalform.proofs.found.Apart.{DecidesBy, none_apart, apart_along, along_apart, apart_differ, differ_apart}
 use Rattle.normalform.proofs.numbered.KindAt.{synthesized_at, inherited_at}
 use Rattle.normalform.proofs.numbered.Placing.{kinds_at, kind_has, has_its_kind, is_its_kind}
 use Rattle.normalform.proofs.found.Reduced.{symbols, produces, places}
-use Rattle.closure.proofs.Positions.{at_mapped, mapped_at}
 use Rattle.normalform.proofs.found.Right.{flat_each, each_flat, map_each, each_map, along_each, each_along}
 
 same_parts : (a b : Target) → a.place ≡ b.place → a.attr ≡ b.attr → record { place = a.place; attr = a.attr } ≡ b

@@ -1,15 +1,9 @@
 -- The test of a raw grammar decides whether it is readable.
-use Rattle.std.proofs.Common.{ℕ, ◌≡◌, ◌↔◌, Bool, true, false, not, nat_le, List, length, refl, arith}
-use Rattle.std.proofs.lemmas.Bool.{and_parts, leb-true, le-leb, ltb-true, lt-ltb}
-use Rattle.std.proofs.lemmas.Bool.Decides.{nat_tests}
-use Rattle.std.specs.List.{list_all}
-use Rattle.ag_grammar.specs.Lists.{Each}
+use Rattle.normalform.proofs.Common
+use Common.{ℕ, ◌≡◌, ◌↔◌, Bool, true, false, not, nat_le, List, length, refl, arith, and_parts, leb-true, le-leb, ltb-true, lt-ltb}
+use Common.{nat_tests, list_all, Each, RawItem, RawProduction, IsReadableItem, is_separator, readable_item, readable_in}
+use Common.raw_item
 use Rattle.ag_grammar.specs.grammars.Accepted.{IsSeparator}
-use Rattle.ag_grammar.specs.declared.raw.RawItem.{RawItem}
-use Rattle.ag_grammar.specs.declared.raw.RawItem.TheVariants as raw_item
-use Rattle.ag_grammar.specs.declared.raw.RawProduction.{RawProduction}
-use Rattle.normalform.specs.faults.Faults.{IsReadableItem}
-use Rattle.normalform.specs.faults.Readable.{is_separator, readable_item, readable_in}
 use Rattle.normalform.proofs.numbered.Accepting.{all_hold}
 use Rattle.normalform.proofs.numbered.Small.{passes_at}
 

@@ -1,18 +1,11 @@
 -- The first failing check of a concatenated list.
-use Rattle.std.proofs.Common.{◌-◌, suc, map, arith, true, [], ℕ, ◌≡◌, ◌+◌, ◌<◌, List, [], ◌∷◌, ◌++◌, length, get_or}
-use Rattle.std.proofs.Common.{drop, flat_map, Some, None, Option, refl, sym, fold, append_assoc, ◌∙◌}
-use Rattle.std.proofs.lemmas.List.{drop_more, get_or-map, length-map}
-use Rattle.std.specs.List.{range_with_len}
-use Rattle.std.specs.Option.{option_or}
-use Rattle.normalform.specs.declared.fault.NormalFault.{NormalFault}
-use Rattle.ag_grammar.specs.declared.raw.Named.{Named}
-use Rattle.ag_grammar.specs.declared.grammar.Symbol.{Symbol}
-use Rattle.ag_grammar.specs.declared.raw.RawProduction.{RawProduction}
+use Rattle.normalform.proofs.Common
+use Common.{◌-◌, suc, map, arith, true, [], ℕ, ◌≡◌, ◌+◌, ◌<◌, List, [], ◌∷◌, ◌++◌, length, get_or, drop, flat_map, Some, None}
+use Common.{Option, refl, sym, fold, append_assoc, ◌∙◌, get_or-map, length-map, range_with_len, option_or, NormalFault, Named}
+use Common.{Symbol, RawProduction, checks_of, Check, first_wrong, checks_along, doubled_names, new_check, with_name}
+use Common.{defined_check, not_defined_here, placed}
+use Rattle.std.proofs.lemmas.List.{drop_more}
 use Rattle.normalform.specs.declared.faults.reference_checks.RuleCheck.TheVariants as rule_check
-use Rattle.normalform.specs.faults.ReferenceChecks.{checks_of}
-use Rattle.normalform.specs.faults.Faults.{Check, first_wrong, checks_along, doubled_names, new_check, with_name, defined_check}
-use Rattle.normalform.specs.faults.Faults.{not_defined_here}
-use Rattle.normalform.specs.numbers.Numbers.{placed}
 
 pub wrong-append : (xs ys : List Check) → first_wrong (xs ++ ys) ≡ option_or (first_wrong xs) (first_wrong ys)
 wrong-append [] ys = refl

@@ -1,36 +1,20 @@
 -- A raw grammar has no fault exactly if the numbered one is accepted.
-use Rattle.std.proofs.Common.{All, inr, ℕ, zero, suc, ◌≡◌, ◌+◌, ◌<◌, ◌≤◌, ◌≢◌, Bool, true, List, []}
-use Rattle.std.proofs.Common.{◌∷◌, ◌++◌, length, map, Some, None, Option, slice_get, get_or, refl, ap, arith}
-use Rattle.std.proofs.Common.{subst}
-use Rattle.std.proofs.lemmas.Bool.{and_parts, eqb-true, leb-true, le-leb}
-use Rattle.std.proofs.lemmas.List.{length-map}
+use Rattle.normalform.proofs.Common
+use Common.{All, inr, ℕ, zero, suc, ◌≡◌, ◌+◌, ◌<◌, ◌≤◌, ◌≢◌, Bool, true, List, [], ◌∷◌, ◌++◌, length, map, Some, None, Option}
+use Common.{slice_get, get_or, refl, ap, arith, subst, and_parts, eqb-true, leb-true, le-leb, length-map, slice_get-get_or}
+use Common.{slice_get_within, get_or_from_slice_get, list_any, list_all, Has, Each, Differ, Item, Production, Symbol, Literal}
+use Common.{Class, stored_items, is_below, RawGrammar, RawItem, RawProduction, NormalFault, first_wrong, unknown_in, item_checks}
+use Common.{unknown_checks, is_start, start_checks, missing_in, missing_checks, doubled_in, doubled_rules, not_defined_in}
+use Common.{not_defined_here, not_normal_in, not_normal, few_attributes, few_items, few_children, is_short, limit_checks}
+use Common.{rule_kinds, naming_checks, HasNoFault, IsReadable, IsReadableItem, IsSmall, IsListed, AreListedIn, IsFirstFault}
+use Common.{in_names, in_productive, in_reached, in_rules, IsTrueOf, number_in, symbol_of, declared_names, item_of, placed}
+use Common.{is_class, classes_of, literals_of, numbered, at_mapped}
+use Common.raw_item
+use Common.fault
 use Rattle.std.proofs.lemmas.List.Kept.{AllPairs-filter}
-use Rattle.std.proofs.lemmas.Option.{slice_get-get_or, slice_get_within, get_or_from_slice_get}
-use Rattle.std.specs.List.{list_any, list_all}
-use Rattle.ag_grammar.specs.Lists.{Has, Each, Differ}
-use Rattle.ag_grammar.specs.declared.grammar.Item.{Item}
-use Rattle.ag_grammar.specs.declared.grammar.Production.{Production}
-use Rattle.ag_grammar.specs.declared.grammar.Symbol.{Symbol}
-use Rattle.ag_grammar.specs.declared.grammar.Terminal.TheVariants.{Literal, Class}
 use Rattle.ag_grammar.specs.grammars.Accepted.{IsAccepted, IsNamed, IsNamedItem, IsInUse, IsStart, IsComplete, IsNormal}
 use Rattle.ag_grammar.specs.grammars.Accepted.{IsWithinGrammarLimits, IsSeparator, out_name, max_symbols}
 use Rattle.ag_grammar.specs.grammars.Accepted.{max_productions, max_items, max_children, max_literals}
-use Rattle.ag_grammar.specs.grammars.AttributeGrammar.{stored_items}
-use Rattle.ag_grammar.specs.expressions.Trees.{is_below}
-use Rattle.ag_grammar.specs.declared.raw.RawGrammar.{RawGrammar}
-use Rattle.ag_grammar.specs.declared.raw.RawItem.{RawItem}
-use Rattle.ag_grammar.specs.declared.raw.RawItem.TheVariants as raw_item
-use Rattle.ag_grammar.specs.declared.raw.RawProduction.{RawProduction}
-use Rattle.normalform.specs.declared.fault.NormalFault.{NormalFault}
-use Rattle.normalform.specs.declared.fault.NormalFault.TheVariants as fault
-use Rattle.normalform.specs.faults.Faults.{first_wrong, unknown_in, item_checks, unknown_checks, is_start}
-use Rattle.normalform.specs.faults.Faults.{start_checks, missing_in, missing_checks, doubled_in, doubled_rules, not_defined_in}
-use Rattle.normalform.specs.faults.Faults.{not_defined_here, not_normal_in, not_normal, few_attributes, few_items, few_children}
-use Rattle.normalform.specs.faults.Faults.{is_short, limit_checks, rule_kinds}
-use Rattle.normalform.specs.faults.Faults.{naming_checks, HasNoFault, IsReadable, IsReadableItem, IsSmall, IsListed, AreListedIn}
-use Rattle.normalform.specs.faults.Faults.{IsFirstFault, in_names, in_productive, in_reached, in_rules, IsTrueOf}
-use Rattle.normalform.specs.numbers.Numbers.{number_in, symbol_of, declared_names, item_of, placed, is_class, classes_of}
-use Rattle.normalform.specs.numbers.Numbers.{literals_of, numbered}
 use Rattle.normalform.proofs.found.Apart.{Apart}
 use Rattle.normalform.proofs.found.Founds.{naming_parts}
 use Rattle.normalform.proofs.found.Known.{symbols_differ, attributes_differ, differ_doubled, texts_differ, lefts_known}
@@ -39,7 +23,6 @@ use Rattle.normalform.proofs.numbered.Listed.{any_has, has_any, literals_apart, 
 use Rattle.normalform.proofs.numbered.Listed.{number_at, filter_has, has_filter, class_occurs, occurs_class}
 use Rattle.normalform.proofs.numbered.Placing.{stored_same}
 use Rattle.normalform.proofs.found.Reduced.{symbols, produces, name_known, known, unknown_parts}
-use Rattle.closure.proofs.Positions.{at_mapped}
 use Rattle.normalform.proofs.found.Right.{all_right, both_right, together, is_right, right_is, flat_each, each_flat, along_each}
 use Rattle.normalform.proofs.found.Right.{each_along}
 use Rattle.normalform.proofs.found.Ruled.{all_ruled, ruled_all, rules_single, single_rules, targets_given, given_targets}

@@ -1,16 +1,8 @@
 -- The kind of a symbol's attribute by its number.
-use Rattle.std.proofs.Common.{ℕ, zero, suc, ◌≡◌, ◌-◌, ◌<◌, ◌≤◌, false, ◌&&◌, List, [], ◌∷◌, ◌++◌, length, map, Some, Option}
-use Rattle.std.proofs.Common.{nat_lt, nat_le, slice_get, refl, ◌∙◌, arith}
-use Rattle.std.proofs.lemmas.Bool.{le-leb}
-use Rattle.std.proofs.lemmas.Bool.Decides.{nat_tests}
-use Rattle.std.proofs.lemmas.List.{length-map}
-use Rattle.ag_grammar.specs.declared.grammar.Symbol.{Symbol}
-use Rattle.ag_grammar.specs.grammars.AttributeGrammar.{Kind, Synthesized, Inherited, symbol_kinds}
-use Rattle.ag_grammar.specs.declared.raw.RawSymbol.{RawSymbol}
-use Rattle.ag_grammar.specs.declared.raw.Named.{Named}
-use Rattle.normalform.specs.faults.Faults.{is_kind}
-use Rattle.ag_grammar.specs.grammars.Raw.{texts_of}
-use Rattle.normalform.specs.numbers.Numbers.{symbol_of}
+use Rattle.normalform.proofs.Common
+use Common.{ℕ, zero, suc, ◌≡◌, ◌-◌, ◌<◌, ◌≤◌, false, ◌&&◌, List, [], ◌∷◌, ◌++◌, length, map, Some, Option, nat_lt, nat_le}
+use Common.{slice_get, refl, ◌∙◌, arith, le-leb, nat_tests, length-map, Symbol, Kind, Synthesized, Inherited, symbol_kinds}
+use Common.{RawSymbol, Named, is_kind, texts_of, symbol_of}
 
 abbrev kinds : List (List ℕ) → List (List ℕ) → List Kind
 kinds syn inh = map (λ n. Synthesized) syn ++ map (λ n. Inherited) inh

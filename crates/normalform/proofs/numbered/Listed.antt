@@ -1,20 +1,13 @@
 -- The literals and classes of a numbered grammar: each once, each from a production, and all of them.
-use Rattle.std.proofs.Common.{ℕ, zero, suc, ◌≡◌, ◌≤◌, ◌⊎◌, inl, inr, Bool, true, false, cond, List, [], ◌∷◌, ◌++◌, fold, filter}
-use Rattle.std.proofs.Common.{length, Some, None, Option, slice_get, bytes_eq, refl, sym, subst, arith}
-use Rattle.std.proofs.lemmas.Bool.Decides.{nat_tests}
-use Rattle.std.proofs.lemmas.List.{map-id}
+use Rattle.normalform.proofs.Common
+use Common.{ℕ, zero, suc, ◌≡◌, ◌≤◌, ◌⊎◌, inl, inr, Bool, true, false, cond, List, [], ◌∷◌, ◌++◌, fold, filter, length, Some, None}
+use Common.{Option, slice_get, bytes_eq, refl, sym, subst, arith, nat_tests, map-id, list_any_at, fold-append, slice_get_within}
+use Common.{get_or_from_slice_get, bytes_eq-Decides, list_any, filter_map, Has, RawItem, RawProduction, get_push_end}
+use Common.{get_push_cases, number_in, with_text, with_item, with_production, literals_of, is_class}
+use Common.raw_item
 use Rattle.std.proofs.lemmas.List.Elements.{filter_map-append}
-use Rattle.std.proofs.lemmas.List.Folds.{list_any_at}
-use Rattle.std.proofs.lemmas.List.Sums.{fold-append}
-use Rattle.std.proofs.lemmas.Option.{slice_get_within, get_or_from_slice_get}
-use Rattle.std.proofs.lemmas.Slice.Eq.{bytes_eq-Decides}
-use Rattle.std.specs.List.{list_any, filter_map, flat_map}
-use Rattle.ag_grammar.specs.Lists.{Has}
-use Rattle.ag_grammar.specs.declared.raw.RawItem.{RawItem}
-use Rattle.ag_grammar.specs.declared.raw.RawItem.TheVariants as raw_item
-use Rattle.ag_grammar.specs.declared.raw.RawProduction.{RawProduction}
-use Rattle.closure.proofs.Positions.{get_push_front, get_push_end, get_push_cases}
-use Rattle.normalform.specs.numbers.Numbers.{number_in, with_text, with_item, with_production, literals_of, is_class}
+use Rattle.std.specs.List.{flat_map}
+use Rattle.closure.proofs.Positions.{get_push_front}
 use Rattle.normalform.proofs.found.Apart.{Apart, DecidesBy, apart_push, apart_differ, none_apart}
 use Rattle.normalform.proofs.found.Reduced.{known, flat_has}
 use Rattle.normalform.proofs.found.Right.{has_flat}

@@ -1,22 +1,14 @@
 -- A numbered grammar is in order: its classes ascend, and its literals are in the order of their first appearance.
-use Rattle.std.proofs.Common.{ℕ, zero, suc, ◌≡◌, ◌<◌, ◌⊎◌, inl, inr, Bool, true, false, cond, List, [], ◌∷◌, ◌++◌, length}
-use Rattle.std.proofs.Common.{length-append, map, fold, take, Some, slice_get, bytes_eq, refl, ap, sym, ◌∙◌}
-use Rattle.std.proofs.Common.{arith}
-use Rattle.std.proofs.lemmas.Bool.{cases_lt}
-use Rattle.std.proofs.lemmas.List.{map-append}
+use Rattle.normalform.proofs.Common
+use Common.{ℕ, zero, suc, ◌≡◌, ◌<◌, ◌⊎◌, inl, inr, Bool, true, false, cond, List, [], ◌∷◌, ◌++◌, length, length-append, map, fold}
+use Common.{take, Some, slice_get, bytes_eq, refl, ap, sym, ◌∙◌, arith, cases_lt, map-append, list_any, filter_map, Production}
+use Common.{Symbol, RawGrammar, RawItem, RawProduction, at_mapped, mapped_at, get_push_end, number_in, with_text, item_of}
+use Common.{declared_names, is_class, classes_of, literals_of, numbered}
+use Common.raw_item
 use Rattle.std.proofs.lemmas.List.Kept.{IsStrictlyIncreasing-filter}
-use Rattle.std.specs.List.{list_any, filter_map, flat_map}
+use Rattle.std.specs.List.{flat_map}
 use Rattle.std.specs.List.Sorted.{IsStrictlyIncreasing}
-use Rattle.ag_grammar.specs.declared.grammar.Production.{Production}
-use Rattle.ag_grammar.specs.declared.grammar.Symbol.{Symbol}
-use Rattle.ag_grammar.specs.declared.raw.RawGrammar.{RawGrammar}
-use Rattle.ag_grammar.specs.declared.raw.RawItem.{RawItem}
-use Rattle.ag_grammar.specs.declared.raw.RawItem.TheVariants as raw_item
-use Rattle.ag_grammar.specs.declared.raw.RawProduction.{RawProduction}
 use Rattle.ag_grammar.specs.grammars.Order.{IsInOrder, IsInOrderOfAppearance, literal_number, literal_numbers}
-use Rattle.closure.proofs.Positions.{at_mapped, mapped_at, get_push_end}
-use Rattle.normalform.specs.numbers.Numbers.{number_in, with_text, item_of, declared_names, is_class}
-use Rattle.normalform.specs.numbers.Numbers.{classes_of, literals_of, numbered}
 use Rattle.normalform.proofs.found.Apart.{Apart}
 use Rattle.normalform.proofs.found.Reduced.{symbols, produces}
 use Rattle.normalform.proofs.numbered.Listed.{literals_apart, number_at, texts_among, texts_in, listed, stays, placed}

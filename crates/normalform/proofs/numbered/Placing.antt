@@ -1,27 +1,12 @@
 -- The items at the places of a numbered production, and their attributes by name and by kind.
-use Rattle.std.proofs.Common.{ℕ, zero, suc, ◌≡◌, ◌<◌, true, List, [], ◌∷◌, length, map, Some, None, Option, slice_get, get_or}
-use Rattle.std.proofs.Common.{bytes_eq, refl, length-append}
-use Rattle.std.proofs.lemmas.List.{length-map}
-use Rattle.std.proofs.lemmas.List.Sums.{passes_at_first}
-use Rattle.std.proofs.lemmas.Option.{slice_get-get_or, slice_get_within}
-use Rattle.std.proofs.lemmas.Slice.Eq.{bytes_eq-Decides}
-use Rattle.std.specs.List.{list_any}
-use Rattle.ag_grammar.specs.declared.grammar.Item.{Item}
-use Rattle.ag_grammar.specs.declared.grammar.Item.TheVariants as item
-use Rattle.ag_grammar.specs.declared.grammar.Symbol.{Symbol}
-use Rattle.ag_grammar.specs.declared.grammar.Target.{Target}
-use Rattle.ag_grammar.specs.declared.grammar.Terminal.TheVariants.{Literal, Class}
-use Rattle.ag_grammar.specs.declared.syntax.occurrence.Occ.{Occ}
-use Rattle.ag_grammar.specs.grammars.AttributeGrammar.{Kind, Synthesized, Inherited, stored_items, item_at, item_names}
-use Rattle.ag_grammar.specs.grammars.AttributeGrammar.{item_kinds, symbol_kinds, symbol_names as names_of_symbol, HasKind}
-use Rattle.ag_grammar.specs.grammars.AttributeGrammar.{RefersTo}
-use Rattle.ag_grammar.specs.declared.raw.RawGrammar.{RawGrammar}
-use Rattle.ag_grammar.specs.declared.raw.RawItem.{RawItem}
-use Rattle.ag_grammar.specs.declared.raw.RawItem.TheVariants as raw_item
-use Rattle.ag_grammar.specs.declared.raw.RawProduction.{RawProduction}
-use Rattle.normalform.specs.faults.Faults.{is_kind, has_kind}
-use Rattle.normalform.specs.numbers.Numbers.{number_in, declared_names, declared, item_of, stored_of, names_at, target_of}
-use Rattle.normalform.specs.numbers.Numbers.{numbered, literals_of}
+use Rattle.normalform.proofs.Common
+use Common.{ℕ, zero, suc, ◌≡◌, ◌<◌, true, List, [], ◌∷◌, length, map, Some, None, Option, slice_get, get_or, bytes_eq, refl}
+use Common.{length-append, length-map, passes_at_first, slice_get-get_or, slice_get_within, bytes_eq-Decides, list_any, Item}
+use Common.{Symbol, Target, Literal, Class, Occ, Kind, Synthesized, Inherited, stored_items, item_at, item_names, item_kinds}
+use Common.{symbol_kinds, names_of_symbol, HasKind, RefersTo, RawGrammar, RawItem, RawProduction, is_kind, has_kind, number_in}
+use Common.{declared_names, declared, item_of, stored_of, names_at, target_of, numbered, literals_of}
+use Common.item
+use Common.raw_item
 use Rattle.normalform.proofs.found.Reduced.{symbols, produces, places, known, below_known}
 
 pub stored_same : (ns lits : List (List ℕ)) (xs : List RawItem) → stored_items (map (item_of ns lits) xs) ≡ stored_of ns xs

@@ -1,18 +1,9 @@
 -- Within the limits the numbers have 16 bits.
-use Rattle.std.proofs.Common.{ℕ, zero, suc, ◌≡◌, ◌<◌, ◌≤◌, Bool, true, not, List, [], ◌∷◌, length, Some, None}
-use Rattle.std.proofs.Common.{Option, slice_get, bytes_eq, refl, arith}
-use Rattle.std.proofs.lemmas.Bool.{and_parts, leb-true}
-use Rattle.std.proofs.lemmas.List.{length-map}
-use Rattle.std.proofs.lemmas.List.Sums.{prefix_len-le-length}
-use Rattle.std.specs.List.{list_all}
-use Rattle.ag_grammar.specs.declared.grammar.Item.{Item}
-use Rattle.ag_grammar.specs.declared.grammar.Item.TheVariants as item
-use Rattle.ag_grammar.specs.declared.grammar.Symbol.{Symbol}
-use Rattle.ag_grammar.specs.declared.grammar.Terminal.TheVariants.{Literal, Class}
-use Rattle.ag_grammar.specs.declared.syntax.occurrence.Occ.{Occ}
-use Rattle.ag_grammar.specs.grammars.AttributeGrammar.{item_names, symbol_names as names_of_symbol}
-use Rattle.normalform.specs.faults.Faults.{few_attributes}
-use Rattle.normalform.specs.numbers.Numbers.{number_in, declared_names, declared, names_at, target_of}
+use Rattle.normalform.proofs.Common
+use Common.{ℕ, zero, suc, ◌≡◌, ◌<◌, ◌≤◌, Bool, true, not, List, [], ◌∷◌, length, Some, None, Option, slice_get, bytes_eq, refl}
+use Common.{arith, and_parts, leb-true, length-map, prefix_len-le-length, list_all, Item, Symbol, Literal, Class, Occ, item_names}
+use Common.{names_of_symbol, few_attributes, number_in, declared_names, declared, names_at, target_of}
+use Common.item
 
 pub number_within : (texts : List (List ℕ)) (text : List ℕ) → number_in texts text ≤ length texts
 number_within texts text = prefix_len-le-length (λ x. not (bytes_eq text x)) texts

@@ -1,21 +1,12 @@
 -- The entries of a layout.
-use Rattle.std.proofs.Common.{ℕ, zero, suc, ◌≡◌, ◌+◌, ◌<◌, List, [], ◌∷◌, Option, Some, map, slice_get, get_or, length}
-use Rattle.std.proofs.Common.{refl, ap, ◌∙◌, subst, sym, arith}
+use Rattle.pass_rows.proofs.Common
+use Common.{ℕ, zero, suc, ◌≡◌, ◌+◌, ◌<◌, List, [], ◌∷◌, Option, Some, map, slice_get, get_or, length, refl, ap, ◌∙◌, subst, sym}
+use Common.{arith, slice_get-get_or, slice_get_within, Item, Production, Rule, Target, IsProduction, item_at, stored_items}
+use Common.{Setting, PlaceRow, ProductionRow, RuleSlots, layout_of, place_rows, production_row, rows_after, rows_from, rule_slots}
+use Common.{argument_slot, copied_before, copied_width, copy_start, known_width, own_width}
+use Common.item
 use Rattle.std.proofs.lemmas.List.{length-map}
-use Rattle.std.proofs.lemmas.Option.{slice_get-get_or, slice_get_within}
-use Rattle.ag_grammar.specs.declared.grammar.Item.{Item}
-use Rattle.ag_grammar.specs.declared.grammar.Item.TheVariants as item
-use Rattle.ag_grammar.specs.declared.grammar.Production.{Production}
-use Rattle.ag_grammar.specs.declared.grammar.Rule.{Rule}
-use Rattle.ag_grammar.specs.declared.grammar.Target.{Target}
-use Rattle.ag_grammar.specs.grammars.AttributeGrammar.{IsProduction, item_at, stored_items}
-use Rattle.passcode.specs.Settings.{Setting}
-use Rattle.pass_rows.specs.declared.layouts.building.PlaceRow.{PlaceRow}
-use Rattle.pass_rows.specs.declared.layouts.building.ProductionRow.{ProductionRow}
-use Rattle.pass_rows.specs.declared.layouts.building.RuleSlots.{RuleSlots}
 use Rattle.pass_rows.specs.layouts.Layouts.{AreSlotsOf, IsLayout, IsRowOf}
-use Rattle.pass_rows.specs.layouts.BuiltLayouts.{layout_of, place_rows, production_row, rows_after, rows_from, rule_slots}
-use Rattle.pass_rows.specs.layouts.Slots.{argument_slot, copied_before, copied_width, copy_start, known_width, own_width}
 
 mapped : {A B : Type 0} (f : A → B) (xs : List A) (k : ℕ) (x : A) → slice_get xs k ≡ Some x → slice_get (map f xs) k ≡ Some (f x)
 mapped f [] k x e = let bad : ⊥ = cc in absurd bad

@@ -1,7 +1,6 @@
 -- The item and the start at an index of the `PlaceRow`s of a production.
-use Rattle.std.proofs.Common.{ℕ, zero, suc, ◌≡◌, ◌<◌, List, [], ◌∷◌, Some, get_or, length, refl, arith}
-use Rattle.pass_rows.specs.declared.layouts.building.PlaceRow.{PlaceRow}
-use Rattle.pass_rows.specs.layouts.BuiltLayouts.{item_in, start_in}
+use Rattle.pass_rows.proofs.Common
+use Common.{ℕ, zero, suc, ◌≡◌, ◌<◌, List, [], ◌∷◌, Some, get_or, length, refl, arith, PlaceRow, item_in, start_in}
 
 pub item_found : (rows : List PlaceRow) (j : ℕ) (d : PlaceRow) → j < length rows → item_in rows j ≡ Some (get_or rows j d).item
 item_found [] j d less = absurd (omega arith)

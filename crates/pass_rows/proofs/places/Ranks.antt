@@ -1,7 +1,6 @@
 -- The index of an attribute's value in a row.
-use Rattle.std.proofs.Common.{ℕ, zero, suc, ◌≡◌, ◌+◌, ◌-◌, ◌<◌, ◌≤◌, nat_le, if◌then◌else◌, List, ◌∷◌, refl, ap, arith}
-use Rattle.std.proofs.lemmas.Bool.{le-leb, lt-leb}
-use Rattle.pass_rows.specs.layouts.Slots.{rank}
+use Rattle.pass_rows.proofs.Common
+use Common.{ℕ, zero, suc, ◌≡◌, ◌+◌, ◌-◌, ◌<◌, ◌≤◌, nat_le, if◌then◌else◌, List, ◌∷◌, refl, ap, arith, le-leb, lt-leb, rank}
 
 rank_more : (k p : ℕ) (ps : List ℕ) (a : ℕ) → (a ≡ 0 → ⊥) → rank k (p ∷ ps) a ≡ (if nat_le p k then 1 else 0) + rank k ps (a - 1)
 rank_more k p ps zero some = absurd (some refl)

@@ -1,30 +1,15 @@
 -- The slots according to the `PlaceRow`s are the slots of the rules.
-use Rattle.std.proofs.Common.{ℕ, zero, suc, ◌≡◌, ◌+◌, ◌*◌, ◌<◌, ◌≤◌, List, [], ◌∷◌, map, slice_get, length, refl, ap, ap₂, ◌∙◌}
-use Rattle.std.proofs.Common.{arith, length-take}
-use Rattle.ag_grammar.specs.declared.grammar.Item.{Item}
-use Rattle.ag_grammar.specs.declared.grammar.Item.TheVariants as item
-use Rattle.ag_grammar.specs.declared.grammar.Production.{Production}
-use Rattle.ag_grammar.specs.declared.grammar.Rule.{Rule}
-use Rattle.ag_grammar.specs.declared.grammar.Target.{Target}
-use Rattle.ag_grammar.specs.declared.grammar.Terminal.TheVariants.{Literal, Class}
+use Rattle.pass_rows.proofs.Common
+use Common.{ℕ, zero, suc, ◌≡◌, ◌+◌, ◌*◌, ◌<◌, ◌≤◌, List, [], ◌∷◌, map, slice_get, length, refl, ap, ◌∙◌, arith, length-take, Item}
+use Common.{Production, Rule, Target, Literal, Class, max_attributes, max_children, item_passes, item_at, places_of, stored_items}
+use Common.{synthesized_count, few_counted, Setting, list_at, ProductionRow, PlaceRow, RuleSlots, copied_passes, row_passes}
+use Common.{argument_slot, copied_before, copied_width, copy_start, own_width, rank, row_start, stored_width, target_slot}
+use Common.{AreWithin, IsWithin, argument_slot_by, item_in, place_rows, production_row, production_slots, rows_after, rule_slots}
+use Common.{rule_slots_by, start_in, target_slot_by, AreLow, AreSmall}
+use Common.item
+use Rattle.std.proofs.Common.{ap₂}
 use Rattle.ag_grammar.specs.Lists.{Each}
-use Rattle.ag_grammar.specs.grammars.Accepted.{max_attributes, max_children}
-use Rattle.ag_grammar.specs.grammars.Passes.{item_passes}
-use Rattle.ag_grammar.specs.grammars.AttributeGrammar.{item_at, places_of, stored_items}
-use Rattle.treefile.specs.records.Records.{synthesized_count}
-use Rattle.treefile.proofs.records.Values.{few_counted}
 use Rattle.passcode.specs.declared.instr.Instr.{Instr}
-use Rattle.passcode.specs.Settings.{Setting, list_at}
-use Rattle.pass_rows.specs.declared.layouts.building.ProductionRow.{ProductionRow}
-use Rattle.pass_rows.specs.declared.layouts.building.PlaceRow.{PlaceRow}
-use Rattle.pass_rows.specs.declared.layouts.building.RuleSlots.{RuleSlots}
-use Rattle.pass_rows.specs.Places.{copied_passes, row_passes}
-use Rattle.pass_rows.specs.layouts.Slots.{argument_slot, copied_before, copied_width, copy_start, own_width, rank, row_start}
-use Rattle.pass_rows.specs.layouts.Slots.{stored_width, target_slot}
-use Rattle.pass_rows.specs.layouts.BuiltLayouts.{AreWithin, IsWithin, argument_slot_by, item_in, place_rows, production_row}
-use Rattle.pass_rows.specs.layouts.BuiltLayouts.{production_slots, rows_after, rule_slots, rule_slots_by, start_in}
-use Rattle.pass_rows.specs.layouts.BuiltLayouts.{target_slot_by}
-use Rattle.pass_rows.specs.layouts.Starts.{AreLow, AreSmall}
 
 items_after : (c : Setting) (start : ℕ) (xs : List Item) (b : ℕ) → item_in (rows_after c start xs) b ≡ slice_get xs b
 items_after c start [] b = refl

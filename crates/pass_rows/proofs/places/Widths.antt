@@ -1,26 +1,15 @@
 -- Bounds on the places and attributes of a production, by an accepted grammar and a legal assignment.
-use Rattle.std.proofs.Common.{ℕ, zero, suc, ◌≡◌, ◌+◌, ◌<◌, ◌≤◌, List, [], ◌∷◌, Option, Some, None, slice_get, length, refl, subst}
-use Rattle.std.proofs.Common.{arith}
-use Rattle.std.proofs.lemmas.Option.{slice_get_within}
-use Rattle.ag_grammar.specs.declared.grammar.Item.{Item}
-use Rattle.ag_grammar.specs.declared.grammar.Item.TheVariants as item
-use Rattle.ag_grammar.specs.declared.grammar.Production.{Production}
-use Rattle.ag_grammar.specs.declared.grammar.Target.{Target}
-use Rattle.ag_grammar.specs.declared.grammar.Terminal.TheVariants.{Literal, Class}
-use Rattle.ag_grammar.specs.grammars.Accepted.{IsAccepted, max_children}
-use Rattle.ag_grammar.specs.grammars.AttributeGrammar.{Grammar, HasKind, IsProduction, Kind, used_kind, defined_kind, item_at}
-use Rattle.ag_grammar.specs.grammars.AttributeGrammar.{item_kinds, stored_items, places_of}
-use Rattle.ag_grammar.specs.grammars.Passes.{IsLegal, Passes}
-use Rattle.treefile.specs.records.Records.{max_copied, max_copies}
-use Rattle.treefile.specs.records.TreeFile.{version_two}
+use Rattle.pass_rows.proofs.Common
+use Common.{ℕ, zero, suc, ◌≡◌, ◌+◌, ◌<◌, ◌≤◌, List, [], ◌∷◌, Option, Some, slice_get, length, refl, subst, arith}
+use Common.{slice_get_within, Item, Production, Target, Literal, Class, IsAccepted, max_children, IsProduction, item_at}
+use Common.{stored_items, places_of, IsLegal, Passes, max_copied, max_copies, version_two, few_counted, Setting, copied_passes}
+use Common.{copied_all, copied_width, stored_width, AreWithin, AreSmall}
+use Common.item
+use Rattle.std.proofs.Common.{None}
+use Rattle.ag_grammar.specs.grammars.AttributeGrammar.{Grammar, HasKind, Kind, used_kind, defined_kind}
+use Rattle.ag_grammar.specs.grammars.AttributeGrammar.{item_kinds}
 use Rattle.treefile.proofs.records.Fitting.{few_passes, fits_version_two}
-use Rattle.treefile.proofs.records.Values.{few_counted}
-use Rattle.passcode.specs.Settings.{Setting}
 use Rattle.passcode.specs.Sound.{IsSound}
-use Rattle.pass_rows.specs.Places.{copied_passes}
-use Rattle.pass_rows.specs.layouts.Slots.{copied_all, copied_width, stored_width}
-use Rattle.pass_rows.specs.layouts.BuiltLayouts.{AreWithin}
-use Rattle.pass_rows.specs.layouts.Starts.{AreSmall}
 
 -- No symbol has more attributes than a grammar allows.
 pub are_small : (g : Grammar) (m : Passes) → IsAccepted g → IsLegal g m → AreSmall m

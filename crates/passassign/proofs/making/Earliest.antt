@@ -1,21 +1,13 @@
 -- Passes that are made for two of the sample grammars.
-use Rattle.std.proofs.Common.{ℕ, zero, suc, ◌≡◌, ◌≤◌, inl, inr, List, [], ◌∷◌, Some, None, slice_get, length, refl}
-use Rattle.std.proofs.Common.{arith}
-use Rattle.ag_grammar.specs.Lists.{Each}
-use Rattle.ag_grammar.specs.declared.grammar.Production.{Production}
-use Rattle.ag_grammar.specs.declared.grammar.Rule.{Rule}
-use Rattle.ag_grammar.specs.declared.grammar.Target.{Target}
-use Rattle.ag_grammar.specs.grammars.AttributeGrammar.{Synthesized, Inherited, symbol_kinds}
-use Rattle.ag_grammar.specs.declared.direction.Direction.{Direction}
-use Rattle.ag_grammar.specs.declared.direction.Direction.TheVariants.{LeftToRight, RightToLeft}
-use Rattle.ag_grammar.specs.grammars.Passes.{Passes, IsBefore, direction_of}
+use Rattle.passassign.proofs.Common
+use Common.{ℕ, zero, suc, ◌≡◌, ◌≤◌, inl, inr, List, [], ◌∷◌, Some, None, slice_get, length, refl, arith, Each, Production, Rule}
+use Common.{Target, Synthesized, Inherited, symbol_kinds, Direction, LeftToRight, RightToLeft, Passes, IsBefore, direction_of}
+use Common.{Attributes, IsStruckBy, IsReason, AreGood, partial_of, IsAttribute, IsLeast, IsOpen, AreFinished, IsPass, IsMade}
+use Common.{start, passed}
 use Rattle.ag_grammar.specs.grammars.Sample.{attribute, grammar_of, sample, copy_rule, zero_rule, s_name, production_r}
 use Rattle.ag_grammar.specs.grammars.Sample.{production_a, rule_out, rule_first, rule_second, rule_s, sample_passes, later_passes}
 use Rattle.ag_grammar.proofs.grammars.Members.{both, each_more, each_none, only}
 use Rattle.ag_grammar.proofs.grammars.samples.NumberSample.{accepted}
-use Rattle.passassign.specs.Certificate.{Attributes, IsStruckBy, IsReason, AreGood}
-use Rattle.passassign.specs.Least.{partial_of, IsAttribute, IsLeast}
-use Rattle.passassign.specs.Making.{IsOpen, AreFinished, IsPass, IsMade, start, passed}
 use Rattle.passassign.specs.Sample.{strikes_by, rightward, nothing_yet, third_passes}
 use Rattle.passassign.proofs.strikes.Sample.{no_reason, others_good}
 use Rattle.passassign.proofs.making.Whole.{whole_least}

@@ -1,14 +1,7 @@
 -- A least assignment has the fewest passes.
-use Rattle.std.proofs.Common.{ℕ, ◌≡◌, ◌≤◌, ◌⊎◌, inl, inr, List, [], Some, slice_get, length, arith}
-use Rattle.std.proofs.lemmas.Bool.{cases_lt}
-use Rattle.std.proofs.lemmas.List.{get_or_past}
-use Rattle.std.proofs.lemmas.Option.{slice_get-get_or, get_or_from_slice_get}
-use Rattle.ag_grammar.specs.Lists.{Has}
-use Rattle.ag_grammar.specs.grammars.AttributeGrammar.{Grammar}
-use Rattle.ag_grammar.specs.grammars.Passes.{IsLegal}
-use Rattle.ag_grammar.proofs.grammars.OneSolution.{counterpart}
-use Rattle.passassign.specs.Least.{IsLeast}
-use Rattle.passassign.specs.Rows.{passes_of, AreAtMost, IsGreatest}
+use Rattle.passassign.proofs.Common
+use Common.{ℕ, ◌≡◌, ◌≤◌, ◌⊎◌, inl, inr, List, [], Some, slice_get, length, arith, cases_lt, get_or_past, slice_get-get_or}
+use Common.{get_or_from_slice_get, Has, Grammar, IsLegal, counterpart, IsLeast, passes_of, AreAtMost, IsGreatest}
 
 -- a pass in rows is at most the bound of all their numbers
 pub given_at_most : (rows : List (List ℕ)) (k s a p : ℕ) → AreAtMost k rows → slice_get (passes_of rows s) a ≡ Some p → p ≤ k

@@ -1,25 +1,11 @@
 -- The initial and the final table.
-use Rattle.std.proofs.Common.{ℕ, ◌≡◌, ◌+◌, ◌<◌, ◌≤◌, nat_lt, List, [], ◌∷◌, Some, None, zero, suc, ◌⊎◌}
-use Rattle.std.proofs.Common.{slice_get, get_or, length, unwrap_or, inl, inr, refl, ◌∙◌, arith}
-use Rattle.std.proofs.lemmas.Bool.{cases_lt, cases_Bool, lt-ltb, ltb-true}
-use Rattle.std.proofs.lemmas.Option.{slice_get_within, slice_get_past, slice_get-get_or}
-use Rattle.std.proofs.Math.ListN.{get_or-eq_default}
-use Rattle.ag_grammar.specs.declared.grammar.Production.{Production}
-use Rattle.ag_grammar.specs.declared.grammar.Symbol.{Symbol}
-use Rattle.ag_grammar.specs.grammars.AttributeGrammar.{Grammar, Synthesized, symbol_kinds}
-use Rattle.passassign.specs.Dependencies.{AreDependencies}
-use Rattle.passassign.specs.Least.{partial_of, IsLeast}
-use Rattle.passassign.specs.Making.{IsMade, start}
-use Rattle.passassign.specs.PassesSoFar.{IsAcceptedWith, IsProgress, open_count}
-use Rattle.ag_grammar.specs.grammars.Accepted.{max_passes}
-use Rattle.passassign.specs.Rows.{passes_of, AreWithinMaxPasses}
-use Rattle.passassign.specs.Searching.{BelongTo}
-use Rattle.passassign.specs.Tables.{slot_of, state_at, state_of, pass_of_state, first_state, attribute_count, table_passes}
-use Rattle.passassign.specs.Tables.{IsFirstTable, IsTable, IsDeclared, AreRowsOfTable}
-use Rattle.passassign.specs.declared.assigning.PassesSoFar.{PassesSoFar}
-use Rattle.passassign.specs.declared.dependency.Dependency.{Dependency}
-use Rattle.passassign.specs.declared.table.State.{State}
-use Rattle.passassign.specs.declared.table.State.TheVariants.{Absent, Open, Assigned}
+use Rattle.passassign.proofs.Common
+use Common.{ℕ, ◌≡◌, ◌+◌, ◌<◌, ◌≤◌, nat_lt, List, [], ◌∷◌, Some, None, zero, suc, ◌⊎◌, slice_get, get_or, length, unwrap_or, inl}
+use Common.{inr, refl, ◌∙◌, arith, cases_lt, cases_Bool, lt-ltb, ltb-true, slice_get_within, slice_get_past, slice_get-get_or}
+use Common.{get_or-eq_default, Production, Symbol, Grammar, Synthesized, symbol_kinds, AreDependencies, partial_of, IsLeast}
+use Common.{IsMade, start, IsAcceptedWith, IsProgress, open_count, max_passes, passes_of, AreWithinMaxPasses, BelongTo, slot_of}
+use Common.{state_at, state_of, pass_of_state, first_state, attribute_count, table_passes, IsFirstTable, IsTable, IsDeclared}
+use Common.{AreRowsOfTable, PassesSoFar, Dependency, State, Absent, Open, Assigned}
 use Rattle.passassign.proofs.slots.Linked.{kinds_names, attribute_within, state_in, parts, target_is}
 use Rattle.passassign.proofs.making.Made.{made_before}
 use Rattle.passassign.proofs.making.Refusing.{open_step}

@@ -1,24 +1,11 @@
 -- The assignment that the passes make is legal.
-use Rattle.std.proofs.Common.{ℕ, zero, suc, ◌≡◌, ◌≤◌, ◌⊎◌, inl, inr, List, [], ◌∷◌, Option, Some, None, slice_get, refl, arith}
-use Rattle.std.proofs.Math.Arith.{lt_of_le-ne}
-use Rattle.std.proofs.lemmas.Bool.{cases_order}
-use Rattle.ag_grammar.specs.Lists.{Each}
-use Rattle.ag_grammar.specs.declared.grammar.Item.TheVariants as item
-use Rattle.ag_grammar.specs.declared.grammar.Item.{Item}
-use Rattle.ag_grammar.specs.declared.grammar.Production.{Production}
-use Rattle.ag_grammar.specs.declared.grammar.Rule.{Rule}
-use Rattle.ag_grammar.specs.declared.grammar.Target.{Target}
-use Rattle.ag_grammar.specs.declared.grammar.Terminal.TheVariants.{Literal, Class}
-use Rattle.ag_grammar.specs.grammars.AttributeGrammar.{Grammar, item_at, IsProduction, IsRule, IsArgument, Kind}
-use Rattle.ag_grammar.specs.grammars.AttributeGrammar.{Synthesized, Inherited, item_kinds, defined_kind, used_kind}
-use Rattle.ag_grammar.specs.grammars.Accepted.{IsComplete, IsNormal}
-use Rattle.ag_grammar.specs.declared.direction.Direction.{Direction}
-use Rattle.ag_grammar.specs.declared.direction.Direction.TheVariants.{LeftToRight, RightToLeft}
-use Rattle.ag_grammar.specs.grammars.Passes.{direction_of, IsBefore, MayUse, IsLegalFor}
-use Rattle.passassign.specs.declared.stuck.Strike.{Strike}
-use Rattle.passassign.specs.Certificate.{IsStruckBy, IsSameOrLater, IsReason}
-use Rattle.passassign.specs.Least.{Partial, pass_at, HasPassIn, IsLegalPartial}
-use Rattle.passassign.specs.Making.{IsOpen, IsPass, IsMade, start, passed}
+use Rattle.passassign.proofs.Common
+use Common.{ℕ, zero, suc, ◌≡◌, ◌≤◌, ◌⊎◌, inl, inr, List, [], ◌∷◌, Option, Some, None, slice_get, refl, arith, lt_of_le-ne}
+use Common.{cases_order, Each, Item, Production, Rule, Target, Literal, Class, Grammar, item_at, IsProduction, IsRule, IsArgument}
+use Common.{Kind, Synthesized, Inherited, item_kinds, defined_kind, used_kind, IsComplete, IsNormal, Direction, LeftToRight}
+use Common.{RightToLeft, direction_of, IsBefore, MayUse, IsLegalFor, Strike, IsStruckBy, IsSameOrLater, IsReason, Partial}
+use Common.{pass_at, HasPassIn, IsLegalPartial, IsOpen, IsPass, IsMade, start, passed}
+use Common.item
 use Rattle.passassign.proofs.slots.Options.{none_of, some_or_none}
 use Rattle.passassign.proofs.making.Made.{made_before, made_positive, old_or_new}
 

@@ -1,11 +1,8 @@
 -- The assignment that passes make gives no attribute a later pass than any legal partial assignment, and no pass that
 -- isn't made yet.
-use Rattle.std.proofs.Common.{ℕ, ◌≡◌, ◌<◌, ◌≤◌, ◌⊎◌, inl, inr, List, Some, None, arith}
-use Rattle.ag_grammar.specs.grammars.AttributeGrammar.{Grammar}
-use Rattle.passassign.specs.declared.stuck.Strike.{Strike}
-use Rattle.passassign.specs.Certificate.{IsStruckBy}
-use Rattle.passassign.specs.Least.{Partial, IsAttribute, IsLegalPartial}
-use Rattle.passassign.specs.Making.{IsOpen, IsMade, IsPass, start, passed}
+use Rattle.passassign.proofs.Common
+use Common.{ℕ, ◌≡◌, ◌<◌, ◌≤◌, ◌⊎◌, inl, inr, List, Some, None, arith, Grammar, Strike, IsStruckBy, Partial, IsAttribute}
+use Common.{IsLegalPartial, IsOpen, IsMade, IsPass, start, passed}
 use Rattle.passassign.proofs.slots.Options.{some_or_none}
 use Rattle.passassign.proofs.making.Struck.{struck_later}
 

@@ -1,12 +1,7 @@
 -- A pass by marks of the struck attributes.
-use Rattle.std.proofs.Common.{ℕ, ◌≡◌, inl, inr, List, [], Some, None, Bool, true, false}
-use Rattle.std.proofs.lemmas.Bool.{cases_Bool}
-use Rattle.ag_grammar.specs.grammars.AttributeGrammar.{Grammar}
-use Rattle.ag_grammar.specs.grammars.Passes.{direction_of}
-use Rattle.passassign.specs.declared.stuck.Strike.{Strike}
-use Rattle.passassign.specs.Certificate.{IsStruckBy, AreGood}
-use Rattle.passassign.specs.Least.{Partial, IsAttribute, AssignsOnlyAttributes}
-use Rattle.passassign.specs.Making.{IsOpen, AreFinished, IsPass, AreMarks, pass_after}
+use Rattle.passassign.proofs.Common
+use Common.{ℕ, ◌≡◌, inl, inr, List, [], Some, None, Bool, true, false, cases_Bool, Grammar, direction_of, Strike, IsStruckBy}
+use Common.{AreGood, Partial, IsAttribute, AssignsOnlyAttributes, IsOpen, AreFinished, IsPass, AreMarks, pass_after}
 
 pub pass_by_marks : (g : Grammar) (k : ℕ) (m after : Partial) (xs : List Strike) (hit : ℕ → ℕ → Bool) → AssignsOnlyAttributes g m
     → AssignsOnlyAttributes g after → AreGood g (direction_of k) (IsOpen g m) [] xs

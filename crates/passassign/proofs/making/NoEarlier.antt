@@ -1,15 +1,8 @@
 -- The meaning of the strikes of an assignment: no legal assignment gives any attribute an earlier pass.
-use Rattle.std.proofs.Common.{ℕ, zero, suc, ◌≡◌, ◌<◌, ◌≤◌, ◌↔◌, List, [], Some, get_or, length, arith, add-one}
-use Rattle.std.proofs.lemmas.Option.{slice_get-get_or}
-use Rattle.ag_grammar.specs.grammars.AttributeGrammar.{Grammar}
-use Rattle.ag_grammar.specs.grammars.Passes.{Passes, IsLegal, direction_of}
-use Rattle.passassign.specs.declared.stuck.Strike.{Strike}
-use Rattle.passassign.specs.declared.stuck.Stuck.{Stuck}
-use Rattle.passassign.specs.Certificate.{Members, IsCertificate}
-use Rattle.passassign.specs.Chains.{IsChainOf}
-use Rattle.passassign.specs.Least.{Partial, partial_of, IsLegalPartial, IsLeast}
-use Rattle.passassign.specs.PassStrikes.{HasPassFrom, HasPassAfter, AreStrikesAt, AreStrikesOf, list_for, strikes_of}
-use Rattle.passassign.specs.Rows.{passes_of}
+use Rattle.passassign.proofs.Common
+use Common.{ℕ, zero, suc, ◌≡◌, ◌<◌, ◌≤◌, ◌↔◌, List, [], Some, get_or, length, arith, add-one, slice_get-get_or, Grammar, Passes}
+use Common.{IsLegal, direction_of, Strike, Stuck, Members, IsCertificate, IsChainOf, Partial, partial_of, IsLegalPartial, IsLeast}
+use Common.{HasPassFrom, HasPassAfter, AreStrikesAt, AreStrikesOf, list_for, strikes_of, passes_of}
 use Rattle.passassign.proofs.making.Fewest.{given_at_most}
 use Rattle.passassign.proofs.making.Rest.{all_for}
 use Rattle.passassign.proofs.making.Struck.{AtLeast, struck_later}

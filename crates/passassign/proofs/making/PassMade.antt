@@ -1,19 +1,9 @@
 -- A pass that the program makes is a pass as `IsPass` defines it.
-use Rattle.std.proofs.Common.{ℕ, suc, ◌≡◌, ◌<◌, ◌+◌, ◌↔◌, Bool, true, false, ◌&&◌, nat_lt, List, [], None, length}
-use Rattle.std.proofs.Common.{inl, inr, arith, refl}
-use Rattle.std.proofs.lemmas.Bool.{cases_Bool, lt-ltb, ltb-true}
-use Rattle.ag_grammar.specs.grammars.AttributeGrammar.{Grammar}
-use Rattle.ag_grammar.specs.grammars.Passes.{direction_of, other}
-use Rattle.passassign.specs.Least.{AssignsOnlyAttributes}
-use Rattle.passassign.specs.Making.{IsOpen, IsMade, IsPass, AreMarks, pass_after, passed}
-use Rattle.passassign.specs.PassesSoFar.{IsProgress, IsNext, KeepPasses}
-use Rattle.passassign.specs.Searching.{BelongTo, IsSearch, target_of}
-use Rattle.passassign.specs.Tables.{slot_of, state_at, state_of, pass_of_state, after_pass, is_marked, table_passes}
-use Rattle.passassign.specs.declared.assigning.PassesSoFar.{PassesSoFar}
-use Rattle.passassign.specs.declared.dependency.Dependency.{Dependency}
-use Rattle.passassign.specs.declared.stuck.Strike.{Strike}
-use Rattle.passassign.specs.declared.table.State.{State}
-use Rattle.passassign.specs.declared.table.State.TheVariants.{Absent, Open, Assigned}
+use Rattle.passassign.proofs.Common
+use Common.{ℕ, suc, ◌≡◌, ◌<◌, ◌+◌, ◌↔◌, Bool, true, false, ◌&&◌, nat_lt, List, [], None, length, inl, inr, arith, refl}
+use Common.{cases_Bool, lt-ltb, ltb-true, Grammar, direction_of, other, AssignsOnlyAttributes, IsOpen, IsMade, IsPass, AreMarks}
+use Common.{pass_after, passed, IsProgress, IsNext, KeepPasses, BelongTo, IsSearch, target_of, slot_of, state_at, state_of}
+use Common.{pass_of_state, after_pass, is_marked, table_passes, PassesSoFar, Dependency, Strike, State, Absent, Open, Assigned}
 use Rattle.passassign.proofs.strikes.Following.{struck_at, at_struck, strikes_open}
 use Rattle.passassign.proofs.slots.Linked.{attribute_within, open_state}
 use Rattle.passassign.proofs.making.Marked.{pass_by_marks}

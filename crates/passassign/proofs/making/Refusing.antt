@@ -1,24 +1,11 @@
 -- If two passes of the program assign nothing, its fault is A1, and A1 is true of the grammar.
-use Rattle.std.proofs.Common.{ℕ, zero, suc, ◌≡◌, ◌<◌, ◌≤◌, ◌+◌, ◌/◌, ◌%◌, ◌↔◌, cond, List, [], ◌∷◌, None, length, inl, inr, refl}
-use Rattle.std.proofs.Common.{arith, add-one}
-use Rattle.std.proofs.lemmas.Bool.{cases_order}
+use Rattle.passassign.proofs.Common
+use Common.{ℕ, zero, suc, ◌≡◌, ◌<◌, ◌≤◌, ◌+◌, ◌/◌, ◌%◌, ◌↔◌, cond, List, [], ◌∷◌, None, length, inl, inr, refl, arith, add-one}
+use Common.{cases_order, Has, Differ, Grammar, Direction, LeftToRight, RightToLeft, direction_of, other, Members, IsCertificate}
+use Common.{stuck_of, IsOpen, AreIdle, IsProgress, IsNext, KeepPasses, open_count, slot_of, state_at, state_of, is_open}
+use Common.{table_passes, PassesSoFar, Dependency, Strike, Stuck, State, Absent, Open, Assigned}
 use Rattle.std.proofs.lemmas.List.Sums.{sum_by-cons}
-use Rattle.ag_grammar.specs.Lists.{Has, Differ}
-use Rattle.ag_grammar.specs.grammars.AttributeGrammar.{Grammar}
-use Rattle.ag_grammar.specs.declared.direction.Direction.{Direction}
-use Rattle.ag_grammar.specs.declared.direction.Direction.TheVariants.{LeftToRight, RightToLeft}
-use Rattle.ag_grammar.specs.grammars.Passes.{direction_of, other}
 use Rattle.passassign.specs.Answer.{IsInDeclaredOrder, IsRefused}
-use Rattle.passassign.specs.Certificate.{Members, IsCertificate, stuck_of}
-use Rattle.passassign.specs.Making.{IsOpen, AreIdle}
-use Rattle.passassign.specs.PassesSoFar.{IsProgress, IsNext, KeepPasses, open_count}
-use Rattle.passassign.specs.Tables.{slot_of, state_at, state_of, is_open, table_passes}
-use Rattle.passassign.specs.declared.assigning.PassesSoFar.{PassesSoFar}
-use Rattle.passassign.specs.declared.dependency.Dependency.{Dependency}
-use Rattle.passassign.specs.declared.stuck.Strike.{Strike}
-use Rattle.passassign.specs.declared.stuck.Stuck.{Stuck}
-use Rattle.passassign.specs.declared.table.State.{State}
-use Rattle.passassign.specs.declared.table.State.TheVariants.{Absent, Open, Assigned}
 use Rattle.passassign.proofs.slots.Linked.{open_state, open_there}
 use Rattle.passassign.proofs.making.Rest.{rest_certified, rest_stuck}
 use Rattle.passassign.proofs.making.Whole.{certified_refused, stuck_left}

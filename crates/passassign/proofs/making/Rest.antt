@@ -1,16 +1,8 @@
 -- The attributes left open by two passes that assign nothing are stuck, and the strikes of these passes are a certificate.
-use Rattle.std.proofs.Common.{ℕ, zero, suc, ◌≡◌, ◌≤◌, ◌↔◌, List, [], None, arith}
-use Rattle.ag_grammar.specs.Lists.{Has, Differ}
-use Rattle.ag_grammar.specs.grammars.AttributeGrammar.{Grammar}
-use Rattle.ag_grammar.specs.declared.direction.Direction.{Direction}
-use Rattle.ag_grammar.specs.declared.direction.Direction.TheVariants.{LeftToRight, RightToLeft}
-use Rattle.ag_grammar.specs.grammars.Passes.{direction_of, other}
-use Rattle.passassign.specs.declared.stuck.Strike.{Strike}
-use Rattle.passassign.specs.declared.stuck.Stuck.{Stuck}
-use Rattle.passassign.specs.Certificate.{Attributes, Members, StrikesAll, IsCertificate, stuck_of}
-use Rattle.passassign.specs.Least.{Partial, IsLegalPartial, IsStuck}
-use Rattle.passassign.specs.Making.{IsOpen, AreIdle}
-use Rattle.passassign.specs.PassStrikes.{list_for}
+use Rattle.passassign.proofs.Common
+use Common.{ℕ, zero, suc, ◌≡◌, ◌≤◌, ◌↔◌, List, [], None, arith, Has, Differ, Grammar, Direction, LeftToRight, RightToLeft}
+use Common.{direction_of, other, Strike, Stuck, Attributes, Members, StrikesAll, IsCertificate, stuck_of, Partial, IsLegalPartial}
+use Common.{IsStuck, IsOpen, AreIdle, list_for}
 use Rattle.passassign.proofs.slots.Options.{none_of}
 use Rattle.passassign.proofs.strikes.Exactly.{are_good_more, exactly_same, strikes_all}
 use Rattle.passassign.proofs.making.Struck.{AtLeast, struck_later}

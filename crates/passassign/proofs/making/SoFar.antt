@@ -1,27 +1,11 @@
 -- The strikes of the passes made so far.
-use Rattle.std.proofs.Common.{ℕ, suc, ◌≡◌, ◌+◌, ◌/◌, ◌%◌, ◌<◌, ◌≤◌, ◌⊎◌, ◌++◌, inl, inr, List, [], ◌∷◌, Some}
-use Rattle.std.proofs.Common.{slice_get, length, refl, ap, sym, arith}
-use Rattle.std.proofs.lemmas.Bool.{cases_lt}
-use Rattle.std.proofs.lemmas.List.{get_or_past}
-use Rattle.std.proofs.lemmas.Option.{slice_get_within, slice_get-get_or, get_or_from_slice_get}
-use Rattle.std.proofs.Math.ListN.{length-append}
-use Rattle.ag_grammar.specs.Lists.{Has}
-use Rattle.ag_grammar.specs.grammars.AttributeGrammar.{Grammar, symbol_kinds}
-use Rattle.ag_grammar.specs.grammars.Passes.{IsLegal, direction_of}
-use Rattle.ag_grammar.proofs.grammars.OneSolution.{counterpart}
-use Rattle.passassign.specs.declared.assigning.PassesSoFar.{PassesSoFar}
-use Rattle.passassign.specs.declared.dependency.Dependency.{Dependency}
-use Rattle.passassign.specs.declared.stuck.Strike.{Strike}
-use Rattle.passassign.specs.declared.table.State.{State}
-use Rattle.passassign.specs.declared.table.State.TheVariants.{Absent, Open, Assigned}
-use Rattle.passassign.specs.Certificate.{IsStruckBy, StrikesExactly}
-use Rattle.passassign.specs.Least.{Partial, partial_of}
-use Rattle.passassign.specs.Making.{IsOpen, IsPass, IsMade}
-use Rattle.passassign.specs.PassStrikes.{HasPassFrom, HasPassAfter, AreStrikesAt, AreStrikesOf, HasNoPassBelow, HasNoPassUpTo}
-use Rattle.passassign.specs.PassStrikes.{AreStrikesSoFar, IsLastInUse}
-use Rattle.passassign.specs.PassesSoFar.{IsProgress, IsNext, open_count}
-use Rattle.passassign.specs.Rows.{passes_of}
-use Rattle.passassign.specs.Tables.{slot_of, state_at, state_of, pass_of_state, table_passes}
+use Rattle.passassign.proofs.Common
+use Common.{ℕ, suc, ◌≡◌, ◌+◌, ◌/◌, ◌%◌, ◌<◌, ◌≤◌, ◌⊎◌, ◌++◌, inl, inr, List, [], ◌∷◌, Some, slice_get, length, refl, ap, sym}
+use Common.{arith, cases_lt, get_or_past, slice_get_within, slice_get-get_or, get_or_from_slice_get, length-append, Has, Grammar}
+use Common.{symbol_kinds, IsLegal, direction_of, counterpart, PassesSoFar, Dependency, Strike, State, Absent, Open, Assigned}
+use Common.{IsStruckBy, StrikesExactly, Partial, partial_of, IsOpen, IsPass, IsMade, HasPassFrom, HasPassAfter, AreStrikesAt}
+use Common.{AreStrikesOf, HasNoPassBelow, HasNoPassUpTo, AreStrikesSoFar, IsLastInUse, IsProgress, IsNext, open_count, passes_of}
+use Common.{slot_of, state_at, state_of, pass_of_state, table_passes}
 use Rattle.passassign.proofs.slots.Linked.{open_there, state_in}
 use Rattle.passassign.proofs.slots.Lists.{get_push_cases}
 use Rattle.passassign.proofs.slots.Options.{none_of}
@@ -99,7 +83,7 @@ pub so_far_next : {g : Grammar} {all : List Dependency} {old new : PassesSoFar} 
     → AreStrikesSoFar g new.next (table_passes new.states.items) more
 so_far_next {lists = lists} before next one e h = rw (one, e) (so_far_more before.made next.pass lists h)
 
--- the first state is open and the second is not, or fewer of the others are
+-- if fewer states are open in a second list than in a first: x is open and y is not, or fewer are open among the rest
 first_given : (x y : State) (m n : ℕ) → bit y + n < bit x + m → ((x ≡ Open) × (y ≡ Open → ⊥)) ⊎ (n < m)
 first_given Open Open m n lt = inr (omega arith)
 first_given Open Absent m n lt = inl (refl, λ o. cc)

@@ -1,17 +1,8 @@
 -- A struck attribute has a later pass, or none, in a legal partial assignment.
-use Rattle.std.proofs.Common.{ℕ, zero, suc, ◌≡◌, ◌≤◌, inl, inr, List, [], ◌∷◌, Option, Some, arith}
-use Rattle.std.proofs.Math.Arith.{lt_of_le-ne}
-use Rattle.ag_grammar.specs.declared.grammar.Item.{Item}
-use Rattle.ag_grammar.specs.declared.grammar.Production.{Production}
-use Rattle.ag_grammar.specs.declared.grammar.Target.{Target}
-use Rattle.ag_grammar.specs.grammars.AttributeGrammar.{Grammar, item_at}
-use Rattle.ag_grammar.specs.declared.direction.Direction.{Direction}
-use Rattle.ag_grammar.specs.declared.direction.Direction.TheVariants.{LeftToRight, RightToLeft}
-use Rattle.ag_grammar.specs.grammars.Passes.{direction_of, IsBefore, MayUse}
-use Rattle.ag_grammar.proofs.grammars.OneSolution.{may_le}
-use Rattle.passassign.specs.declared.stuck.Strike.{Strike}
-use Rattle.passassign.specs.Certificate.{Attributes, IsStruckBy, IsOneOf, IsReason, IsGood, AreGood}
-use Rattle.passassign.specs.Least.{Partial, HasPassIn, IsLegalPartial, pass_at}
+use Rattle.passassign.proofs.Common
+use Common.{ℕ, zero, suc, ◌≡◌, ◌≤◌, inl, inr, List, [], ◌∷◌, Option, Some, arith, lt_of_le-ne, Item, Production, Target, Grammar}
+use Common.{item_at, Direction, LeftToRight, RightToLeft, direction_of, IsBefore, MayUse, may_le, Strike, Attributes, IsStruckBy}
+use Common.{IsOneOf, IsReason, IsGood, AreGood, Partial, HasPassIn, IsLegalPartial, pass_at}
 use Rattle.passassign.proofs.strikes.Reasons.{one_is}
 
 -- these attributes have no pass before k

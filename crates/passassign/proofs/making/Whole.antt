@@ -1,22 +1,12 @@
 -- Assignments of all attributes, and grammars that have no legal one.
-use Rattle.std.proofs.Common.{ℕ, zero, suc, ◌≡◌, ◌↔◌, inl, inr, List, [], ◌∷◌, Option, Some, None, slice_get, length, refl, sym}
-use Rattle.ag_grammar.specs.Lists.{Each}
-use Rattle.ag_grammar.specs.declared.grammar.Item.TheVariants as item
-use Rattle.ag_grammar.specs.declared.grammar.Item.{Item}
-use Rattle.ag_grammar.specs.declared.grammar.Production.{Production}
-use Rattle.ag_grammar.specs.declared.grammar.Terminal.TheVariants.{Literal, Class}
-use Rattle.ag_grammar.specs.grammars.AttributeGrammar.{Grammar, item_at, defined_kind, IsProduction, symbol_kinds}
-use Rattle.ag_grammar.specs.grammars.Accepted.{IsComplete, IsNormal}
-use Rattle.ag_grammar.specs.declared.direction.Direction.{Direction}
-use Rattle.ag_grammar.specs.declared.direction.Direction.TheVariants.{RightToLeft}
-use Rattle.ag_grammar.specs.grammars.Passes.{Passes, item_passes, HasPass, IsLegalFor, IsLegal}
-use Rattle.ag_grammar.proofs.grammars.OneSolution.{counterpart}
-use Rattle.passassign.specs.declared.stuck.Strike.{Strike}
-use Rattle.passassign.specs.declared.stuck.Stuck.{Stuck}
-use Rattle.passassign.specs.Certificate.{Attributes, Members, IsStruckBy, AreGood, IsCertificate}
-use Rattle.passassign.specs.Least.{Partial, partial_of, pass_at, HasPassIn, IsAttribute, IsLegalPartial, IsStuck, IsLeast}
-use Rattle.passassign.specs.Least.{IsAlternating}
-use Rattle.passassign.specs.Making.{IsMade, AreIdle}
+use Rattle.passassign.proofs.Common
+use Common.{ℕ, zero, suc, ◌≡◌, ◌↔◌, inl, inr, List, [], ◌∷◌, Option, Some, None, slice_get, length, refl, sym, Each, Item}
+use Common.{Production, Literal, Class, Grammar, item_at, defined_kind, IsProduction, symbol_kinds, IsComplete, IsNormal}
+use Common.{Direction, RightToLeft, Passes, IsLegalFor, IsLegal, counterpart, Strike, Stuck, Attributes, Members, IsStruckBy}
+use Common.{AreGood, IsCertificate, Partial, partial_of, pass_at, HasPassIn, IsAttribute, IsLegalPartial, IsStuck, IsLeast}
+use Common.{IsAlternating, IsMade, AreIdle}
+use Common.item
+use Rattle.ag_grammar.specs.grammars.Passes.{item_passes, HasPass}
 use Rattle.passassign.proofs.making.Made.{made_at_most}
 use Rattle.passassign.proofs.making.Legal.{made_legal}
 use Rattle.passassign.proofs.making.Rest.{members_stuck, rest_stuck}
@@ -72,7 +62,7 @@ stuck_refused g s a is stuck (m, legal) =
     let c = counterpart (symbol_kinds (slice_get g.symbols s)) (m s) a is.0 (sym (legal.whole s)) is.1 in
     cc (c.1, stuck (partial_of m) (partial_legal g m legal))
 
--- the names that good strikes strike are attributes, since a complete production has only rules of attributes
+-- what good strikes strike are attributes, since a complete production has only rules of attributes
 module _ (g : Grammar) (complete : Each (IsComplete g) g.productions) (d : Direction) (candidate : Attributes) where
   struck_known : (struck xs : List Strike) → AreGood g d candidate struck xs → (s a : ℕ) → IsStruckBy xs s a → IsAttribute g s a
   struck_known struck [] good s a hit = absurd hit

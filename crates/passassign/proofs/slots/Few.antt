@@ -1,25 +1,17 @@
 -- A production has few rules and a rule has few arguments: each is for a different attribute, and a
 -- production has few places with few attributes each.
-use Rattle.std.proofs.Common.{ℕ, zero, suc, ◌≡◌, ◌+◌, ◌*◌, ◌<◌, ◌≤◌, true, List, [], ◌∷◌, Option, Some, None, map, slice_get}
-use Rattle.std.proofs.Common.{get_or, length, inl, inr, refl, sym, eqb, arith}
+use Rattle.passassign.proofs.Common
+use Common.{ℕ, zero, suc, ◌≡◌, ◌+◌, ◌*◌, ◌<◌, ◌≤◌, true, List, [], ◌∷◌, Option, Some, None, map, slice_get, get_or, length, inl}
+use Common.{inr, refl, sym, eqb, arith, cases_order, length-map, slice_get_within, slice_get-get_or, Item, Production, Rule}
+use Common.{Target, Literal, Class, IsAccepted, Grammar, IsProduction, IsRule, Kind, Synthesized, HasKind, RefersTo, used_kind}
+use Common.{defined_kind, item_at, item_kinds, stored_items}
+use Common.item
 use Rattle.std.specs.List.{list_any, IsDistinct}
-use Rattle.std.proofs.lemmas.Bool.{cases_order}
 use Rattle.std.proofs.lemmas.Bool.Decides.{eqb_tells}
-use Rattle.std.proofs.lemmas.List.{length-map}
 use Rattle.std.proofs.lemmas.Map.Keys.{IsDistinct-from_apart}
 use Rattle.std.proofs.lemmas.Map.Steps.{length-le_from_distinct_below}
-use Rattle.std.proofs.lemmas.Option.{slice_get_within, slice_get-get_or}
-use Rattle.ag_grammar.specs.declared.grammar.Item.TheVariants as item
-use Rattle.ag_grammar.specs.declared.grammar.Item.{Item}
-use Rattle.ag_grammar.specs.declared.grammar.Production.{Production}
-use Rattle.ag_grammar.specs.declared.grammar.Rule.{Rule}
-use Rattle.ag_grammar.specs.declared.grammar.Target.{Target}
-use Rattle.ag_grammar.specs.declared.grammar.Terminal.TheVariants.{Literal, Class}
 use Rattle.ag_grammar.specs.declared.syntax.occurrence.Occ.{Occ}
 use Rattle.ag_grammar.specs.expressions.Occurrences.{AreDifferent}
-use Rattle.ag_grammar.specs.grammars.Accepted.{IsAccepted}
-use Rattle.ag_grammar.specs.grammars.AttributeGrammar.{Grammar, IsProduction, IsRule, Kind, Synthesized, HasKind, RefersTo}
-use Rattle.ag_grammar.specs.grammars.AttributeGrammar.{used_kind, defined_kind, item_at, item_kinds, stored_items}
 use Rattle.closure.proofs.Positions.{mapped_at}
 use Rattle.passassign.proofs.slots.Linked.{attribute_within, same_parts}
 

@@ -1,28 +1,11 @@
 -- The slots of a table and the dependencies in a list, for a grammar's attributes and arguments.
-use Rattle.std.proofs.Common.{ℕ, zero, suc, ◌≡◌, ◌<◌, ◌*◌, List, Option, Some, None, slice_get, length, map, refl, ap, ◌∙◌}
-use Rattle.std.proofs.Common.{sym, arith}
-use Rattle.std.proofs.lemmas.Bool.{lt-ltb}
-use Rattle.std.proofs.lemmas.Option.{slice_get_within}
-use Rattle.std.proofs.lemmas.List.{length-map}
-use Rattle.std.proofs.Math.ListN.{length-append}
-use Rattle.ag_grammar.specs.Lists.{Has}
-use Rattle.ag_grammar.specs.declared.grammar.Item.TheVariants as item
-use Rattle.ag_grammar.specs.declared.grammar.Item.{Item}
-use Rattle.ag_grammar.specs.declared.grammar.Production.{Production}
-use Rattle.ag_grammar.specs.declared.grammar.Rule.{Rule}
-use Rattle.ag_grammar.specs.declared.grammar.Symbol.{Symbol}
-use Rattle.ag_grammar.specs.declared.grammar.Target.{Target}
-use Rattle.ag_grammar.specs.grammars.Accepted.{IsAccepted}
-use Rattle.ag_grammar.specs.grammars.AttributeGrammar.{Grammar, Synthesized, Inherited, IsProduction, item_at}
-use Rattle.ag_grammar.specs.grammars.AttributeGrammar.{used_kind, defined_kind, symbol_kinds, symbol_names, places_of}
-use Rattle.passassign.specs.Dependencies.{symbol_of, table_slot, IsDependency, AreDependencies}
-use Rattle.passassign.specs.Least.{IsAttribute}
-use Rattle.passassign.specs.Making.{IsOpen}
-use Rattle.passassign.specs.Searching.{BelongTo, target_of}
-use Rattle.passassign.specs.Tables.{slot_of, state_at, state_of, pass_of_state, table_passes}
-use Rattle.passassign.specs.declared.dependency.Dependency.{Dependency}
-use Rattle.passassign.specs.declared.table.State.{State}
-use Rattle.passassign.specs.declared.table.State.TheVariants.{Absent, Open, Assigned}
+use Rattle.passassign.proofs.Common
+use Common.{ℕ, zero, suc, ◌≡◌, ◌<◌, ◌*◌, List, Option, Some, None, slice_get, length, map, refl, ap, ◌∙◌, sym, arith, lt-ltb}
+use Common.{slice_get_within, length-map, length-append, Has, Item, Production, Rule, Symbol, Target, IsAccepted, Grammar}
+use Common.{Synthesized, Inherited, IsProduction, item_at, used_kind, defined_kind, symbol_kinds, symbol_names, places_of}
+use Common.{symbol_of, table_slot, IsDependency, AreDependencies, IsAttribute, IsOpen, BelongTo, target_of, slot_of, state_at}
+use Common.{state_of, pass_of_state, table_passes, Dependency, State, Absent, Open, Assigned}
+use Common.item
 
 -- a symbol has as many kinds as names
 pub kinds_names : (s : Option Symbol) → length (symbol_kinds s) ≡ length (symbol_names s)

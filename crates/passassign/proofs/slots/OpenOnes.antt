@@ -1,14 +1,9 @@
 -- The attributes without a pass, as they are found in a table.
-use Rattle.std.proofs.Common.{ℕ, ◌≡◌, ◌<◌, ◌+◌, ◌/◌, ◌%◌, ◌⊎◌, ◌↔◌, ◌++◌, true, false, List, [], ◌∷◌, length, inl, inr}
-use Rattle.std.proofs.Common.{refl, ap, arith}
-use Rattle.std.proofs.lemmas.Bool.{cases_Bool, cases_eq, cases_lt}
-use Rattle.ag_grammar.specs.Lists.{Has}
+use Rattle.passassign.proofs.Common
+use Common.{ℕ, ◌≡◌, ◌<◌, ◌+◌, ◌/◌, ◌%◌, ◌⊎◌, ◌↔◌, ◌++◌, true, false, List, [], ◌∷◌, length, inl, inr, refl, ap, arith, cases_Bool}
+use Common.{cases_eq, cases_lt, Has, state_at, slot_of, is_open, State, Absent, Open, Assigned, slice_get_within}
+use Common.{get_or-eq_default}
 use Rattle.passassign.specs.Answer.{IsInDeclaredOrder}
-use Rattle.passassign.specs.Tables.{state_at, slot_of, is_open}
-use Rattle.passassign.specs.declared.table.State.{State}
-use Rattle.passassign.specs.declared.table.State.TheVariants.{Absent, Open, Assigned}
-use Rattle.std.proofs.lemmas.Option.{slice_get_within}
-use Rattle.std.proofs.Math.ListN.{get_or-eq_default}
 use Rattle.passassign.proofs.slots.Lists.{get_push_cases, has_kept, has_put, has_cases}
 
 pub open_is : (x : State) → is_open x ≡ true → x ≡ Open

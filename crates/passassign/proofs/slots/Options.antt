@@ -1,5 +1,5 @@
 -- Facts about a pass that an attribute may have.
-use Rattle.std.proofs.Common.{ℕ, ◌≡◌, ◌⊎◌, inl, inr, Option, Some, None, refl}
+use Rattle.passassign.proofs.Common.{ℕ, ◌≡◌, ◌⊎◌, inl, inr, Option, Some, None, refl}
 
 pub some_or_none : (x : Option ℕ) → ((p : ℕ) × (x ≡ Some p)) ⊎ (x ≡ None)
 some_or_none None = inr refl

@@ -1,16 +1,9 @@
 -- The rows of a table, as they are made one after the other.
-use Rattle.std.proofs.Common.{ℕ, ◌≡◌, ◌<◌, ◌≤◌, ◌+◌, ◌*◌, ◌++◌, List, [], ◌∷◌, Some, slice_get, length, unwrap_or, inl, inr}
-use Rattle.std.proofs.Common.{arith}
-use Rattle.std.proofs.lemmas.Bool.{cases_eq, cases_lt}
-use Rattle.std.proofs.lemmas.List.{get_or_append_left, get_or_push, map-append}
-use Rattle.std.proofs.lemmas.Option.{slice_get_past, slice_get_within}
-use Rattle.std.proofs.Math.ListN.{get_or-eq_default, length-append}
-use Rattle.std.specs.Global.{Vec}
-use Rattle.ag_grammar.specs.declared.grammar.Symbol.{Symbol}
-use Rattle.ag_grammar.specs.grammars.AttributeGrammar.{attribute_names}
-use Rattle.passassign.specs.Rows.{numbers_of, passes_of}
-use Rattle.passassign.specs.Tables.{state_at, slot_of, pass_of_state, attribute_count, AreRowsOfTable}
-use Rattle.passassign.specs.declared.table.State.{State}
+use Rattle.passassign.proofs.Common
+use Common.{ℕ, ◌≡◌, ◌<◌, ◌≤◌, ◌+◌, ◌*◌, ◌++◌, List, [], ◌∷◌, Some, slice_get, length, unwrap_or, inl, inr, arith, cases_eq}
+use Common.{cases_lt, get_or_append_left, get_or_push, map-append, slice_get_past, slice_get_within, get_or-eq_default}
+use Common.{length-append, Vec, Symbol, attribute_names, numbers_of, passes_of, state_at, slot_of, pass_of_state, attribute_count}
+use Common.{AreRowsOfTable, State}
 
 -- the rows of the first n symbols
 pub record AreRowsBelow (symbols : List Symbol) (states : List State) (n : ℕ) (rows : List (List ℕ)) : Type 0 where

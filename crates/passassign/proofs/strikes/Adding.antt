@@ -1,10 +1,7 @@
 -- Lists to which members are added.
-use Rattle.std.proofs.Common.{ℕ, ◌≡◌, ◌≤◌, ◌+◌, ◌↔◌, ◌++◌, List, [], ◌∷◌, Some, slice_get, length, inl, inr, sym}
-use Rattle.std.proofs.Common.{arith}
-use Rattle.std.proofs.lemmas.Bool.{cases_eq}
-use Rattle.std.proofs.lemmas.Option.{slice_get_within}
-use Rattle.ag_grammar.specs.Lists.{Has}
-use Rattle.passassign.specs.Dependencies.{OfEach, OfPrefix, Adds}
+use Rattle.passassign.proofs.Common
+use Common.{ℕ, ◌≡◌, ◌≤◌, ◌+◌, ◌↔◌, ◌++◌, List, [], ◌∷◌, Some, slice_get, length, inl, inr, sym, arith, cases_eq, slice_get_within}
+use Common.{Has, OfEach, OfPrefix, Adds}
 use Rattle.passassign.proofs.slots.Lists.{has_kept, has_put, has_cases}
 
 pub adds_push : {X : Type 0} (xs : List X) (y : X) → Adds (λ u. u ≡ y) xs (xs ++ y ∷ [])

@@ -1,16 +1,10 @@
 -- The certificate of the grammar `both_ways`, whose productions need both directions.
-use Rattle.std.proofs.Common.{ℕ, ◌+◌, ◌≡◌, inl, inr, [], ◌∷◌, refl, ap, arith}
-use Rattle.ag_grammar.specs.Lists.{Each, Differ}
-use Rattle.ag_grammar.specs.declared.grammar.Rule.{Rule}
-use Rattle.ag_grammar.specs.declared.grammar.Target.{Target}
-use Rattle.ag_grammar.specs.grammars.AttributeGrammar.{Synthesized}
-use Rattle.ag_grammar.specs.declared.direction.Direction.{Direction}
-use Rattle.ag_grammar.specs.declared.direction.Direction.TheVariants.{LeftToRight, RightToLeft}
+use Rattle.passassign.proofs.Common
+use Common.{ℕ, ◌+◌, ◌≡◌, inl, inr, [], ◌∷◌, refl, ap, arith, Each, Differ, Rule, Target, Synthesized, Direction, LeftToRight}
+use Common.{RightToLeft, Members, IsStruckBy, IsGood, StrikesAll, IsCertificate, IsAlternating}
 use Rattle.ag_grammar.specs.grammars.Sample.{attribute, both_ways, copy_rule, s_name, production_r, production_back, rule_out}
 use Rattle.ag_grammar.specs.grammars.Sample.{rule_first, rule_second}
 use Rattle.ag_grammar.proofs.grammars.Members.{both, pair, each_more, differ_more}
-use Rattle.passassign.specs.Certificate.{Members, IsStruckBy, IsGood, StrikesAll, IsCertificate}
-use Rattle.passassign.specs.Least.{IsAlternating}
 use Rattle.passassign.specs.Sample.{strike, strikes_by, both_ways_stuck, exchanged}
 use Rattle.passassign.proofs.making.Rest.{members_stuck}
 use Rattle.passassign.proofs.strikes.Exactly.{strikes_all}

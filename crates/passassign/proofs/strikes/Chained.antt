@@ -1,18 +1,10 @@
 -- Chains of strikes: their meaning, and that each good strike begins one.
-use Rattle.std.proofs.Common.{ℕ, suc, ◌≡◌, ◌≤◌, ◌⊎◌, inl, inr, List, [], ◌∷◌, Option, Some, None, zero, slice_get, take, refl}
-use Rattle.ag_grammar.specs.Lists.{Has}
-use Rattle.ag_grammar.specs.declared.grammar.Item.TheVariants as item
-use Rattle.ag_grammar.specs.declared.grammar.Production.{Production}
-use Rattle.ag_grammar.specs.declared.grammar.Rule.{Rule}
-use Rattle.ag_grammar.specs.declared.grammar.Target.{Target}
-use Rattle.ag_grammar.specs.grammars.AttributeGrammar.{Grammar, item_at}
-use Rattle.ag_grammar.specs.declared.direction.Direction.{Direction}
-use Rattle.ag_grammar.specs.grammars.Passes.{direction_of}
-use Rattle.passassign.specs.declared.stuck.Strike.{Strike}
-use Rattle.passassign.specs.Certificate.{Attributes, IsStruckBy, IsReason, IsGood, IsGoodWhere, AreGood}
-use Rattle.passassign.specs.Chains.{first_only, AreAwaitedBefore, AreLinked, IsAwaited, IsChain, IsChainOf, IsWait, Names}
-use Rattle.passassign.specs.Chains.{WaitsFor, WaitsForNone}
-use Rattle.passassign.specs.Least.{Partial, IsLegalPartial}
+use Rattle.passassign.proofs.Common
+use Common.{ℕ, suc, ◌≡◌, ◌≤◌, ◌⊎◌, inl, inr, List, [], ◌∷◌, Option, Some, None, zero, slice_get, take, refl, Has, Production}
+use Common.{Rule, Target, Grammar, item_at, Direction, direction_of, Strike, Attributes, IsStruckBy, IsReason, IsGood}
+use Common.{IsGoodWhere, AreGood, AreAwaitedBefore, AreLinked, IsChainOf, WaitsFor, WaitsForNone, Partial, IsLegalPartial}
+use Common.item
+use Rattle.passassign.specs.Chains.{first_only, IsAwaited, IsChain, IsWait, Names}
 use Rattle.passassign.proofs.making.Struck.{AtLeast, not_here}
 use Rattle.passassign.proofs.strikes.Following.{has_strikes, strikes_open}
 use Rattle.passassign.proofs.strikes.Reasons.{AreWithin, good_for, good_more, one_is}

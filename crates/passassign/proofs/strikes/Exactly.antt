@@ -1,9 +1,6 @@
 -- Lists that strike exactly some attributes.
-use Rattle.std.proofs.Common.{List, [], ◌∷◌}
-use Rattle.ag_grammar.specs.grammars.AttributeGrammar.{Grammar}
-use Rattle.ag_grammar.specs.declared.direction.Direction.{Direction}
-use Rattle.passassign.specs.declared.stuck.Strike.{Strike}
-use Rattle.passassign.specs.Certificate.{Attributes, IsStruckBy, AreGood, StrikesExactly, StrikesAll}
+use Rattle.passassign.proofs.Common
+use Common.{List, [], ◌∷◌, Grammar, Direction, Strike, Attributes, IsStruckBy, AreGood, StrikesExactly, StrikesAll}
 use Rattle.passassign.proofs.strikes.Following.{strikes_open}
 use Rattle.passassign.proofs.strikes.Reasons.{AreWithin, good_more}
 
@@ -18,7 +15,7 @@ pub strikes_all : (g : Grammar) (d : Direction) (candidate : Attributes) (xs : L
     → AreWithin candidate (IsStruckBy xs) → StrikesAll g d candidate xs
 strikes_all g d candidate xs good all = record { good = good; all = all; only = strikes_open g d candidate [] xs good }
 
--- A list that strikes exactly the attributes of `later` does so with more candidates too. (`same` has the same attributes.)
+-- A list that strikes exactly the attributes of `later` does so with more candidates too. (`same` has the attributes of `later`.)
 pub exactly_same : {g : Grammar} {d : Direction} {some more later same : Attributes} {xs : List Strike}
     → StrikesExactly g d some later xs → AreWithin some more → AreWithin later same → AreWithin same later
     → StrikesExactly g d more same xs

@@ -1,15 +1,8 @@
 -- Struck attributes, named by their numbers and by their slots in the table.
-use Rattle.std.proofs.Common.{ℕ, zero, suc, ◌≡◌, ◌<◌, ◌⊎◌, List, [], ◌∷◌, slice_get, Some, inl, inr, refl}
-use Rattle.ag_grammar.specs.Lists.{Has}
-use Rattle.ag_grammar.specs.grammars.AttributeGrammar.{Grammar}
-use Rattle.ag_grammar.specs.declared.direction.Direction.{Direction}
-use Rattle.passassign.specs.Certificate.{Attributes, IsStruckBy, IsReason, IsGood, AreGood}
-use Rattle.passassign.specs.Making.{IsOpen}
-use Rattle.passassign.specs.Searching.{IsBarred, IsStruckAt, BelongTo}
-use Rattle.passassign.specs.Tables.{slot_of, table_passes}
-use Rattle.passassign.specs.declared.dependency.Dependency.{Dependency}
-use Rattle.passassign.specs.declared.stuck.Strike.{Strike}
-use Rattle.passassign.specs.declared.table.State.{State}
+use Rattle.passassign.proofs.Common
+use Common.{ℕ, zero, suc, ◌≡◌, ◌<◌, ◌⊎◌, List, [], ◌∷◌, slice_get, Some, inl, inr, refl, Has, Grammar, Direction, Attributes}
+use Common.{IsStruckBy, IsReason, IsGood, AreGood, IsOpen, IsBarred, IsStruckAt, BelongTo, slot_of, table_passes, Dependency}
+use Common.{Strike, State}
 use Rattle.passassign.proofs.slots.Linked.{Parts, argument_within, slot_same, open_there, open_state}
 
 pub strikes_has : (xs : List Strike) (s a : ℕ) → IsStruckBy xs s a → (x : Strike) × Has xs x × (x.symbol ≡ s) × (x.attr ≡ a)

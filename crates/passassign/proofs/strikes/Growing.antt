@@ -1,11 +1,7 @@
 -- A list of strikes grows at its end.
-use Rattle.std.proofs.Common.{ℕ, ◌⊎◌, inl, inr, List, [], ◌∷◌, ◌++◌}
-use Rattle.ag_grammar.specs.grammars.AttributeGrammar.{Grammar}
-use Rattle.ag_grammar.specs.declared.direction.Direction.{Direction}
-use Rattle.passassign.specs.declared.stuck.Strike.{Strike}
-use Rattle.passassign.specs.Certificate.{Attributes, IsStruckBy, IsGood, AreGood}
-use Rattle.passassign.specs.Least.{Partial}
-use Rattle.passassign.specs.Making.{IsOpen}
+use Rattle.passassign.proofs.Common
+use Common.{ℕ, ◌⊎◌, inl, inr, List, [], ◌∷◌, ◌++◌, Grammar, Direction, Strike, Attributes, IsStruckBy, IsGood, AreGood, Partial}
+use Common.{IsOpen}
 use Rattle.passassign.proofs.strikes.Reasons.{good_more}
 
 -- one more strike x, which is good after the strikes `struck`, at the end of a list that has these

@@ -1,11 +1,8 @@
 -- A good strike stays good with more candidates and more struck attributes before it.
-use Rattle.std.proofs.Common.{ℕ, ◌≡◌, inl, inr, Option, Some, None, refl}
-use Rattle.ag_grammar.specs.declared.grammar.Item.TheVariants as item
-use Rattle.ag_grammar.specs.declared.grammar.Item.{Item}
-use Rattle.ag_grammar.specs.grammars.AttributeGrammar.{Grammar, item_at}
-use Rattle.ag_grammar.specs.declared.direction.Direction.{Direction}
-use Rattle.passassign.specs.declared.stuck.Strike.{Strike}
-use Rattle.passassign.specs.Certificate.{Attributes, IsOneOf, IsReasonWhere, IsGoodWhere}
+use Rattle.passassign.proofs.Common
+use Common.{ℕ, ◌≡◌, inl, inr, Option, Some, None, refl, Item, Grammar, item_at, Direction, Strike, Attributes, IsOneOf}
+use Common.{IsReasonWhere, IsGoodWhere}
+use Common.item
 
 abbrev pub AreWithin : Attributes → Attributes → Type 0
 AreWithin some more = (s a : ℕ) → some s a → more s a

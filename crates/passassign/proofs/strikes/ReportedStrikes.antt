@@ -1,34 +1,23 @@
 -- The strikes that `search` returns are good. Each is that of a dependency, which is the reason of an addition of `closure`.
-use Rattle.std.proofs.Common.{ℕ, zero, suc, ◌≡◌, ◌<◌, ◌≤◌, ◌+◌, ◌⊎◌, ◌↔◌, Bool, true, List, [], ◌∷◌, ◌++◌, Some}
-use Rattle.std.proofs.Common.{All, map, take, slice_get, length, get_or, inl, inr, refl, ◌∙◌, arith}
-use Rattle.std.proofs.lemmas.Bool.{cases_eq}
+use Rattle.passassign.proofs.Common
+use Common.{ℕ, zero, suc, ◌≡◌, ◌<◌, ◌≤◌, ◌+◌, ◌⊎◌, ◌↔◌, Bool, true, List, [], ◌∷◌, ◌++◌, Some, All, map, take, slice_get, length}
+use Common.{get_or, inl, inr, refl, ◌∙◌, arith, cases_eq, take_all, slice_get-get_or, slice_get_within, get_or_from_slice_get}
+use Common.{Has, Grammar, item_at, Direction, Addition, IsStruckBy, IsGood, AreGood, dependency_of, head_of, IsOpen, target_of}
+use Common.{edge_of, IsBarred, IsStrikeOf, IsStruckAt, BelongTo, IsSearch, slot_of, state_at, is_marked, table_passes, Dependency}
+use Common.{Strike, State, Open}
+use Common.item
 use Rattle.std.proofs.Math.Seq.{take-suc}
-use Rattle.std.proofs.lemmas.List.{take_all}
 use Rattle.std.proofs.lemmas.List.Elements.{All-head, All-map}
-use Rattle.std.proofs.lemmas.Option.{slice_get-get_or, slice_get_within, get_or_from_slice_get}
-use Rattle.ag_grammar.specs.Lists.{Has}
-use Rattle.ag_grammar.specs.declared.grammar.Item.TheVariants as item
-use Rattle.ag_grammar.specs.grammars.AttributeGrammar.{Grammar, item_at}
-use Rattle.ag_grammar.specs.declared.direction.Direction.{Direction}
 use Rattle.closure.specs.Additions.{IsAdded, IsAddedBefore, IsReason as IsReasonOf, AreInOrder}
 use Rattle.closure.specs.Edges.{clause_of_edge, IsEdgeBelow}
 use Rattle.closure.specs.Following.{AreClosure, seed}
-use Rattle.closure.specs.declared.addition.Addition.{Addition}
 use Rattle.closure.specs.declared.addition.Reason.{Reason}
 use Rattle.closure.specs.declared.addition.Reason.TheVariants as reason
 use Rattle.closure.specs.declared.clause.Clause.{Clause}
 use Rattle.closure.proofs.Positions.{at_mapped, element_at, mapped_at}
 use Rattle.closure.proofs.Reached.{step}
-use Rattle.passassign.specs.Certificate.{IsStruckBy, IsGood, AreGood}
-use Rattle.passassign.specs.Dependencies.{dependency_of, head_of}
-use Rattle.passassign.specs.Making.{IsOpen}
-use Rattle.passassign.specs.Searching.{target_of, edge_of, dependency_by, IsBarred, AreBarred, IsStrikeOf}
-use Rattle.passassign.specs.Searching.{AreStrikesBy, IsStruckAt, BelongTo, IsSearch}
-use Rattle.passassign.specs.Tables.{slot_of, state_at, is_marked, table_passes}
-use Rattle.passassign.specs.declared.dependency.Dependency.{Dependency}
-use Rattle.passassign.specs.declared.stuck.Strike.{Strike}
-use Rattle.passassign.specs.declared.table.State.{State}
-use Rattle.passassign.specs.declared.table.State.TheVariants.{Open}
+use Rattle.passassign.specs.Searching.{dependency_by, AreBarred}
+use Rattle.passassign.specs.Searching.{AreStrikesBy}
 use Rattle.passassign.proofs.slots.Lists.{get_push_end, get_push_front}
 use Rattle.passassign.proofs.strikes.Following.{strikes_open, has_strikes, struck_at, at_struck, good_by}
 use Rattle.passassign.proofs.strikes.Growing.{strikes_grow}

@@ -1,13 +1,8 @@
 -- Strikes in the sample grammars.
-use Rattle.std.proofs.Common.{ℕ, ◌≡◌, ◌≤◌, inl, inr, List, [], ◌∷◌, refl, arith}
-use Rattle.ag_grammar.specs.declared.grammar.Production.{Production}
-use Rattle.ag_grammar.specs.declared.grammar.Rule.{Rule}
-use Rattle.ag_grammar.specs.declared.grammar.Target.{Target}
-use Rattle.ag_grammar.specs.grammars.AttributeGrammar.{Grammar, IsProduction, item_at}
-use Rattle.ag_grammar.specs.declared.direction.Direction.{Direction}
-use Rattle.ag_grammar.specs.grammars.Passes.{IsBefore}
+use Rattle.passassign.proofs.Common
+use Common.{ℕ, ◌≡◌, ◌≤◌, inl, inr, List, [], ◌∷◌, refl, arith, Production, Rule, Target, Grammar, IsProduction, item_at}
+use Common.{Direction, IsBefore, Attributes, IsStruckBy, IsReason, AreGood}
 use Rattle.ag_grammar.specs.grammars.Sample.{attribute, production_r, production_a, rule_out, rule_s}
-use Rattle.passassign.specs.Certificate.{Attributes, IsStruckBy, IsReason, AreGood}
 use Rattle.passassign.specs.Sample.{strike}
 use Rattle.passassign.proofs.strikes.Reasons.{one_is}
 

@@ -1,13 +1,8 @@
 -- A walk down the strikes of a list, from each to the one that it waits for.
-use Rattle.std.proofs.Common.{ℕ, ◌≡◌, ◌<◌, ◌++◌, List, [], ◌∷◌, Option, None, Some, Result, Ok, Err, IfOk, IfSome, slice_get}
-use Rattle.std.proofs.Common.{get_or, take, length, inl, inr, refl}
-use Rattle.std.proofs.lemmas.Option.{slice_get-get_or, get_or_from_slice_get}
-use Rattle.ag_grammar.specs.Lists.{Has}
-use Rattle.ag_grammar.specs.grammars.AttributeGrammar.{Grammar}
-use Rattle.ag_grammar.specs.declared.direction.Direction.{Direction}
-use Rattle.passassign.specs.declared.stuck.Strike.{Strike}
-use Rattle.passassign.specs.Certificate.{Attributes, AreGood, IsStruckBy}
-use Rattle.passassign.specs.Chains.{AreAwaitedBefore, AreLinked, IsChainOf, StartsWith, WaitsFor, WaitsForNone, strike_at}
+use Rattle.passassign.proofs.Common
+use Common.{ℕ, ◌≡◌, ◌<◌, ◌++◌, List, [], ◌∷◌, Option, None, Some, Result, Ok, Err, IfOk, IfSome, slice_get, get_or, take, length}
+use Common.{inl, inr, refl, slice_get-get_or, get_or_from_slice_get, Has, Grammar, Direction, Strike, Attributes, AreGood}
+use Common.{IsStruckBy, AreAwaitedBefore, AreLinked, IsChainOf, StartsWith, WaitsFor, WaitsForNone, strike_at}
 use Rattle.passassign.proofs.slots.Lists.{get_push_cases}
 use Rattle.passassign.proofs.strikes.Chained.{good_awaited, linked_chain}
 use Rattle.passassign.proofs.strikes.ReportedStrikes.{in_take}

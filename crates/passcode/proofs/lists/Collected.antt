@@ -1,18 +1,11 @@
 -- The lists of a production, and those of all productions, as they are collected.
-use Rattle.std.proofs.Common.{ℕ, ◌≡◌, ◌+◌, ◌-◌, ◌⊎◌, ◌++◌, List, [], ◌∷◌, Some, slice_get, get_or, length, inl, inr, ap, ◌∙◌, sym}
-use Rattle.std.proofs.Common.{subst, arith}
-use Rattle.std.proofs.lemmas.Bool.{cases_lt}
+use Rattle.passcode.proofs.Common
+use Common.{ℕ, ◌≡◌, ◌+◌, ◌-◌, ◌⊎◌, ◌++◌, List, [], ◌∷◌, Some, slice_get, get_or, length, inl, inr, ap, ◌∙◌, sym, subst, arith}
+use Common.{cases_lt, slice_get-get_or, slice_get_cases, Each, Production, Grammar, Passes, Instr, AreGeneratedLists}
+use Common.{generated_list, Lists, IsListAt, row_of, rows_of}
 use Rattle.std.proofs.lemmas.List.{map_push, length-map, get_or_past}
-use Rattle.std.proofs.lemmas.Option.{slice_get-get_or, slice_get_cases}
 use Rattle.std.specs.Global.{Vec}
-use Rattle.ag_grammar.specs.Lists.{Each}
-use Rattle.ag_grammar.specs.declared.grammar.Production.{Production}
-use Rattle.ag_grammar.specs.grammars.AttributeGrammar.{Grammar}
-use Rattle.ag_grammar.specs.grammars.Passes.{Passes}
 use Rattle.passassign.proofs.slots.Lists.{get_push_cases}
-use Rattle.passcode.specs.declared.instr.Instr.{Instr}
-use Rattle.passcode.specs.Listing.{AreGeneratedLists, generated_list}
-use Rattle.passcode.specs.Rows.{Lists, IsListAt, row_of, rows_of}
 
 -- the list of a production and a pass
 abbrev pub IsGenerated : Passes → Production → ℕ → List Instr → Type 0

@@ -1,18 +1,11 @@
 -- A list that agrees has one instruction for each rule of its production and pass.
-use Rattle.std.proofs.Common.{◌≡◌, ℕ, zero, suc, ◌+◌, ◌<◌, ◌≤◌, inl, inr, Bool, true, false, cond, List, [], ◌∷◌, length}
-use Rattle.std.proofs.Common.{Some, slice_get, refl, ap, sym, subst, ◌∙◌, arith}
-use Rattle.std.specs.Prelude.{nat_eq}
-use Rattle.std.specs.List.{count_by}
-use Rattle.std.proofs.lemmas.Bool.{cases_lt, eq-eqb, eqb-true, ne_eqb}
-use Rattle.std.proofs.lemmas.Option.{slice_get_within}
-use Rattle.ag_grammar.specs.declared.grammar.Production.{Production}
-use Rattle.ag_grammar.specs.declared.grammar.Rule.{Rule}
+use Rattle.passcode.proofs.Common
+use Common.{◌≡◌, ℕ, zero, suc, ◌+◌, ◌<◌, ◌≤◌, inl, inr, Bool, true, false, cond, List, [], ◌∷◌, length, Some, slice_get, refl, ap}
+use Common.{sym, subst, ◌∙◌, arith, nat_eq, count_by, cases_lt, eq-eqb, eqb-true, ne_eqb, slice_get_within, Production, Rule}
+use Common.{Passes, HasPass, Instr, IsComputation, ListAgrees, IsRuleAt, OccursOnceIf, set_or_def, instruction_of}
+use Common.instr
 use Rattle.ag_grammar.specs.grammars.Counts.{is_of_pass, is_pass, pass_at, pass_rule_count}
-use Rattle.ag_grammar.specs.grammars.Passes.{Passes, HasPass}
 use Rattle.ag_grammar.proofs.grammars.Counting.{count_more}
-use Rattle.passcode.specs.declared.instr.Instr.{Instr}
-use Rattle.passcode.specs.declared.instr.Instr.TheVariants as instr
-use Rattle.passcode.specs.Agreement.{IsComputation, ListAgrees, IsRuleAt, OccursOnceIf, set_or_def, instruction_of}
 use Rattle.passcode.specs.Counts.{is_computation}
 use Rattle.passcode.specs.Laws.{ListsEvaluateRules}
 use Rattle.passcode.proofs.Leaving.{is_the_pass}

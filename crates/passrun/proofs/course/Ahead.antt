@@ -1,44 +1,22 @@
 -- The children still to be read at each step.
-use Rattle.std.proofs.Common.{ℕ, suc, ◌≡◌, ◌<◌, ◌≤◌, true, List, [], ◌∷◌, Option, Some, None, Result, Ok, Err, Bor}
-use Rattle.std.proofs.Common.{slice_get, length, refl, sym, subst, arith}
-use Rattle.ag_value.specs.declared.value.Value.{Value}
-use Rattle.ag_grammar.specs.declared.grammar.Item.{Item}
-use Rattle.ag_grammar.specs.declared.grammar.Item.TheVariants as item
-use Rattle.ag_grammar.specs.declared.grammar.Terminal.TheVariants.{Literal, Class}
-use Rattle.ag_grammar.specs.declared.grammar.Production.{Production}
-use Rattle.ag_grammar.specs.grammars.AttributeGrammar.{IsProduction, item_at, stored_items}
-use Rattle.ag_grammar.specs.grammars.Passes.{direction_of, other, nth}
-use Rattle.ag_grammar.specs.grammars.Tree.{max_depth, max_nodes}
-use Rattle.ag_grammar.specs.grammars.Solution.{left_passes}
+use Rattle.passrun.proofs.Common
+use Common.{ℕ, suc, ◌≡◌, ◌<◌, ◌≤◌, true, List, [], ◌∷◌, Option, Some, None, Result, Ok, Err, Bor, slice_get, length, refl, sym}
+use Common.{subst, arith, Value, Item, Literal, Class, Production, IsProduction, item_at, stored_items, direction_of, other, nth}
+use Common.{max_depth, max_nodes, left_passes, FrameFault, next_before, ReadsAs, values_up_to, version_two, Child, MatchesCopy}
+use Common.{IsNodeRecord, IsRecordOf, Pending, before_others, children_with_copies, damage_is_there, never_no_file}
+use Common.{fits_version_two, one_token, same_node, BackState, Setting, pass_direction, IsSound, RunFault, IsRunFault, following}
+use Common.{children_of, pending_of_child, ArrivesAt, IsDamaged, IsReadable, source, run_fault_of_frame, IsMissing, IsUnfetched}
+use Common.{Table, copied_passes, copies, in_children, AgreeAt, IsRead, read_values, copies_counted, copies_well, mended, tabled}
+use Common.item
+use Common.frame_fault
+use Common.fault
 use Rattle.ag_value.proofs.operations.Wells.{well_text}
-use Rattle.treefile.specs.declared.reading.FrameFault.{FrameFault}
-use Rattle.treefile.specs.declared.reading.FrameFault.TheVariants as frame_fault
-use Rattle.treefile.specs.framing.Backward.{next_before}
-use Rattle.treefile.specs.framing.Ending.{ReadsAs}
-use Rattle.treefile.specs.records.Records.{values_up_to}
-use Rattle.treefile.specs.records.TreeFile.{version_two}
 use Rattle.treefile.specs.framing.ExpectedRecords as expected
-use Rattle.treefile.specs.framing.ExpectedRecords.{Child, MatchesCopy, IsNodeRecord, IsRecordOf, Pending, before_others}
-use Rattle.treefile.specs.framing.ExpectedRecords.{children_with_copies}
 use Rattle.treefile.proofs.framing.PendingChildren.{all_pending, next_pending}
-use Rattle.treefile.proofs.framing.Backward.{damage_is_there, never_no_file}
-use Rattle.treefile.proofs.records.Fitting.{fits_version_two}
-use Rattle.treefile.proofs.records.Spelled.{one_token, same_node}
-use Rattle.backreader.specs.BackState.{BackState}
 use Rattle.passcode.specs.Course.{arity, place_of}
-use Rattle.passcode.specs.Settings.{Setting, pass_direction}
-use Rattle.passcode.specs.Sound.{IsSound}
-use Rattle.pass_rows.specs.declared.run_fault.RunFault.{RunFault}
-use Rattle.pass_rows.specs.declared.run_fault.RunFault.TheVariants as fault
-use Rattle.passrun.specs.passing.Ahead.{IsRunFault, following, children_of, pending_of_child}
-use Rattle.passrun.specs.Damage.{ArrivesAt, IsDamaged, IsReadable, source}
-use Rattle.pass_rows.specs.Faults.{run_fault_of_frame}
-use Rattle.passrun.specs.reading.Fetching.{IsMissing, IsUnfetched}
-use Rattle.pass_rows.specs.Places.{Table, copied_passes, copies, in_children}
-use Rattle.pass_rows.specs.reading.Reading.{AgreeAt, IsNoRecord, IsRead, read_values}
+use Rattle.pass_rows.specs.reading.Reading.{IsNoRecord}
 use Rattle.passrun.proofs.places.Copies.{copies_at, copies_length}
 use Rattle.passrun.proofs.Damage.{broken, decidable, too_deep, too_many}
-use Rattle.pass_rows.proofs.Recorded.{copies_counted, copies_well, mended, tabled}
 use Rattle.passrun.proofs.places.Slots.{copied_is}
 use Rattle.passrun.proofs.places.Tables.{same_values, text_row}
 

@@ -1,32 +1,15 @@
 -- The number of bodies read and written, and of rules run.
-use Rattle.std.proofs.Common.{ℕ, suc, ◌≡◌, ◌+◌, ◌*◌, ◌<◌, ◌≤◌, List, [], ◌∷◌, Option, Some, None, slice_get, length, refl, ap}
-use Rattle.std.proofs.Common.{◌∙◌, arith, length-append}
+use Rattle.passrun.proofs.Common
+use Common.{ℕ, suc, ◌≡◌, ◌+◌, ◌*◌, ◌<◌, ◌≤◌, List, [], ◌∷◌, Option, Some, None, slice_get, length, refl, ap, ◌∙◌, arith}
+use Common.{length-append, Value, Production, Direction, max_rules, Grammar, stored_items, Passes, Valuation, children, Tree}
+use Common.{Forest, leaf, node, none, more, node_count, node_counts, is_of_pass, pass_rule_count, rules_of_pass, totals, postfix}
+use Common.{postfix_all, prefix, prefix_all, Pending, bodies_of, bodies_of_all, node_body, version_two, Phase, Between, Got, Gone}
+use Common.{Ended, Setting, pass_direction, IsSound, OpenNode, Transcript, Expects, IsCurrent, RunInvariant, IsRootReady}
+use Common.{IsOpenNode, below, after_reading, put_of, rules_at, Table, copies, in_children, bodies_count, bodies_counts}
 use Rattle.std.proofs.lemmas.List.Sums.{count_by-le-length}
-use Rattle.ag_value.specs.declared.value.Value.{Value}
-use Rattle.ag_grammar.specs.declared.grammar.Production.{Production}
-use Rattle.ag_grammar.specs.declared.direction.Direction.{Direction}
-use Rattle.ag_grammar.specs.grammars.Accepted.{max_rules}
-use Rattle.ag_grammar.specs.grammars.AttributeGrammar.{Grammar, stored_items}
-use Rattle.ag_grammar.specs.grammars.Passes.{Passes}
-use Rattle.ag_grammar.specs.grammars.Solution.{Valuation, children}
-use Rattle.ag_grammar.specs.grammars.Tree.{Tree, Forest, leaf, node, none, more, node_count, node_counts}
-use Rattle.ag_grammar.specs.grammars.Counts.{is_of_pass, pass_rule_count, rules_of_pass, totals}
-use Rattle.treefile.specs.records.Orders.{postfix, postfix_all, prefix, prefix_all}
-use Rattle.treefile.specs.framing.ExpectedRecords.{Pending}
-use Rattle.treefile.specs.records.Records.{bodies_of, bodies_of_all, node_body}
-use Rattle.treefile.specs.records.TreeFile.{version_two}
-use Rattle.passcode.specs.declared.phase.Phase.{Phase}
-use Rattle.passcode.specs.declared.phase.Phase.TheVariants.{Between, Got, Gone, Ended}
 use Rattle.passcode.specs.Course.{State, place_of}
-use Rattle.passcode.specs.Settings.{Setting, pass_direction}
-use Rattle.passcode.specs.Sound.{IsSound}
 use Rattle.passassign.proofs.slots.Few.{few_rules}
-use Rattle.pass_rows.specs.declared.open_node.OpenNode.{OpenNode}
-use Rattle.passrun.specs.passing.RunInvariant.{Transcript, Expects, IsCurrent, RunInvariant, IsRootReady, IsOpenNode, below}
-use Rattle.passrun.specs.passing.RunInvariant.{after_reading, put_of, rules_at}
-use Rattle.pass_rows.specs.Places.{Table, copies, in_children}
 use Rattle.treefile.proofs.records.Orders.{length-postfix, length-postfix_all, length-prefix_all}
-use Rattle.treefile.proofs.records.Records.{bodies_count, bodies_counts}
 use Rattle.passrun.proofs.course.Finish.{count_of}
 
 -- One body is read and one is written for each node.

@@ -1,46 +1,18 @@
 -- The beginning and the end of a pass.
-use Rattle.std.specs.Global.{Vec}
-use Rattle.std.specs.Option.{option_map}
-use Rattle.std.proofs.Common.{ℕ, ◌≡◌, ◌+◌, ◌-◌, ◌^◌, ◌<◌, ◌≤◌, Bool, true, false, List, [], ◌∷◌, ◌++◌, Option, Some, None, Result}
-use Rattle.std.proofs.Common.{Ok, All, length, reverse, is_some, Bor, refl, ap, ◌∙◌, sym, subst, arith, append-nil}
-use Rattle.ag_value.specs.declared.value.Value.{Value}
-use Rattle.ag_value.specs.Well.{IsWell}
-use Rattle.std.proofs.lemmas.List.Elements.{All-append}
-use Rattle.ag_grammar.specs.declared.grammar.Item.TheVariants as item
-use Rattle.ag_grammar.specs.grammars.AttributeGrammar.{stored_items}
-use Rattle.ag_grammar.specs.grammars.Passes.{direction_of, other}
-use Rattle.passrun.specs.passing.Ahead.{following, children_of, pending_of_child}
-use Rattle.ag_grammar.specs.grammars.Tree.{max_nodes}
-use Rattle.treefile.specs.declared.reading.FrameFault.{FrameFault}
-use Rattle.treefile.specs.framing.Backward.{ReadsTo, next_before}
-use Rattle.treefile.specs.devices.Device.{LeavesContent, WhenHonest}
-use Rattle.treefile.specs.records.Records.{values_up_to}
-use Rattle.treefile.specs.declared.body.Kind.TheVariants.{Node}
-use Rattle.treefile.specs.framing.ExpectedRecords.{before_others}
-use Rattle.treefile.specs.records.TreeFile.{body_of, header, version_two}
-use Rattle.treefile.specs.framing.Writing as writing
-use Rattle.treefile.proofs.framing.Backward.{none_at_header}
-use Rattle.treefile.proofs.records.Values.{values_well}
-use Rattle.backreader.specs.BackState.{HasRead, BackState, IsOver, lent_body}
+use Rattle.passrun.proofs.Common
+use Common.{Vec, option_map, ℕ, ◌≡◌, ◌+◌, ◌-◌, ◌^◌, ◌<◌, ◌≤◌, Bool, true, false, List, [], ◌∷◌, ◌++◌, Option, Some, None, Result}
+use Common.{Ok, All, length, reverse, is_some, Bor, refl, ap, ◌∙◌, sym, subst, arith, append-nil, Value, IsWell, All-append}
+use Common.{stored_items, direction_of, other, following, children_of, pending_of_child, max_nodes, FrameFault, ReadsTo}
+use Common.{next_before, LeavesContent, WhenHonest, values_up_to, Node, before_others, body_of, header, version_two}
+use Common.{none_at_header, values_well, HasRead, BackState, IsOver, lent_body, Between, Setting, IsSound, Machine, OpenNode}
+use Common.{IsReadable, source, RunsBetween, first_at, copies, stored, HasFetched, IsPassed, IsRunning, RunInvariant, Transcript}
+use Common.{after_reading, HasPut, Runs, copies_well, first_row}
+use Common.item
+use Common.writing
 use Rattle.backreader.proofs.EndingAt.{all_bytes}
-use Rattle.passcode.specs.declared.phase.Phase.TheVariants.{Between}
-use Rattle.passcode.specs.Settings.{Setting}
-use Rattle.passcode.specs.Sound.{IsSound}
-use Rattle.passrun.specs.declared.passing.machine.Machine.{Machine}
-use Rattle.pass_rows.specs.declared.open_node.OpenNode.{OpenNode}
-use Rattle.passrun.specs.Damage.{IsReadable, source}
-use Rattle.passrun.specs.passing.Ends.{RunsBetween}
-use Rattle.pass_rows.specs.Nodes.{first_at}
-use Rattle.pass_rows.specs.Places.{copies, stored}
-use Rattle.passrun.specs.reading.Fetching.{HasFetched}
-use Rattle.passrun.specs.Passed.{IsPassed, IsRunning}
-use Rattle.passrun.specs.passing.RunInvariant.{RunInvariant, Transcript, after_reading}
-use Rattle.passrun.specs.passing.Putting.{HasPut}
-use Rattle.passrun.specs.passing.Running.{Runs}
 use Rattle.passrun.proofs.course.Ahead.{is_record, of_node_is}
 use Rattle.passrun.proofs.course.Counted.{ready_counted}
 use Rattle.passrun.proofs.course.Finish.{finished}
-use Rattle.pass_rows.proofs.Recorded.{copies_well, first_row}
 use Rattle.passrun.proofs.steps.Running.{put_more}
 use Rattle.passrun.proofs.steps.Steps.{opened}
 

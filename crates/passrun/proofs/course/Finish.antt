@@ -1,27 +1,11 @@
 -- The result of a pass whose root is written and which has no frame left to read.
-use Rattle.std.specs.List.{flat_map}
-use Rattle.std.proofs.Common.{ℕ, ◌≡◌, ◌≤◌, List, [], ◌∷◌, ◌++◌, None, Ok, length, reverse, true, refl, ◌∙◌, arith}
-use Rattle.std.proofs.lemmas.List.{reverse-reverse}
-use Rattle.ag_value.specs.declared.value.Value.{Value}
-use Rattle.ag_grammar.specs.declared.direction.Direction.{Direction}
-use Rattle.ag_grammar.specs.grammars.AttributeGrammar.{Grammar}
-use Rattle.ag_grammar.specs.grammars.Passes.{Passes, direction_of, other}
-use Rattle.ag_grammar.specs.grammars.Solution.{Valuation, NoRule, OfPass, WellAt}
-use Rattle.ag_grammar.specs.grammars.Tree.{Tree, node_count, max_nodes}
-use Rattle.ag_grammar.proofs.grammars.EachNode.{each_map, solves_wider}
-use Rattle.treefile.specs.framing.Backward.{ReadsTo, next_before, pass_of}
-use Rattle.treefile.specs.framing.Ending.{IsBytes, is_tree_file, version_two_usable}
-use Rattle.treefile.specs.records.Orders.{BodyTree, branch, prefix, postfix}
-use Rattle.treefile.specs.records.Records.{bodies_of}
-use Rattle.treefile.specs.records.TreeFile.{version_two, frame, header}
-use Rattle.treefile.proofs.framing.Backward.{back_is_file, reads_whole}
+use Rattle.passrun.proofs.Common
+use Common.{flat_map, ℕ, ◌≡◌, ◌≤◌, List, [], ◌∷◌, ◌++◌, None, Ok, length, reverse, true, refl, ◌∙◌, arith, reverse-reverse, Value}
+use Common.{Direction, Grammar, Passes, direction_of, other, Valuation, NoRule, OfPass, WellAt, Tree, node_count, max_nodes}
+use Common.{each_map, solves_wider, ReadsTo, next_before, pass_of, IsBytes, is_tree_file, version_two_usable, BodyTree, branch}
+use Common.{prefix, postfix, bodies_of, version_two, frame, header, back_is_file, reads_whole, bodies_count, Setting}
+use Common.{pass_direction, IsSound, IsPassed, Pending, Transcript, IsRootReady, below, root_body}
 use Rattle.treefile.proofs.records.Orders.{length-prefix, turned}
-use Rattle.treefile.proofs.records.Records.{bodies_count}
-use Rattle.passcode.specs.Settings.{Setting, pass_direction}
-use Rattle.passcode.specs.Sound.{IsSound}
-use Rattle.passrun.specs.Passed.{IsPassed}
-use Rattle.treefile.specs.framing.ExpectedRecords.{Pending}
-use Rattle.passrun.specs.passing.RunInvariant.{Transcript, IsRootReady, below, root_body}
 
 -- One body is read for each node.
 pub count_of : (d : Direction) (g : Grammar) (m : Passes) (k : ℕ) (t : Tree) (v : Valuation)

@@ -1,25 +1,11 @@
 -- The trees of the visited children, extended by one tree at a time.
-use Rattle.std.proofs.Common.{ℕ, zero, suc, ◌≡◌, ◌+◌, ◌-◌, ◌<◌, ◌≤◌, List, [], ◌∷◌, ◌++◌, Some, slice_get, length, take, drop}
-use Rattle.std.proofs.Common.{get_or, refl, ap, ◌∙◌, sym, subst, arith, append_assoc, append-nil, length-take, inl, inr}
-use Rattle.std.proofs.lemmas.List.{take_more, take_all, drop_all}
-use Rattle.std.proofs.lemmas.Option.{get_or_from_slice_get}
-use Rattle.std.proofs.lemmas.Bool.{cases_lt}
-use Rattle.ag_value.specs.declared.value.Value.{Value}
-use Rattle.ag_grammar.specs.declared.grammar.Item.{Item}
-use Rattle.ag_grammar.specs.declared.grammar.Production.{Production}
-use Rattle.ag_grammar.specs.declared.grammar.Rule.{Rule}
-use Rattle.ag_grammar.specs.declared.direction.Direction.{Direction}
-use Rattle.ag_grammar.specs.declared.direction.Direction.TheVariants.{LeftToRight, RightToLeft}
-use Rattle.ag_grammar.specs.grammars.AttributeGrammar.{Grammar}
-use Rattle.ag_grammar.specs.grammars.Passes.{Passes, nth}
-use Rattle.ag_grammar.specs.grammars.Solution.{Valuation, rest, Solves, SolvesAll, AtEachNode, AtEachNodeOf}
-use Rattle.ag_grammar.specs.grammars.Tree.{Tree, Forest, none, more, Fits, FitsAll, depth_of, deepest}
-use Rattle.ag_grammar.specs.grammars.Counts.{pass_rule_count, rules_of_pass, totals}
-use Rattle.treefile.specs.records.Orders.{prefix, prefix_all, postfix, postfix_all}
-use Rattle.treefile.specs.records.Records.{bodies_of, bodies_of_all}
-use Rattle.treefile.specs.records.TreeFile.{version_two}
-use Rattle.passcode.specs.Settings.{Setting}
-use Rattle.pass_rows.specs.Places.{Table, visited, Roots}
+use Rattle.passrun.proofs.Common
+use Common.{ℕ, zero, suc, ◌≡◌, ◌+◌, ◌-◌, ◌<◌, ◌≤◌, List, [], ◌∷◌, ◌++◌, Some, slice_get, length, take, drop, get_or, refl, ap}
+use Common.{◌∙◌, sym, subst, arith, append_assoc, append-nil, length-take, inl, inr, take_more, take_all, drop_all}
+use Common.{get_or_from_slice_get, cases_lt, Value, Item, Production, Rule, Direction, LeftToRight, RightToLeft, Grammar, Passes}
+use Common.{nth, Valuation, rest, Solves, SolvesAll, AtEachNode, AtEachNodeOf, Tree, Forest, none, more, Fits, FitsAll, depth_of}
+use Common.{deepest, pass_rule_count, rules_of_pass, totals, prefix, prefix_all, postfix, postfix_all, bodies_of, bodies_of_all}
+use Common.{version_two, Setting, Table, visited, Roots}
 
 -- A forest with one more tree at the end.
 abbrev pub snoc : Forest → Tree → Forest

@@ -1,12 +1,7 @@
 -- A pass whose root is done evaluated at most 2^36 rules, for any devices.
-use Rattle.std.proofs.Common.{ℕ, ◌+◌, ◌^◌, ◌≤◌, Bool, List, None, Result, Ok, Err, length, ap, arith}
-use Rattle.std.specs.Prelude.{IfErr, OnErr, OnOk}
-use Rattle.passcode.specs.Settings.{Setting, pass_direction}
-use Rattle.passcode.specs.Sound.{IsSound}
-use Rattle.passrun.specs.declared.passing.ends.Passed.{Passed}
-use Rattle.passrun.specs.declared.passing.machine.Machine.{Machine}
-use Rattle.pass_rows.specs.declared.run_fault.RunFault.{RunFault}
-use Rattle.passrun.specs.passing.Running.{Runs}
+use Rattle.passrun.proofs.Common
+use Common.{ℕ, ◌+◌, ◌^◌, ◌≤◌, Bool, List, None, Result, Ok, Err, length, ap, arith, IfErr, OnErr, OnOk, Setting, pass_direction}
+use Common.{IsSound, Passed, Machine, RunFault, Runs}
 use Rattle.passrun.proofs.course.Counted.{rules_bound}
 use Rattle.passrun.proofs.course.Finish.{count_of}
 

@@ -1,28 +1,12 @@
 -- One more pass, alternating between two devices.
-use Rattle.std.proofs.Common.{◌≡◌, ℕ, suc, ◌+◌, ◌-◌, ◌<◌, ◌≤◌, Bool, inl, inr, List, Result, Ok, Err, refl, sym, subst}
-use Rattle.std.proofs.Common.{arith}
-use Rattle.std.specs.Prelude.{IfErr, IfOk, OnErr, OnOk}
-use Rattle.std.proofs.lemmas.Bool.{cases_lt}
+use Rattle.passrun.proofs.Common
+use Common.{◌≡◌, ℕ, suc, ◌+◌, ◌-◌, ◌<◌, ◌≤◌, Bool, inl, inr, List, Result, Ok, Err, refl, sym, subst, arith, IfErr, IfOk, OnErr}
+use Common.{OnOk, cases_lt, IsAccepted, Grammar, IsLegal, Passes, node_count, IsGreatest, passes_of, Lists, Setting, setting_of}
+use Common.{Persists, WhenHonest, RunsPass, RunsPasses, version_two, Passed, Last, A, B, RunFault, IsRunFault, IsPassed}
+use Common.{CountsPass}
 use Rattle.std.proofs.Math.Nat.{suc-mul}
-use Rattle.ag_grammar.specs.grammars.Accepted.{IsAccepted}
-use Rattle.ag_grammar.specs.grammars.AttributeGrammar.{Grammar}
-use Rattle.ag_grammar.specs.grammars.Passes.{IsLegal, Passes}
-use Rattle.ag_grammar.specs.grammars.Tree.{node_count}
-use Rattle.passassign.specs.Rows.{IsGreatest, passes_of}
-use Rattle.passcode.specs.Rows.{Lists}
-use Rattle.passcode.specs.Settings.{Setting, setting_of}
-use Rattle.treefile.specs.devices.Device.{Persists, WhenHonest}
 use Rattle.treefile.specs.framing.Beginning.{BeginsFile, LeavesBeginning}
-use Rattle.treefile.specs.Runs.{RunsPass, RunsPasses}
-use Rattle.treefile.specs.records.TreeFile.{version_two}
 use Rattle.treefile.proofs.Run.{goes_on_run, starts_run}
-use Rattle.passrun.specs.declared.passing.ends.Passed.{Passed}
-use Rattle.passrun.specs.declared.last.Last.{Last}
-use Rattle.passrun.specs.declared.last.Last.TheVariants.{A, B}
-use Rattle.pass_rows.specs.declared.run_fault.RunFault.{RunFault}
-use Rattle.passrun.specs.passing.Ahead.{IsRunFault}
-use Rattle.passrun.specs.Passed.{IsPassed}
-use Rattle.passrun.specs.Laws.{CountsPass}
 use Rattle.passrun.specs.Rounds.{CountsPasses, HasRunAll, HoldsTree, IsPassedOn, LeavesSomeFile, last_content, one_more}
 use Rattle.passrun.specs.Rounds.{other_content, other_last}
 use Rattle.passrun.proofs.RecordedPasses.{passes_are_recorded, refused_back}

@@ -1,32 +1,16 @@
 -- Each instruction reduces the remaining work.
-use Rattle.std.specs.Global.{Vec}
-use Rattle.std.specs.Option.{option_to_list}
-use Rattle.std.specs.Prelude.{slice_index_or}
-use Rattle.std.proofs.Common.{ℕ, zero, suc, ◌≡◌, ◌+◌, ◌*◌, ◌-◌, ◌<◌, ◌≤◌, ◌⊎◌, inl, inr, Bool, true, false, if◌then◌else◌, List}
-use Rattle.std.proofs.Common.{[], ◌∷◌, ◌++◌, Option, Some, None, drop, length, reverse, refl, ap, arith}
-use Rattle.std.proofs.lemmas.List.{reverse-append}
-use Rattle.ag_value.specs.declared.value.Value.{Value}
-use Rattle.ag_grammar.specs.declared.grammar.Item.{Item}
-use Rattle.ag_grammar.specs.grammars.Tree.{max_nodes}
-use Rattle.treefile.specs.framing.Writing as writing
-use Rattle.backreader.specs.BackState.{BackState}
-use Rattle.passcode.specs.declared.instr.Instr.{Instr}
-use Rattle.passcode.specs.declared.instr.Instr.TheVariants as instr
-use Rattle.passcode.specs.Rows.{Lists}
-use Rattle.passcode.specs.Settings.{Setting, list_at}
-use Rattle.passcode.specs.Sound.{IsSound}
-use Rattle.passrun.specs.declared.passing.machine.Machine.{Machine}
-use Rattle.pass_rows.specs.declared.open_node.OpenNode.{OpenNode}
-use Rattle.passrun.specs.passing.Ahead.{goes_next}
-use Rattle.passrun.specs.reading.Fetching.{HasFetched}
-use Rattle.pass_rows.specs.Places.{rest_of}
-use Rattle.passrun.specs.passing.Running.{RunsRuleNext, RunsSomehow, stack_of}
+use Rattle.passrun.proofs.Common
+use Common.{Vec, option_to_list, slice_index_or, ℕ, zero, suc, ◌≡◌, ◌+◌, ◌*◌, ◌-◌, ◌<◌, ◌≤◌, ◌⊎◌, inl, inr, Bool, true, false}
+use Common.{if◌then◌else◌, List, [], ◌∷◌, ◌++◌, Option, Some, None, drop, length, reverse, refl, ap, arith, reverse-append, Value}
+use Common.{Item, max_nodes, BackState, Instr, Lists, Setting, list_at, IsSound, Machine, OpenNode, goes_next, HasFetched}
+use Common.{rest_of, RunsRuleNext, RunsSomehow, stack_of, left_at, after_step}
+use Common.writing
+use Common.instr
 use Rattle.passrun.specs.passing.Working.{all_of, node_cost, reserved_work, remaining_work, measure}
 use Rattle.passrun.proofs.steps.Facts.{put_stays, waits_stay}
 use Rattle.passrun.proofs.steps.Going.{child_of}
 use Rattle.passcode.specs.Course.{start}
 use Rattle.passrun.proofs.steps.EntersNone.{goes_nowhere}
-use Rattle.pass_rows.specs.Nodes.{left_at, after_step}
 use Rattle.passrun.proofs.steps.Steps.{IsNext, next_is}
 use Rattle.passrun.proofs.steps.MachineSteps.{popped}
 

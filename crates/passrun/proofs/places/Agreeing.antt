@@ -1,7 +1,5 @@
 -- Comparing the values of earlier passes in two rows.
-use Rattle.std.proofs.Common.{ℕ, ◌≡◌, ◌-◌, ◌↔◌, List, ◌++◌}
-use Rattle.ag_value.specs.declared.value.Value.{Value}
-use Rattle.treefile.specs.records.Records.{values_up_to}
+use Rattle.passrun.proofs.Common.{ℕ, ◌≡◌, ◌-◌, ◌↔◌, List, ◌++◌, Value, values_up_to}
 
 -- Rows that begin with values of attributes of these passes agree.
 abbrev pub Agree : (passes : List ℕ) (k : ℕ) (ours theirs : List Value) → Type 0 → Type 0

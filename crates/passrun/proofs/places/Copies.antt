@@ -1,26 +1,12 @@
 -- The copies of the values at a node's children: their use in reading, and their changes.
-use Rattle.std.proofs.Common.{ℕ, zero, suc, ◌≡◌, ◌≢◌, ◌<◌, ◌≤◌, inl, inr, true, List, [], ◌∷◌, Some, Option}
-use Rattle.std.proofs.Common.{slice_get, length, drop, refl, ap, ◌∙◌, sym, subst, arith}
-use Rattle.std.proofs.lemmas.Bool.{cases_eq, le-leb}
-use Rattle.std.proofs.lemmas.List.{drop_at, take_at}
-use Rattle.ag_value.specs.declared.value.Value.{Value}
-use Rattle.ag_grammar.specs.declared.grammar.Item.{Item}
-use Rattle.ag_grammar.specs.declared.grammar.Item.TheVariants as item
-use Rattle.ag_grammar.specs.declared.grammar.Production.{Production}
-use Rattle.ag_grammar.specs.declared.grammar.Rule.{Rule}
-use Rattle.ag_grammar.specs.declared.grammar.Terminal.TheVariants.{Literal, Class}
-use Rattle.ag_grammar.specs.grammars.AttributeGrammar.{item_at, stored_items}
-use Rattle.ag_grammar.specs.grammars.Passes.{HasPass, item_passes}
-use Rattle.ag_grammar.specs.grammars.Solution.{Solves, SolvesAll, Valuation, rest}
-use Rattle.ag_grammar.specs.grammars.Tree.{Tree, Forest, leaf, node, none, more, Fits, FitsAll}
-use Rattle.treefile.specs.framing.ExpectedRecords.{Child, children_with_copies}
-use Rattle.treefile.specs.records.Records.{copies_of, copy_of, values_up_to}
-use Rattle.treefile.proofs.records.Values.{count_of_values}
-use Rattle.passcode.specs.Settings.{Setting}
-use Rattle.passrun.specs.passing.Change.{set, with_row}
-use Rattle.pass_rows.specs.Places.{IsReached, AgreesSoFar, Table, copied_passes, copies, in_children}
-use Rattle.pass_rows.specs.reading.Reading.{AgreeAt}
-use Rattle.pass_rows.proofs.Recorded.{count_copied}
+use Rattle.passrun.proofs.Common
+use Common.{ℕ, zero, suc, ◌≡◌, ◌≢◌, ◌<◌, ◌≤◌, inl, inr, true, List, [], ◌∷◌, Some, Option, slice_get, length, drop, refl, ap, ◌∙◌}
+use Common.{sym, subst, arith, cases_eq, le-leb, drop_at, take_at, Value, Item, Production, Rule, Literal, Class, item_at}
+use Common.{stored_items, HasPass, item_passes, Solves, SolvesAll, Valuation, rest, Tree, Forest, leaf, node, none, more, Fits}
+use Common.{FitsAll, Child, children_with_copies, copies_of, copy_of, values_up_to, count_of_values, Setting, with_row, IsReached}
+use Common.{AgreesSoFar, Table, copied_passes, copies, in_children, AgreeAt, count_copied}
+use Common.item
+use Rattle.passrun.specs.passing.Change.{set}
 use Rattle.passrun.proofs.places.Slots.{copied_is, copies_same, same_at}
 use Rattle.passrun.proofs.places.Tables.{same_values, set_other, with_here, with_other}
 

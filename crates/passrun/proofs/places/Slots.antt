@@ -1,23 +1,12 @@
 -- The slots of a node's values.
-use Rattle.std.proofs.Common.{ℕ, zero, suc, ◌≡◌, ◌≢◌, ◌+◌, ◌<◌, ◌≤◌, Bool, true, false, nat_le, if◌then◌else◌, List, [], ◌∷◌}
-use Rattle.std.proofs.Common.{◌++◌, Some, None, Option, slice_get, length, take, drop, set, map, refl, ◌∙◌, sym, arith}
-use Rattle.std.proofs.Common.{append_assoc, length-append}
-use Rattle.std.proofs.lemmas.Bool.{le-leb}
-use Rattle.std.proofs.lemmas.List.{drop_at, set-append_left}
-use Rattle.std.proofs.lemmas.Option.{slice_get_within}
-use Rattle.ag_value.specs.declared.value.Value.{Value}
-use Rattle.ag_grammar.specs.declared.grammar.Item.{Item}
-use Rattle.ag_grammar.specs.declared.grammar.Item.TheVariants as item
-use Rattle.ag_grammar.specs.declared.grammar.Production.{Production}
+use Rattle.passrun.proofs.Common
+use Common.{ℕ, zero, suc, ◌≡◌, ◌≢◌, ◌+◌, ◌<◌, ◌≤◌, Bool, true, false, nat_le, if◌then◌else◌, List, [], ◌∷◌, ◌++◌, Some, None}
+use Common.{Option, slice_get, length, take, drop, set, map, refl, ◌∙◌, sym, arith, append_assoc, length-append, le-leb, drop_at}
+use Common.{set-append_left, slice_get_within, Value, Item, Production, Literal, Class, Inherited, Synthesized, item_kinds}
+use Common.{stored_items, symbol_kinds, item_passes, synthesized_count, values_up_to, count_up_to, Setting, Table, copied_passes}
+use Common.{copies, in_children, place_passes, stored, argument_slot, copied_all, copied_before, copy_start, rank, stored_width}
+use Common.item
 use Rattle.ag_grammar.specs.declared.grammar.Symbol.{Symbol}
-use Rattle.ag_grammar.specs.declared.grammar.Terminal.TheVariants.{Literal, Class}
-use Rattle.ag_grammar.specs.grammars.AttributeGrammar.{Inherited, Synthesized, item_kinds, stored_items, symbol_kinds}
-use Rattle.ag_grammar.specs.grammars.Passes.{item_passes}
-use Rattle.treefile.specs.records.Records.{synthesized_count, values_up_to}
-use Rattle.treefile.specs.records.Listed.{count_up_to}
-use Rattle.passcode.specs.Settings.{Setting}
-use Rattle.pass_rows.specs.Places.{Table, copied_passes, copies, in_children, place_passes, stored}
-use Rattle.pass_rows.specs.layouts.Slots.{argument_slot, copied_all, copied_before, copy_start, rank, stored_width}
 use Rattle.passrun.proofs.places.Tables.{same_values}
 
 pub get_left : {X : Type 0} (xs ys : List X) (i : ℕ) (x : X) → slice_get xs i ≡ Some x → slice_get (xs ++ ys) i ≡ Some x

@@ -1,17 +1,10 @@
 -- A table with one value changed, and the values of its rows.
-use Rattle.std.proofs.Common.{ℕ, zero, suc, ◌≡◌, ◌≤◌, Bool, true, false, ◌&&◌, nat_eq, nat_le, cond, if◌then◌else◌, All, ◌≢◌}
-use Rattle.std.proofs.Common.{List, [], ◌∷◌, ◌++◌, Some, slice_get, refl, ap, ◌∙◌, sym, subst, arith}
-use Rattle.std.proofs.lemmas.Bool.{leb-true, le-leb, eqb-true, eq-eqb}
-use Rattle.std.proofs.lemmas.List.Elements.{All-cons, All-head, All-nil, All-tail}
-use Rattle.ag_value.specs.declared.value.Value.{Value, Text}
-use Rattle.ag_grammar.specs.declared.grammar.Target.{Target}
-use Rattle.ag_grammar.specs.grammars.AttributeGrammar.{Grammar}
-use Rattle.ag_grammar.specs.grammars.Passes.{Passes}
-use Rattle.ag_grammar.specs.grammars.Solution.{left_passes}
-use Rattle.treefile.specs.records.Records.{values_up_to, node_body}
-use Rattle.treefile.specs.records.TreeFile.{version_two}
-use Rattle.pass_rows.specs.Places.{Table}
-use Rattle.passrun.specs.passing.Change.{set, with_row}
+use Rattle.passrun.proofs.Common
+use Common.{ℕ, zero, suc, ◌≡◌, ◌≤◌, Bool, true, false, ◌&&◌, nat_eq, nat_le, if◌then◌else◌, All, ◌≢◌, List, [], ◌∷◌, ◌++◌, Some}
+use Common.{slice_get, refl, ap, ◌∙◌, sym, subst, arith, leb-true, le-leb, eqb-true, eq-eqb, All-cons, All-head, All-nil}
+use Common.{All-tail, Value, Text, Target, Grammar, Passes, left_passes, values_up_to, node_body, version_two, Table, with_row}
+use Rattle.std.proofs.Common.{cond}
+use Rattle.passrun.specs.passing.Change.{set}
 
 pub set_here : (e : Table) (j a : ℕ) (v : Value) → set e j a v j a ≡ v
 set_here e j a v = cc (eq-eqb j j refl, eq-eqb a a refl)

@@ -1,12 +1,8 @@
 -- The states in which the pass does not enter a child next.
-use Rattle.std.proofs.Common.{◌≡◌, false, List, [], ◌∷◌, refl}
-use Rattle.ag_grammar.specs.declared.grammar.Production.{Production}
-use Rattle.passcode.specs.declared.instr.Instr.{Instr}
-use Rattle.passcode.specs.declared.instr.Instr.TheVariants as instr
-use Rattle.passcode.specs.declared.phase.Phase.TheVariants.{Got}
+use Rattle.passrun.proofs.Common
+use Common.{◌≡◌, false, List, [], ◌∷◌, refl, Production, Instr, Got, Setting, goes_next}
+use Common.instr
 use Rattle.passcode.specs.Course.{Runs, State, after}
-use Rattle.passcode.specs.Settings.{Setting}
-use Rattle.passrun.specs.passing.Ahead.{goes_next}
 
 -- If no record was read since the pass left a child, or since the node's own record was read, the pass enters
 -- no child before it reads the next record.

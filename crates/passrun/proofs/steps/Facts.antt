@@ -1,33 +1,15 @@
 -- Facts about the innermost open node that a step needs.
-use Rattle.std.proofs.Common.{ℕ, zero, suc, ◌≡◌, ◌+◌, ◌<◌, ◌≤◌, inl, inr, false, List, [], ◌∷◌, ◌++◌, Some, slice_get, length}
-use Rattle.std.proofs.Common.{drop, refl, ap, ◌∙◌, sym, subst, arith, length-append, length-drop}
-use Rattle.std.proofs.lemmas.List.{drop_at}
-use Rattle.std.proofs.lemmas.Option.{slice_get_within}
-use Rattle.ag_value.specs.declared.value.Value.{Value}
-use Rattle.ag_grammar.specs.declared.grammar.Item.{Item}
-use Rattle.ag_grammar.specs.declared.grammar.Item.TheVariants as item
-use Rattle.ag_grammar.specs.declared.grammar.Production.{Production}
-use Rattle.ag_grammar.specs.declared.grammar.Rule.{Rule}
-use Rattle.ag_grammar.specs.declared.grammar.Target.{Target}
-use Rattle.ag_grammar.specs.grammars.AttributeGrammar.{IsArgument, IsProduction, item_at, stored_items}
-use Rattle.ag_grammar.specs.grammars.Passes.{item_passes, nth}
-use Rattle.treefile.specs.framing.ExpectedRecords.{Pending}
-use Rattle.treefile.specs.records.Listed.{count_up_to}
-use Rattle.treefile.specs.records.Records.{values_up_to}
-use Rattle.passcode.specs.declared.instr.Instr.{Instr}
-use Rattle.passcode.specs.declared.instr.Instr.TheVariants as instr
-use Rattle.passcode.specs.declared.phase.Phase.{Phase}
-use Rattle.passcode.specs.declared.phase.Phase.TheVariants.{Between, Gone}
+use Rattle.passrun.proofs.Common
+use Common.{ℕ, zero, suc, ◌≡◌, ◌+◌, ◌<◌, ◌≤◌, inl, inr, false, List, [], ◌∷◌, ◌++◌, Some, slice_get, length, drop, refl, ap, ◌∙◌}
+use Common.{sym, subst, arith, length-append, length-drop, drop_at, slice_get_within, Value, Item, Production, Rule, Target}
+use Common.{IsArgument, IsProduction, item_at, stored_items, item_passes, nth, Pending, count_up_to, values_up_to, Instr, Phase}
+use Common.{Between, Gone, Setting, list_at, pass_direction, IsSound, OpenNode, goes_next, IsCurrent, Transcript, RunInvariant}
+use Common.{state_of, Table, copied_passes, rest_of, stored, argument_slot, copied_all, copied_before, copied_width, copy_start}
+use Common.{rank, stored_width, target_slot}
+use Common.item
+use Common.instr
 use Rattle.passcode.specs.Course.{MayCompute, Runs, arity, place_of}
 use Rattle.passcode.proofs.Turns.{is_stored_child}
-use Rattle.passcode.specs.Settings.{Setting, list_at, pass_direction}
-use Rattle.passcode.specs.Sound.{IsSound}
-use Rattle.pass_rows.specs.declared.open_node.OpenNode.{OpenNode}
-use Rattle.passrun.specs.passing.Ahead.{goes_next}
-use Rattle.passrun.specs.passing.RunInvariant.{IsCurrent, Transcript, RunInvariant, state_of}
-use Rattle.pass_rows.specs.Places.{Table, copied_passes, rest_of, stored}
-use Rattle.pass_rows.specs.layouts.Slots.{argument_slot, copied_all, copied_before, copied_width, copy_start, rank, stored_width}
-use Rattle.pass_rows.specs.layouts.Slots.{target_slot}
 use Rattle.passrun.proofs.places.Slots.{begins_with_copy, length_row, length_stored, row_at}
 use Rattle.passrun.proofs.steps.RuleRuns.{IsPlaced}
 use Rattle.passrun.proofs.steps.Ruled.{argument_there}

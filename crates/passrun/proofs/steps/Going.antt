@@ -1,19 +1,10 @@
 -- Entering a child.
-use Rattle.std.proofs.Common.{ℕ, ◌≡◌, ◌-◌, ◌≤◌, List, [], ◌∷◌, ◌++◌, Some, length, reverse, ap, ◌∙◌, sym, subst, arith}
-use Rattle.std.proofs.Common.{length-append}
-use Rattle.std.proofs.lemmas.List.{reverse-append}
-use Rattle.ag_value.specs.declared.value.Value.{Value}
-use Rattle.ag_grammar.specs.declared.grammar.Production.{Production}
-use Rattle.ag_grammar.specs.grammars.AttributeGrammar.{IsProduction}
-use Rattle.passcode.specs.declared.instr.Instr.TheVariants as instr
+use Rattle.passrun.proofs.Common
+use Common.{ℕ, ◌≡◌, ◌-◌, ◌≤◌, List, [], ◌∷◌, ◌++◌, Some, length, reverse, ap, ◌∙◌, sym, subst, arith, length-append}
+use Common.{reverse-append, Value, Production, IsProduction, Setting, IsSound, OpenNode, first_at, left_at, RunInvariant}
+use Common.{IsConsistent, ContinuesAs, stored, stored_width}
+use Common.instr
 use Rattle.passcode.specs.Course.{place_of}
-use Rattle.passcode.specs.Settings.{Setting}
-use Rattle.passcode.specs.Sound.{IsSound}
-use Rattle.pass_rows.specs.declared.open_node.OpenNode.{OpenNode}
-use Rattle.pass_rows.specs.Nodes.{first_at, left_at}
-use Rattle.passrun.specs.passing.RunInvariant.{RunInvariant, IsConsistent, ContinuesAs}
-use Rattle.pass_rows.specs.Places.{stored}
-use Rattle.pass_rows.specs.layouts.Slots.{stored_width}
 use Rattle.passrun.proofs.places.Slots.{length_stored}
 use Rattle.passrun.proofs.steps.Steps.{IsNext, at_go, step_go}
 

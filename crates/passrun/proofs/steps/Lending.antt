@@ -1,9 +1,6 @@
 -- The values that are lent to a rule are well.
-use Rattle.std.proofs.Common.{ℕ, zero, suc, List, [], ◌∷◌, All, get_or, slice_index}
-use Rattle.std.proofs.lemmas.List.Elements.{All-head, All-tail}
-use Rattle.ag_value.specs.declared.value.Value.{Value}
-use Rattle.ag_value.specs.Well.{IsWell}
-use Rattle.ag_grammar.specs.expressions.Evaluation.{AreWell}
+use Rattle.passrun.proofs.Common
+use Common.{ℕ, zero, suc, List, [], ◌∷◌, All, get_or, slice_index, All-head, All-tail, Value, IsWell, AreWell}
 
 pub one_well : (xs : List Value) (i : ℕ) (d : Value) → All IsWell xs → IsWell d → IsWell (get_or xs i d)
 one_well [] i d h w = w

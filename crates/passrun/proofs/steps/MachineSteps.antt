@@ -1,55 +1,24 @@
 -- The steps of a machine: from the effect of a part of the code to a running machine.
-use Rattle.std.specs.Global.{Vec}
-use Rattle.std.specs.Option.{option_to_list}
-use Rattle.std.specs.Prelude.{IfOk, IsTrue, MatchOption}
-use Rattle.std.proofs.Common.{ℕ, suc, zero, ◌≡◌, ◌+◌, ◌-◌, ◌^◌, ◌<◌, ◌≤◌, nat_le, if◌then◌else◌, false, Bool, List, [], ◌∷◌, ◌++◌}
-use Rattle.std.proofs.Common.{Option, Some, None, Result, Ok, Err, All, slice_get, slice_index, get_or, length, take, drop}
-use Rattle.std.proofs.Common.{reverse, set, refl, ap, ◌∙◌, sym, subst, arith, append_assoc, append-nil, true}
-use Rattle.std.proofs.lemmas.Bool.{le-leb}
-use Rattle.std.proofs.lemmas.Option.{get_or_from_slice_get, slice_get-get_or, slice_get_within}
-use Rattle.std.proofs.lemmas.List.Elements.{All-from_get_or}
-use Rattle.std.proofs.lemmas.List.{drop_at, length-reverse, reverse-append}
-use Rattle.ag_value.specs.declared.value.Value.{Value, Text}
+use Rattle.passrun.proofs.Common
+use Common.{Vec, option_to_list, IfOk, IsTrue, MatchOption, ℕ, suc, zero, ◌≡◌, ◌+◌, ◌-◌, ◌^◌, ◌<◌, ◌≤◌, nat_le, if◌then◌else◌}
+use Common.{false, Bool, List, [], ◌∷◌, ◌++◌, Option, Some, None, Result, Ok, Err, All, slice_get, slice_index, get_or, length}
+use Common.{take, drop, reverse, set, refl, ap, ◌∙◌, sym, subst, arith, append_assoc, append-nil, true, le-leb}
+use Common.{get_or_from_slice_get, slice_get-get_or, slice_get_within, All-from_get_or, drop_at, length-reverse, reverse-append}
+use Common.{Value, Text, IsWell, Item, Production, Rule, Literal, Class, Target, IsArgument, IsProduction, item_at, stored_items}
+use Common.{value_of, Node, Token, LeavesContent, values_up_to, BackState, Setting, IsSound, PlaceRow, ProductionRow, RuleSlots}
+use Common.{Machine, OpenNode, HasFetched, AreSlotsOf, IsRowAt, IsRowOf, after_step, ContinuesAs, IsConsistent, copied_passes}
+use Common.{copies, kept_values, HasPut, Agrees, IsRead, read_values, RunsRuleNext, RunsFrom, RunsSomehow, LeadsFrom, LeadsTo}
+use Common.{stack_of, argument_slot, copied_width, copy_start, known_width, target_slot, count_of_values, place_is, place_within}
+use Common.{slots_found, some_at, empty_is}
+use Common.item
+use Common.writing
+use Common.instr
 use Rattle.ag_value.specs.declared.fault.NoMemory.{NoMemory}
-use Rattle.ag_value.specs.Well.{IsWell}
-use Rattle.ag_grammar.specs.declared.grammar.Item.{Item}
-use Rattle.ag_grammar.specs.declared.grammar.Item.TheVariants as item
-use Rattle.ag_grammar.specs.declared.grammar.Production.{Production}
-use Rattle.ag_grammar.specs.declared.grammar.Rule.{Rule}
 use Rattle.ag_grammar.specs.declared.grammar.Terminal.{Terminal}
-use Rattle.ag_grammar.specs.declared.grammar.Terminal.TheVariants.{Literal, Class}
-use Rattle.ag_grammar.specs.declared.grammar.Target.{Target}
-use Rattle.ag_grammar.specs.grammars.AttributeGrammar.{IsArgument, IsProduction, item_at, stored_items}
-use Rattle.ag_grammar.specs.expressions.Evaluation.{value_of}
-use Rattle.treefile.specs.declared.body.Kind.TheVariants.{Node, Token}
-use Rattle.treefile.specs.devices.Device.{LeavesContent}
-use Rattle.treefile.specs.records.Records.{values_up_to}
-use Rattle.treefile.specs.framing.Writing as writing
-use Rattle.backreader.specs.BackState.{BackState}
-use Rattle.passcode.specs.declared.instr.Instr.TheVariants as instr
-use Rattle.passcode.specs.Settings.{Setting}
-use Rattle.passcode.specs.Sound.{IsSound}
-use Rattle.pass_rows.specs.declared.layouts.building.PlaceRow.{PlaceRow}
-use Rattle.pass_rows.specs.declared.layouts.building.ProductionRow.{ProductionRow}
-use Rattle.pass_rows.specs.declared.layouts.building.RuleSlots.{RuleSlots}
-use Rattle.passrun.specs.declared.passing.machine.Machine.{Machine}
-use Rattle.pass_rows.specs.declared.open_node.OpenNode.{OpenNode}
-use Rattle.passrun.specs.reading.Fetching.{HasFetched}
 use Rattle.pass_rows.specs.layouts.BuiltLayouts.{place_rows}
-use Rattle.pass_rows.specs.layouts.Layouts.{AreSlotsOf, IsRowAt, IsRowOf}
-use Rattle.pass_rows.specs.Nodes.{after_step}
-use Rattle.passrun.specs.passing.RunInvariant.{ContinuesAs, IsConsistent}
-use Rattle.pass_rows.specs.Places.{copied_passes, copies, kept_values}
-use Rattle.passrun.specs.passing.Putting.{HasPut}
-use Rattle.pass_rows.specs.reading.Reading.{Agrees, IsRead, read_values}
-use Rattle.passrun.specs.passing.Running.{RunsRuleNext, RunsAt, RunsFrom, RunsSomehow, Leads, LeadsAt, LeadsFrom, LeadsTo}
-use Rattle.passrun.specs.passing.Running.{stack_of}
-use Rattle.pass_rows.specs.layouts.Slots.{argument_slot, copied_width, copy_start, known_width, target_slot}
-use Rattle.treefile.proofs.records.Values.{count_of_values}
+use Rattle.passrun.specs.passing.Running.{RunsAt, Leads, LeadsAt}
 use Rattle.passrun.proofs.course.Counted.{passing_counted}
-use Rattle.pass_rows.proofs.places.Entries.{place_is, place_within, slots_found, some_at}
 use Rattle.passrun.proofs.steps.Facts.{HasOwn, HasPlace, HasRule, HasWaited, given_rule, get_place, own_row, put_place, waited}
-use Rattle.pass_rows.proofs.Recorded.{empty_is}
 use Rattle.passrun.proofs.steps.Ruled.{rule_named}
 use Rattle.passrun.proofs.steps.Running.{ended_runs, given_runs, gone_runs, got_runs, put_runs}
 use Rattle.passrun.proofs.places.Slots.{begins_with_copy}

@@ -1,38 +1,17 @@
 -- The effect of the steps of a pass on one node.
-use Rattle.std.proofs.Common.{ℕ, zero, suc, ◌≡◌, ◌≢◌, ◌+◌, ◌<◌, ◌≤◌, ◌⊎◌, inl, inr, List, [], ◌∷◌, ◌++◌, Option, Some, None, All}
-use Rattle.std.proofs.Common.{slice_get, refl, ap, ◌∙◌, sym, subst, arith, append_assoc}
-use Rattle.std.proofs.lemmas.Bool.{cases_eq}
-use Rattle.std.proofs.lemmas.Option.{slice_get_within}
-use Rattle.ag_value.specs.declared.value.Value.{Value}
-use Rattle.ag_value.specs.Well.{IsWell}
-use Rattle.ag_grammar.specs.declared.grammar.Item.{Item}
-use Rattle.ag_grammar.specs.declared.grammar.Item.TheVariants as item
-use Rattle.ag_grammar.specs.declared.grammar.Production.{Production}
-use Rattle.ag_grammar.specs.declared.grammar.Rule.{Rule}
-use Rattle.ag_grammar.specs.declared.grammar.Target.{Target}
-use Rattle.ag_grammar.specs.declared.direction.Direction.{Direction}
-use Rattle.ag_grammar.specs.declared.direction.Direction.TheVariants.{LeftToRight, RightToLeft}
-use Rattle.ag_grammar.specs.grammars.AttributeGrammar.{IsArgument, HasKind, Synthesized, Inherited, used_kind, defined_kind}
-use Rattle.ag_grammar.specs.grammars.AttributeGrammar.{item_at, item_kinds, stored_items}
-use Rattle.ag_grammar.specs.grammars.Passes.{HasPass, item_passes, nth}
-use Rattle.ag_grammar.specs.grammars.Solution.{Valuation, at, graft, RulesHold, OfPass, WellAt, left_passes}
-use Rattle.ag_grammar.specs.grammars.Tree.{Tree, Forest, node, FitsAll, depth_of, max_depth}
-use Rattle.treefile.specs.records.Orders.{BodyTree, prefix, prefix_all, postfix, postfix_all}
-use Rattle.treefile.specs.declared.body.Kind.TheVariants.{Node}
-use Rattle.treefile.specs.records.Records.{bodies_of, bodies_of_all, copies_of, node_body, values_up_to}
-use Rattle.treefile.specs.records.TreeFile.{body_of, version_two}
-use Rattle.passcode.specs.declared.phase.Phase.{Phase}
-use Rattle.passcode.specs.declared.phase.Phase.TheVariants.{Between, Got, Gone}
+use Rattle.passrun.proofs.Common
+use Common.{ℕ, zero, suc, ◌≡◌, ◌≢◌, ◌+◌, ◌<◌, ◌≤◌, ◌⊎◌, inl, inr, List, [], ◌∷◌, ◌++◌, Option, Some, None, All, slice_get, refl}
+use Common.{ap, ◌∙◌, sym, subst, arith, append_assoc, cases_eq, slice_get_within, Value, IsWell, Item, Production, Rule, Target}
+use Common.{Direction, LeftToRight, RightToLeft, IsArgument, HasKind, Synthesized, Inherited, used_kind, defined_kind, item_at}
+use Common.{item_kinds, stored_items, HasPass, item_passes, nth, Valuation, at, graft, RulesHold, OfPass, WellAt, left_passes}
+use Common.{Tree, Forest, node, FitsAll, depth_of, max_depth, BodyTree, prefix, prefix_all, postfix, postfix_all, Node, bodies_of}
+use Common.{bodies_of_all, copies_of, node_body, values_up_to, body_of, version_two, Phase, Between, Got, Gone, Setting}
+use Common.{pass_direction, IsSound, with_row, Transcript, Keeps, Visited, IsHeld, IsOpenNode, IsReady, IsGone, after_reading}
+use Common.{root_body, state_of, IsReached, AgreesSoFar, Table, copied_passes, copies, in_children, leftmost, Roots, stored}
+use Common.{visited, AgreeAt}
+use Common.item
 use Rattle.passcode.specs.Course.{AreDone, IsFinal, arity, place_of, read_count}
 use Rattle.passcode.proofs.Turns.{one_turn, turn_of}
-use Rattle.passcode.specs.Settings.{Setting, pass_direction}
-use Rattle.passcode.specs.Sound.{IsSound}
-use Rattle.passrun.specs.passing.Change.{with_row}
-use Rattle.passrun.specs.passing.RunInvariant.{Transcript, Keeps, Visited, IsHeld, IsOpenNode, IsReady, IsGone, after_reading}
-use Rattle.passrun.specs.passing.RunInvariant.{root_body, state_of}
-use Rattle.pass_rows.specs.Places.{IsReached, AgreesSoFar, Table, copied_passes, copies, in_children, leftmost, Roots}
-use Rattle.pass_rows.specs.Places.{stored, visited}
-use Rattle.pass_rows.specs.reading.Reading.{AgreeAt}
 use Rattle.passrun.proofs.course.Forests.{add_tree, add_values, fits_add, solves_add, each_add, prefix_add, postfix_add}
 use Rattle.passrun.proofs.course.Forests.{deepest_add, roots_add, all_visited}
 use Rattle.passrun.proofs.steps.RuleRuns.{holds_same, seen_differs}

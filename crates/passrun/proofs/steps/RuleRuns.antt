@@ -1,24 +1,11 @@
 -- An open node after a rule was run.
-use Rattle.std.proofs.Common.{ℕ, zero, suc, ◌≡◌, ◌≢◌, ◌+◌, ◌<◌, ◌⊎◌, inl, inr, ◌∷◌, Some, slice_get, ap, ◌∙◌, sym, subst, arith}
-use Rattle.ag_value.specs.declared.value.Value.{Value}
-use Rattle.ag_grammar.specs.declared.grammar.Production.{Production}
-use Rattle.ag_grammar.specs.declared.grammar.Rule.{Rule}
-use Rattle.ag_grammar.specs.declared.grammar.Target.{Target}
-use Rattle.ag_grammar.specs.declared.direction.Direction.{Direction}
-use Rattle.ag_grammar.specs.declared.direction.Direction.TheVariants.{LeftToRight, RightToLeft}
-use Rattle.ag_grammar.specs.Lists.{Has}
-use Rattle.ag_grammar.specs.expressions.Evaluation.{value_of}
-use Rattle.ag_grammar.specs.grammars.AttributeGrammar.{IsArgument, HasKind, symbol_kinds, Synthesized, defined_kind}
-use Rattle.ag_grammar.specs.grammars.Passes.{HasPass, nth}
-use Rattle.ag_grammar.specs.grammars.Solution.{Valuation, Holds, Supplies}
-use Rattle.ag_grammar.specs.grammars.Tree.{Forest}
-use Rattle.passcode.specs.declared.phase.Phase.TheVariants.{Got}
+use Rattle.passrun.proofs.Common
+use Common.{ℕ, zero, suc, ◌≡◌, ◌≢◌, ◌+◌, ◌<◌, ◌⊎◌, inl, inr, ◌∷◌, Some, slice_get, ap, ◌∙◌, sym, subst, arith, Value, Production}
+use Common.{Rule, Target, Direction, LeftToRight, RightToLeft, Has, value_of, IsArgument, HasKind, symbol_kinds, Synthesized}
+use Common.{defined_kind, HasPass, nth, Valuation, Holds, Supplies, Forest, Got, Setting, pass_direction, IsSound, Transcript}
+use Common.{Keeps, Visited, IsHeld, AreHeld, IsOpenNode, after_reading, IsReached, Table, leftmost}
 use Rattle.passcode.specs.Course.{IsTurnOf, MayCompute, State, arity, place_of, read_count}
-use Rattle.passcode.specs.Settings.{Setting, pass_direction}
-use Rattle.passcode.specs.Sound.{IsSound}
 use Rattle.passrun.specs.passing.Change.{set}
-use Rattle.passrun.specs.passing.RunInvariant.{Transcript, Keeps, Visited, IsHeld, AreHeld, IsOpenNode, after_reading}
-use Rattle.pass_rows.specs.Places.{IsReached, Table, leftmost}
 use Rattle.passrun.proofs.places.Copies.{copies_set}
 use Rattle.passrun.proofs.places.Tables.{set_here, set_other, set_target}
 use Rattle.passrun.proofs.steps.RuleTargets.{target_kind, one_rule, no_argument}

@@ -1,10 +1,7 @@
 -- The target of a rule is not an argument of a rule, and no two rules have the same target.
-use Rattle.std.proofs.Common.{ℕ, zero, suc, ◌≡◌, Some, slice_get, subst}
-use Rattle.ag_grammar.specs.declared.grammar.Production.{Production}
-use Rattle.ag_grammar.specs.declared.grammar.Rule.{Rule}
-use Rattle.ag_grammar.specs.declared.grammar.Target.{Target}
-use Rattle.ag_grammar.specs.grammars.Accepted.{IsAccepted}
-use Rattle.ag_grammar.specs.grammars.AttributeGrammar.{Grammar, IsProduction, IsArgument, HasKind, defined_kind, used_kind}
+use Rattle.passrun.proofs.Common
+use Common.{ℕ, zero, suc, ◌≡◌, Some, slice_get, subst, Production, Rule, Target, IsAccepted, Grammar, IsProduction, IsArgument}
+use Common.{HasKind, defined_kind, used_kind}
 
 module _ (g : Grammar) (accepted : IsAccepted g) (p : ℕ) (q : Production) (there : IsProduction g p q) where
   pub target_kind : (r : ℕ) (u : Rule) → slice_get q.rules r ≡ Some u → HasKind g q u.target (defined_kind u.target.place)

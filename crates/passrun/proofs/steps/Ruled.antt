@@ -1,41 +1,17 @@
 -- Running a rule: the values of its arguments, and the slot of its value.
-use Rattle.std.specs.Prelude.{cond}
-use Rattle.std.proofs.Common.{ℕ, zero, suc, ◌≡◌, ◌≢◌, ◌+◌, ◌-◌, ◌<◌, ◌⊎◌, inl, inr, true, List, ◌∷◌, ◌++◌, Option, Some}
-use Rattle.std.proofs.Common.{None, slice_get, slice_index, get_or, length, drop, set, refl, ap, ◌∙◌, sym, subst, arith}
-use Rattle.std.proofs.lemmas.List.{drop_at, set-append_left, set-append_right}
-use Rattle.std.proofs.lemmas.Option.{get_or_from_slice_get, slice_get_within}
-use Rattle.ag_value.specs.declared.value.Value.{Value}
-use Rattle.ag_grammar.specs.declared.grammar.Item.{Item}
-use Rattle.ag_grammar.specs.declared.grammar.Production.{Production}
-use Rattle.ag_grammar.specs.declared.grammar.Rule.{Rule}
-use Rattle.ag_grammar.specs.declared.grammar.Target.{Target}
-use Rattle.ag_grammar.specs.grammars.AttributeGrammar.{IsArgument, IsProduction, Synthesized, used_kind, item_at, item_kinds}
-use Rattle.ag_grammar.specs.grammars.AttributeGrammar.{stored_items}
-use Rattle.ag_grammar.specs.grammars.Passes.{HasPass, item_passes}
-use Rattle.ag_grammar.specs.grammars.Solution.{Supplies, left_passes}
-use Rattle.ag_grammar.specs.expressions.Evaluation.{value_of}
+use Rattle.passrun.proofs.Common
+use Common.{cond, ℕ, zero, suc, ◌≡◌, ◌≢◌, ◌+◌, ◌-◌, ◌<◌, ◌⊎◌, inl, inr, true, List, ◌∷◌, ◌++◌, Option, Some, None, slice_get}
+use Common.{slice_index, get_or, length, drop, set, refl, ap, ◌∙◌, sym, subst, arith, drop_at, set-append_left, set-append_right}
+use Common.{get_or_from_slice_get, slice_get_within, Value, Item, Production, Rule, Target, IsArgument, IsProduction, Synthesized}
+use Common.{used_kind, item_at, item_kinds, stored_items, HasPass, item_passes, Supplies, left_passes, value_of, Pending}
+use Common.{values_up_to, Instr, is_computation, Phase, Between, Got, Gone, Ended, Setting, list_at, IsSound, RuleSlots, OpenNode}
+use Common.{pending, AreSlotsOf, after_step, IsCurrent, RunInvariant, Transcript, state_of, IsReached, AgreesSoFar, Table, copies}
+use Common.{in_children, place_passes, stored, argument_slot, rank, stored_width, target_slot, some_at}
 use Rattle.ag_grammar.proofs.expressions.Depending.{rule_has_one_value}
-use Rattle.treefile.specs.framing.ExpectedRecords.{Pending}
-use Rattle.treefile.specs.records.Records.{values_up_to}
-use Rattle.passcode.specs.declared.instr.Instr.{Instr}
-use Rattle.passcode.specs.Counts.{is_computation}
-use Rattle.passcode.specs.declared.phase.Phase.{Phase}
-use Rattle.passcode.specs.declared.phase.Phase.TheVariants.{Between, Got, Gone, Ended}
 use Rattle.passcode.specs.Course.{IsAvailable, IsFinal, MayCompute, Runs, State, place_of, run_count}
-use Rattle.passcode.specs.Settings.{Setting, list_at}
-use Rattle.passcode.specs.Sound.{IsSound}
-use Rattle.pass_rows.specs.declared.layouts.building.RuleSlots.{RuleSlots}
-use Rattle.pass_rows.specs.declared.open_node.OpenNode.{OpenNode}
-use Rattle.passrun.specs.passing.Ahead.{pending}
 use Rattle.passrun.specs.passing.Change as change
-use Rattle.pass_rows.specs.layouts.Layouts.{AreSlotsOf}
-use Rattle.pass_rows.specs.Nodes.{after_step}
-use Rattle.passrun.specs.passing.RunInvariant.{IsCurrent, RunInvariant, Transcript, state_of}
-use Rattle.pass_rows.specs.Places.{IsReached, AgreesSoFar, Table, copies, in_children, place_passes, stored}
-use Rattle.pass_rows.specs.layouts.Slots.{argument_slot, rank, stored_width, target_slot}
 use Rattle.passrun.proofs.course.Ahead.{after_same}
 use Rattle.passrun.proofs.places.Copies.{copies_set, shown_set}
-use Rattle.pass_rows.proofs.places.Entries.{some_at}
 use Rattle.passrun.proofs.steps.RuleTargets.{argument_kind}
 use Rattle.passrun.proofs.steps.RuleRuns.{IsPlaced, open_after_rule}
 use Rattle.passrun.proofs.steps.Moves.{known_differs}

@@ -1,48 +1,18 @@
 -- The effect of each kind of step on a running pass.
-use Rattle.std.specs.List.{flat_map}
-use Rattle.std.proofs.Common.{ℕ, suc, ◌≡◌, ◌+◌, Bool, List, [], ◌∷◌, ◌++◌, Some, All, slice_get, slice_index, get_or}
-use Rattle.std.proofs.Common.{length, take, drop, set, refl, ap}
-use Rattle.std.proofs.Common.{◌∙◌, sym, subst, arith, append_assoc, append-nil, length-append}
+use Rattle.passrun.proofs.Common
+use Common.{flat_map, ℕ, suc, ◌≡◌, ◌+◌, Bool, List, [], ◌∷◌, ◌++◌, Some, All, slice_get, slice_index, get_or, length, take, drop}
+use Common.{set, refl, ap, ◌∙◌, sym, subst, arith, append_assoc, append-nil, length-append, All-append, All-drop, All-set}
+use Common.{All-take, Value, IsWell, Item, Literal, Class, Production, Rule, IsProduction, item_at, stored_items, value_of, Node}
+use Common.{Token, Pending, ReadsTo, before_frame, LeavesContent, WhenHonest, values_up_to, body_of, frame, header, version_two}
+use Common.{reads_on, values_well, BackState, IsOver, Instr, Setting, IsSound, RuleSlots, OpenNode, AreSlotsOf, AreRecords}
+use Common.{IsReadable, source, HasFetched, after_step, IsRunning, ContinuesAs, RunInvariant, copies, kept_values, HasPut}
+use Common.{read_values, copied_width, copy_start, copies_well}
+use Common.item
+use Common.writing
+use Common.instr
 use Rattle.std.proofs.lemmas.Grind.{flat_map-append}
-use Rattle.std.proofs.lemmas.List.Elements.{All-append, All-drop, All-set, All-take}
-use Rattle.ag_value.specs.declared.value.Value.{Value}
-use Rattle.ag_value.specs.Well.{IsWell}
-use Rattle.ag_grammar.specs.declared.grammar.Item.{Item}
-use Rattle.ag_grammar.specs.declared.grammar.Item.TheVariants as item
-use Rattle.ag_grammar.specs.declared.grammar.Terminal.TheVariants.{Literal, Class}
-use Rattle.ag_grammar.specs.declared.grammar.Production.{Production}
-use Rattle.ag_grammar.specs.declared.grammar.Rule.{Rule}
-use Rattle.ag_grammar.specs.grammars.AttributeGrammar.{IsProduction, item_at, stored_items}
-use Rattle.ag_grammar.specs.expressions.Evaluation.{value_of}
 use Rattle.treefile.specs.declared.body.Kind.{Kind}
-use Rattle.treefile.specs.declared.body.Kind.TheVariants.{Node, Token}
-use Rattle.treefile.specs.framing.ExpectedRecords.{Pending}
-use Rattle.treefile.specs.framing.Backward.{ReadsTo, before_frame}
-use Rattle.treefile.specs.devices.Device.{LeavesContent, WhenHonest}
-use Rattle.treefile.specs.records.Records.{values_up_to}
-use Rattle.treefile.specs.records.TreeFile.{body_of, frame, header, version_two}
-use Rattle.treefile.specs.framing.Writing as writing
-use Rattle.treefile.proofs.framing.Backward.{reads_on}
-use Rattle.treefile.proofs.records.Values.{values_well}
-use Rattle.backreader.specs.BackState.{BackState, IsOver}
-use Rattle.passcode.specs.declared.instr.Instr.{Instr}
-use Rattle.passcode.specs.declared.instr.Instr.TheVariants as instr
-use Rattle.passcode.specs.Settings.{Setting}
-use Rattle.passcode.specs.Sound.{IsSound}
-use Rattle.pass_rows.specs.declared.layouts.building.RuleSlots.{RuleSlots}
-use Rattle.pass_rows.specs.declared.open_node.OpenNode.{OpenNode}
-use Rattle.pass_rows.specs.layouts.Layouts.{AreSlotsOf}
 use Rattle.passrun.proofs.steps.Ruled.{step_give}
-use Rattle.passrun.specs.Damage.{AreRecords, IsReadable, source}
-use Rattle.passrun.specs.reading.Fetching.{HasFetched}
-use Rattle.pass_rows.specs.Nodes.{after_step}
-use Rattle.passrun.specs.Passed.{IsRunning}
-use Rattle.passrun.specs.passing.RunInvariant.{ContinuesAs, RunInvariant}
-use Rattle.pass_rows.specs.Places.{copies, kept_values}
-use Rattle.passrun.specs.passing.Putting.{HasPut}
-use Rattle.pass_rows.specs.reading.Reading.{read_values}
-use Rattle.pass_rows.specs.layouts.Slots.{copied_width, copy_start}
-use Rattle.pass_rows.proofs.Recorded.{copies_well}
 use Rattle.passrun.proofs.steps.Steps.{HasAgreed, IsAtChild, IsGivingOf, IsNext, step_end, step_got, step_leaf, step_put_leaf}
 
 -- The writer's state after a body was written.

@@ -1,59 +1,28 @@
 -- The steps of a pass.
-use Rattle.std.proofs.Common.{ℕ, zero, suc, ◌≡◌, ◌+◌, ◌<◌, ◌≤◌, ◌⊎◌, inl, inr, List, [], ◌∷◌, ◌++◌, Some, All, if◌then◌else◌}
-use Rattle.std.proofs.Common.{true, slice_get, length, take, drop, refl, ap, ◌∙◌, sym, subst, arith, append_assoc, append-nil}
-use Rattle.std.proofs.Common.{length-append}
-use Rattle.std.specs.Prelude.{cond}
-use Rattle.std.specs.List.{count_by}
-use Rattle.std.proofs.lemmas.Bool.{le-leb}
-use Rattle.std.proofs.lemmas.List.{drop_all, drop_at, take_at}
-use Rattle.ag_value.specs.declared.value.Value.{Value, Text}
-use Rattle.ag_value.specs.Well.{IsWell}
-use Rattle.ag_grammar.specs.declared.direction.Direction.{Direction}
-use Rattle.ag_grammar.specs.declared.grammar.Item.{Item}
-use Rattle.ag_grammar.specs.declared.grammar.Item.TheVariants as item
-use Rattle.ag_grammar.specs.declared.grammar.Terminal.TheVariants.{Class}
-use Rattle.ag_grammar.specs.declared.grammar.Production.{Production}
-use Rattle.ag_grammar.specs.grammars.AttributeGrammar.{IsProduction, item_at, stored_items}
-use Rattle.ag_grammar.specs.grammars.Passes.{direction_of, nth, other}
-use Rattle.ag_grammar.specs.grammars.Solution.{Valuation, graft}
-use Rattle.ag_grammar.specs.grammars.Tree.{Tree, leaf, node, none, depth_of, max_depth}
-use Rattle.ag_grammar.specs.grammars.Counts.{pass_rule_count, rules_of_pass}
-use Rattle.ag_grammar.proofs.grammars.Counting.{count_more}
-use Rattle.treefile.specs.declared.body.Kind.TheVariants.{Node, Token}
-use Rattle.treefile.specs.framing.ExpectedRecords.{Child, Pending, before_others, pending_root}
-use Rattle.treefile.specs.records.Orders.{BodyTree, branch, postfix}
-use Rattle.treefile.specs.records.Records.{bodies_of, values_up_to}
-use Rattle.treefile.specs.records.TreeFile.{body_of, version_two}
-use Rattle.passcode.specs.declared.instr.Instr.{Instr}
-use Rattle.passcode.specs.declared.instr.Instr.TheVariants as instr
-use Rattle.passcode.specs.Counts.{is_computation}
-use Rattle.passcode.specs.declared.phase.Phase.{Phase}
-use Rattle.passcode.specs.declared.phase.Phase.TheVariants.{Between, Got, Gone}
+use Rattle.passrun.proofs.Common
+use Common.{ℕ, zero, suc, ◌≡◌, ◌+◌, ◌<◌, ◌≤◌, ◌⊎◌, inl, inr, List, [], ◌∷◌, ◌++◌, Some, All, if◌then◌else◌, true, slice_get}
+use Common.{length, take, drop, refl, ap, ◌∙◌, sym, subst, arith, append_assoc, append-nil, length-append, cond, count_by, le-leb}
+use Common.{drop_all, drop_at, take_at, Value, Text, IsWell, Direction, Item, Class, Production, IsProduction, item_at}
+use Common.{stored_items, direction_of, nth, other, Valuation, graft, Tree, leaf, node, none, depth_of, max_depth}
+use Common.{pass_rule_count, rules_of_pass, count_more, Node, Token, Child, Pending, before_others, pending_root, BodyTree}
+use Common.{branch, postfix, bodies_of, values_up_to, body_of, version_two, Instr, is_computation, Phase, Between, Got, Gone}
+use Common.{Setting, pass_direction, list_at, IsSound, OpenNode, following, children_of, pending_of_child, node_table, with_row}
+use Common.{AreRecords, source, first_at, left_at, after_step, Transcript, Keeps, IsEvaluatedTree, IsOpenNode, IsReady, IsActive}
+use Common.{RunInvariant, below, after_reading, put_of, root_body, root_number, rules_left, state_of, Table, copied_passes}
+use Common.{copies, in_children, stored, AgreeAt, IsNodeRead, IsTokenRead, copied_width, copy_start, stored_width, first_row}
+use Common.{few_values}
+use Common.item
+use Common.instr
 use Rattle.passcode.specs.Course.{MayCompute, Runs, after_get, arity, place_of}
 use Rattle.passcode.proofs.Agreeing.{agrees}
 use Rattle.passcode.proofs.lists.Counting.{lists_evaluate_rules}
-use Rattle.passcode.specs.Settings.{Setting, pass_direction, list_at}
-use Rattle.passcode.specs.Sound.{IsSound}
-use Rattle.pass_rows.specs.declared.open_node.OpenNode.{OpenNode}
-use Rattle.passrun.specs.passing.Ahead.{following, children_of, pending_of_child}
-use Rattle.passrun.specs.passing.Change.{node_table, with_row}
-use Rattle.passrun.specs.Damage.{AreRecords, source}
-use Rattle.pass_rows.specs.Nodes.{first_at, left_at, after_step}
-use Rattle.passrun.specs.passing.RunInvariant.{Transcript, Keeps, IsEvaluatedTree, IsOpenNode, IsReady, IsActive}
-use Rattle.passrun.specs.passing.RunInvariant.{RunInvariant, below, after_reading, put_of, root_body, root_number, rules_left}
-use Rattle.passrun.specs.passing.RunInvariant.{state_of}
-use Rattle.pass_rows.specs.Places.{Table, copied_passes, copies, in_children, stored}
-use Rattle.pass_rows.specs.reading.Reading.{AgreeAt, IsNodeRead, IsTokenRead}
-use Rattle.pass_rows.specs.layouts.Slots.{copied_width, copy_start, stored_width}
 use Rattle.passrun.proofs.course.Ahead.{after_last, after_next, after_same, is_record, of_node_is}
 use Rattle.passrun.proofs.places.Copies.{agree_table, copies_row, shown_both, shown_row}
 use Rattle.passrun.proofs.Damage.{leaves_on}
 use Rattle.passrun.proofs.course.Forests.{add_tree, add_values, fits_none, rules_add}
 use Rattle.passrun.proofs.steps.Moves.{met_child, returned, put_child, ended, kept_copy, known_last, known_more, known_differs}
-use Rattle.pass_rows.proofs.Recorded.{first_row}
 use Rattle.passrun.proofs.steps.RuleRuns.{IsPlaced, known_here}
 use Rattle.passrun.proofs.places.Slots.{begins_with_copy, length_row, length_stored, share_at, shares}
-use Rattle.pass_rows.proofs.places.Widths.{few_values}
 use Rattle.passrun.proofs.places.Tables.{with_is, with_here, with_other, same_values, All-before, All-after}
 
 -- The instruction at an index, and those after it.

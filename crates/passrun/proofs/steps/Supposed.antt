@@ -1,9 +1,5 @@
 -- A pass that runs between two devices also runs under weaker assumptions about them.
-use Rattle.std.proofs.Common.{◌≡◌, ℕ, Bool, true, List}
-use Rattle.passcode.specs.Settings.{Setting}
-use Rattle.passrun.specs.declared.passing.machine.Machine.{Machine}
-use Rattle.pass_rows.specs.declared.open_node.OpenNode.{OpenNode}
-use Rattle.passrun.specs.passing.Running.{Runs, RunsFrom, LeadsFrom, LeadsTo}
+use Rattle.passrun.proofs.Common.{◌≡◌, ℕ, Bool, true, List, Setting, Machine, OpenNode, Runs, RunsFrom, LeadsFrom, LeadsTo}
 use Rattle.std.specs.Prelude.{Option}
 
 pub runs_supposed : {c : Setting} {honest honest' to_honest to_honest' : Bool} {content to : List ℕ} {meter : ℕ} {m : Machine}

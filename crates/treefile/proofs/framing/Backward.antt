@@ -1,21 +1,13 @@
 -- A file is read back as its bodies, the last one first, and a content that is read back so is a file.
-use Rattle.std.proofs.Common.{◌≡◌, ℕ, ◌+◌, ◌^◌, ◌≤◌, ◌<◌, true, List, [], ◌∷◌, ◌++◌, length, take, subst}
-use Rattle.std.proofs.Common.{slice_range, reverse, Some, None, Ok, Err, All, refl, sym}
-use Rattle.std.proofs.Common.{append_assoc, append-nil, arith}
-use Rattle.std.specs.Int.{w16, w32, to_be_bytes}
-use Rattle.std.specs.List.{flat_map}
-use Rattle.std.proofs.lemmas.Bool.{eq-eqb}
-use Rattle.std.proofs.lemmas.Bool.Decides.{nat_tests}
-use Rattle.std.proofs.lemmas.List.{drop-take, drop_at, length-append, reverse-append, reverse-reverse, take-append-drop}
-use Rattle.std.proofs.lemmas.List.{take-take, take_all, take_at}
-use Rattle.std.proofs.lemmas.List.Elements.{All-cons, All-head, All-nil, All-push, All-tail}
-use Rattle.std.proofs.lemmas.Grind.{flat_map-append}
+use Rattle.treefile.proofs.Common
+use Common.{◌≡◌, ℕ, ◌+◌, ◌^◌, ◌≤◌, ◌<◌, true, List, [], ◌∷◌, ◌++◌, length, take, subst, slice_range, reverse, Some, None, Ok, Err}
+use Common.{All, refl, sym, append_assoc, append-nil, arith, w16, w32, to_be_bytes, flat_map, eq-eqb, nat_tests, drop-take}
+use Common.{drop_at, reverse-append, reverse-reverse, take-take, take_all, take_at, All-cons, All-head, All-nil, All-push}
+use Common.{All-tail, flat_map-append, FrameFault, Damaged, NotATreeFile, IsBody, IsBytes, IsUsable, body_before, header_bytes}
+use Common.{is_tree_file, Version, file, frame, header}
+use Rattle.std.proofs.lemmas.List.{length-append, take-append-drop}
 use Rattle.std.proofs.lemmas.Nat.{be_bytes_2, from_be_bytes-to_be_bytes_2}
-use Rattle.treefile.specs.declared.reading.FrameFault.{FrameFault}
-use Rattle.treefile.specs.declared.reading.FrameFault.TheVariants.{Damaged, NotATreeFile}
 use Rattle.treefile.specs.framing.Backward.{ReadsBack, ReadsTo, before_frame, next_before, pass_of}
-use Rattle.treefile.specs.framing.Ending.{IsBody, IsBytes, IsUsable, body_before, header_bytes, is_tree_file}
-use Rattle.treefile.specs.records.TreeFile.{Version, file, frame, header}
 use Rattle.treefile.proofs.framing.Files.{file_grows, length-header, file_decided}
 use Rattle.treefile.proofs.records.Frames.{answers, bytes_part, frame_is_read, length_part, read_is_frame}
 

@@ -1,14 +1,11 @@
 -- Bytes appended to a content, one part after another.
-use Rattle.std.proofs.Common.{◌≡◌, ℕ, ◌+◌, ◌⊎◌, inl, inr, List, [], ◌∷◌, ◌++◌, length, take, Result, Ok, Err, refl, sym, ◌∙◌}
-use Rattle.std.proofs.Common.{append_assoc, append-nil}
-use Rattle.std.specs.List.{All, flat_map}
+use Rattle.treefile.proofs.Common
+use Common.{◌≡◌, ℕ, ◌+◌, ◌⊎◌, inl, inr, List, [], ◌∷◌, ◌++◌, length, take, Result, Ok, Err, refl, sym, ◌∙◌, append_assoc}
+use Common.{append-nil, flat_map, flat_map-append, All-append, All-cons, All-nil, IsBody, file, frame, header, version_two}
+use Rattle.std.specs.List.{All}
 use Rattle.std.proofs.Math.Seq.{take-append-add, take-length}
-use Rattle.std.proofs.lemmas.Grind.{flat_map-append}
-use Rattle.std.proofs.lemmas.List.Elements.{All-append, All-cons, All-nil}
 use Rattle.treefile.specs.framing.Beginning.{AddsFrames, BeginsFile, LeavesBeginning}
 use Rattle.treefile.specs.devices.Device.{AppendsPrefix}
-use Rattle.treefile.specs.framing.Ending.{IsBody}
-use Rattle.treefile.specs.records.TreeFile.{file, frame, header, version_two}
 use Rattle.treefile.specs.declared.device.DeviceFault.{DeviceFault}
 use Rattle.treefile.specs.declared.device.DeviceFault.TheVariants as device_fault
 

@@ -1,18 +1,12 @@
 -- The last body of a file.
-use Rattle.std.proofs.Common.{◌≡◌, ℕ, ◌≤◌, ◌↔◌, true, List, [], ◌∷◌, ◌++◌, length, take, Ok}
-use Rattle.std.proofs.Common.{Err, refl, append_assoc, arith}
-use Rattle.std.specs.Prelude.{nat_eq}
-use Rattle.std.specs.Int.{w16, to_be_bytes}
-use Rattle.std.specs.List.{flat_map, starts_with}
+use Rattle.treefile.proofs.Common
+use Common.{◌≡◌, ℕ, ◌≤◌, ◌↔◌, true, List, [], ◌∷◌, ◌++◌, length, take, Ok, Err, refl, append_assoc, arith, nat_eq, w16}
+use Common.{to_be_bytes, flat_map, starts_with, Decides-eqb, nat_tests, take_at, flat_map-append, Damaged, Version, file, frame}
+use Common.{header, IsUsable, greatest_body, header_bytes, least_body}
 use Rattle.std.specs.Bool.{Decides}
-use Rattle.std.proofs.lemmas.Bool.Decides.{Decides-eqb, nat_tests}
-use Rattle.std.proofs.lemmas.List.{append-nil, length-append, take_at}
-use Rattle.std.proofs.lemmas.Grind.{flat_map-append}
+use Rattle.std.proofs.lemmas.List.{append-nil, length-append}
 use Rattle.std.proofs.lemmas.Slice.Eq.{slice_eq-Decides}
-use Rattle.treefile.specs.declared.reading.FrameFault.TheVariants.{Damaged}
-use Rattle.treefile.specs.records.TreeFile.{Version, file, frame, header}
-use Rattle.treefile.specs.framing.Ending.{IsUsable, greatest_body, header_bytes, is_tree_file, last_body_of}
-use Rattle.treefile.specs.framing.Ending.{least_body}
+use Rattle.treefile.specs.framing.Ending.{is_tree_file, last_body_of}
 use Rattle.treefile.proofs.records.Frames.{answers, frame_is_read, none_before}
 
 -- the test of the first bytes decides whether they are the magic of the version

@@ -1,29 +1,17 @@
 -- The expected items, and that expected bodies are the records of trees.
-use Rattle.std.proofs.Common.{◌≡◌, ℕ, zero, suc, ◌+◌, ◌-◌, ◌≤◌, pos, List, [], ◌∷◌, ◌++◌, length, take, drop, Some, slice_get}
-use Rattle.std.proofs.Common.{refl, append_assoc, arith}
-use Rattle.std.proofs.lemmas.List.{drop_all, take_all}
-use Rattle.ag_value.specs.declared.value.Value.{Text}
-use Rattle.ag_value.specs.declared.value.Value.TheVariants as value
-use Rattle.ag_grammar.specs.declared.direction.Direction.{Direction}
-use Rattle.ag_grammar.specs.declared.direction.Direction.TheVariants.{LeftToRight, RightToLeft}
-use Rattle.ag_grammar.specs.declared.grammar.Item.TheVariants as item
-use Rattle.ag_grammar.specs.declared.grammar.Terminal.TheVariants.{Literal, Class}
-use Rattle.ag_grammar.specs.grammars.AttributeGrammar.{Grammar, stored_items}
-use Rattle.ag_grammar.specs.grammars.Passes.{Passes}
-use Rattle.ag_grammar.specs.grammars.Solution.{AtEachNodeOf, NoRule, SolvesAll, Valuation, WellAt, at, graft, left_passes}
-use Rattle.ag_grammar.specs.grammars.Tree.{Forest, deepest, leaf, node, none, more}
-use Rattle.ag_grammar.proofs.grammars.EachNode.{no_rules}
-use Rattle.ag_value.proofs.operations.Wells.{well_text}
-use Rattle.treefile.specs.framing.ExpectedRecords.{AreThere, Expects, Child, IsRecordOf, Pending, before_others}
-use Rattle.treefile.specs.framing.ExpectedRecords.{children_with_copies}
+use Rattle.treefile.proofs.Common
+use Common.{◌≡◌, ℕ, zero, suc, ◌+◌, ◌-◌, ◌≤◌, pos, List, [], ◌∷◌, ◌++◌, length, take, drop, Some, slice_get, refl, append_assoc}
+use Common.{arith, drop_all, take_all, Text, Direction, LeftToRight, RightToLeft, Literal, Class, Grammar, stored_items, Passes}
+use Common.{AtEachNodeOf, NoRule, SolvesAll, Valuation, WellAt, at, graft, left_passes, Forest, deepest, leaf, node, none, more}
+use Common.{no_rules, well_text, AreThere, Expects, Child, IsRecordOf, Pending, before_others, children_with_copies, prefix_all}
+use Common.{bodies_of_all, values_up_to, Version}
+use Common.value
+use Common.item
 use Rattle.treefile.specs.Laws.{AllPending, ExpectedAreThere, NextPending}
-use Rattle.treefile.specs.records.Orders.{prefix_all}
-use Rattle.treefile.specs.records.Records.{bodies_of_all, values_up_to}
-use Rattle.treefile.specs.records.TreeFile.{Version}
 use Rattle.treefile.proofs.records.Copies.{MatchCopies, fits_exact, stored_exact}
 use Rattle.treefile.proofs.framing.Way.{tree_expected}
 
--- the next child after i visited ones from left to right, and before i unvisited ones from right to left
+-- from left to right the children from index i on begin with the child i; from right to left the first i + 1 children do
 next_left : (level i : ℕ) (xs : List Child) (x : Child) (todo : Pending) → slice_get xs i ≡ Some x
     → before_others LeftToRight level (drop i xs) todo ≡ (level, x) ∷ before_others LeftToRight level (drop (suc i) xs) todo
 next_left level i [] x todo e = cc

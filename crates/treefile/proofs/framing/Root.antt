@@ -1,14 +1,8 @@
 -- The last record of a file is the root's, and a record of the last pass has the values of all attributes.
-use Rattle.std.proofs.Common.{ℕ, zero, suc, List, [], ◌∷◌, ◌++◌, All, refl}
-use Rattle.std.proofs.lemmas.Bool.{le-leb}
-use Rattle.std.proofs.lemmas.List.Elements.{All-head, All-tail}
-use Rattle.ag_grammar.specs.grammars.Passes.{direction_of}
-use Rattle.ag_grammar.specs.grammars.Solution.{children}
-use Rattle.ag_grammar.specs.grammars.Tree.{node}
-use Rattle.treefile.specs.framing.Ending.{IsBody}
+use Rattle.treefile.proofs.Common
+use Common.{ℕ, zero, suc, List, [], ◌∷◌, ◌++◌, All, refl, le-leb, All-head, All-tail, direction_of, children, node, IsBody}
+use Common.{postfix_all, bodies_of_all, copies_of, node_body}
 use Rattle.treefile.specs.Laws.{RootIsLast, ValuesAreWhole}
-use Rattle.treefile.specs.records.Orders.{postfix_all}
-use Rattle.treefile.specs.records.Records.{bodies_of_all, copies_of, node_body}
 use Rattle.treefile.proofs.framing.Files.{last_of_file}
 use Rattle.treefile.proofs.records.Records.{file_fits}
 

@@ -1,28 +1,16 @@
 -- Reading from the end of a file: the records of a tree are expected, and a body that is found is one of them
 -- or contradicts them.
-use Rattle.std.proofs.Common.{◌≡◌, ℕ, suc, ◌+◌, ◌≤◌, List, [], ◌∷◌, ◌++◌, length, Option, Some, None, Result, Ok}
-use Rattle.std.proofs.Common.{slice_get, refl, append_assoc, append-nil, arith}
-use Rattle.std.specs.List.{flat_map}
-use Rattle.ag_value.specs.declared.value.Value.{Value}
-use Rattle.ag_grammar.specs.declared.direction.Direction.{Direction}
-use Rattle.ag_grammar.specs.declared.direction.Direction.TheVariants.{LeftToRight, RightToLeft}
-use Rattle.ag_grammar.specs.declared.grammar.Item.TheVariants as item
-use Rattle.ag_grammar.specs.declared.grammar.Item.{Item}
-use Rattle.ag_grammar.specs.declared.grammar.Terminal.TheVariants.{Literal, Class}
-use Rattle.ag_grammar.specs.grammars.AttributeGrammar.{Grammar, stored_items}
-use Rattle.ag_grammar.specs.grammars.Passes.{Passes, direction_of, other}
-use Rattle.ag_grammar.specs.grammars.Solution.{AtEachNodeOf, IsWellOn, NoRule, Solves, SolvesAll, Valuation, WellAt, children}
-use Rattle.ag_grammar.specs.grammars.Solution.{left_passes, rest}
-use Rattle.ag_grammar.specs.grammars.Tree.{Tree, Forest, Fits, deepest, depth_of, leaf, node, none, more, node_count}
-use Rattle.treefile.specs.framing.ExpectedRecords.{Expects, Breaks, Child, MatchesCopy, IsNodeRecord, IsTooLarge}
-use Rattle.treefile.specs.framing.ExpectedRecords.{Pending, before_others, children_with_copies}
+use Rattle.treefile.proofs.Common
+use Common.{◌≡◌, ℕ, suc, ◌+◌, ◌≤◌, List, [], ◌∷◌, ◌++◌, length, Option, Some, None, Result, Ok, slice_get, refl, append_assoc}
+use Common.{append-nil, arith, flat_map, Value, Direction, LeftToRight, RightToLeft, Item, Literal, Class, Grammar, stored_items}
+use Common.{Passes, direction_of, other, AtEachNodeOf, IsWellOn, NoRule, Solves, SolvesAll, Valuation, WellAt, children}
+use Common.{left_passes, rest, Tree, Forest, Fits, deepest, depth_of, leaf, node, none, more, node_count, Expects, Breaks, Child}
+use Common.{MatchesCopy, IsNodeRecord, IsTooLarge, Pending, before_others, children_with_copies, postfix, prefix, prefix_all}
+use Common.{bodies_of, bodies_of_all, copies_of, copy_of, node_body, values_up_to, Version, frame, FrameFault}
+use Common.item
 use Rattle.treefile.specs.framing.Backward.{ReadsBack, before_frame, next_before}
 use Rattle.treefile.specs.Laws.{NoFileHasNoTree, OneRecord, ReadingBegins, ReadingBreaks, ReadingEnds, ReadingContinues}
 use Rattle.treefile.specs.Laws.{ReadingIsTooLong}
-use Rattle.treefile.specs.records.Orders.{postfix, prefix, prefix_all}
-use Rattle.treefile.specs.records.Records.{bodies_of, bodies_of_all, copies_of, copy_of, node_body, values_up_to}
-use Rattle.treefile.specs.records.TreeFile.{Version, frame}
-use Rattle.treefile.specs.declared.reading.FrameFault.{FrameFault}
 use Rattle.treefile.proofs.framing.Backward.{pass_of_file}
 use Rattle.treefile.proofs.records.Copies.{MatchCopies, match_copies, are_copies, kept, kept_same}
 use Rattle.treefile.proofs.framing.Files.{begins}

@@ -1,24 +1,13 @@
 -- The copies in a record: their number, that they are well, and that they are the values of the children that match them.
-use Rattle.std.proofs.Common.{◌≡◌, ℕ, zero, suc, ◌≤◌, Bool, true, false, List, [], ◌∷◌, length, take, drop, Option, Some}
-use Rattle.std.proofs.Common.{None, slice_get, All, refl, sym, subst, arith, length-append, length-drop}
-use Rattle.std.proofs.Common.{take-append-drop}
-use Rattle.std.proofs.lemmas.List.{drop_at, take_at}
-use Rattle.std.proofs.lemmas.List.Elements.{All-append, All-cons, All-nil}
-use Rattle.ag_value.specs.declared.value.Value.{Value, Text}
-use Rattle.ag_value.specs.Well.{IsWell}
-use Rattle.ag_grammar.specs.declared.grammar.Item.TheVariants as item
-use Rattle.ag_grammar.specs.declared.grammar.Item.{Item}
-use Rattle.ag_grammar.specs.declared.grammar.Production.{Production}
-use Rattle.ag_grammar.specs.declared.grammar.Terminal.TheVariants.{Class}
-use Rattle.ag_grammar.specs.grammars.AttributeGrammar.{Grammar}
-use Rattle.ag_grammar.specs.grammars.Passes.{Passes}
-use Rattle.ag_grammar.specs.grammars.Solution.{AtEachNodeOf, IsWellOn, NoRule, Solves, SolvesAll, Valuation, WellAt, left_passes}
-use Rattle.ag_grammar.specs.grammars.Solution.{rest}
-use Rattle.ag_grammar.specs.grammars.Tree.{Forest, Tree, Fits, FitsAll, leaf, more, node, none}
-use Rattle.treefile.specs.framing.ExpectedRecords.{AreCopies, Child, MatchesCopy, children_with_copies}
+use Rattle.treefile.proofs.Common
+use Common.{◌≡◌, ℕ, zero, suc, ◌≤◌, Bool, true, false, List, [], ◌∷◌, length, take, drop, Option, Some, None, slice_get, All}
+use Common.{refl, sym, subst, arith, length-append, length-drop, take-append-drop, drop_at, take_at, All-append, All-cons}
+use Common.{All-nil, Value, Text, IsWell, Item, Production, Class, Grammar, Passes, AtEachNodeOf, IsWellOn, NoRule, Solves}
+use Common.{SolvesAll, Valuation, WellAt, left_passes, rest, Forest, Tree, Fits, FitsAll, leaf, more, node, none, AreCopies}
+use Common.{Child, MatchesCopy, children_with_copies, copies_of, copy_of, left_synthesized, max_copied, max_copies}
+use Common.{synthesized_count, synthesized_passes, with_copies}
+use Common.item
 use Rattle.treefile.specs.records.Listed.{copied_count, copies_count}
-use Rattle.treefile.specs.records.Records.{copies_of, copy_of, left_synthesized, max_copied, max_copies, synthesized_count}
-use Rattle.treefile.specs.records.Records.{synthesized_passes, with_copies}
 use Rattle.treefile.proofs.records.Values.{count_of_values, values_few, values_well}
 
 -- an element of a prefix of a list is one of the list

@@ -1,29 +1,17 @@
 -- The file of pass 0 of a tree has the records of the tree alone.
-use Rattle.std.proofs.Common.{◌≡◌, ℕ, zero, suc, ◌≤◌, List, [], ◌∷◌, Option, Some, None}
-use Rattle.std.proofs.Common.{slice_get, refl, ap, arith}
-use Rattle.std.proofs.lemmas.Bool.Decides.{nat_tests}
-use Rattle.ag_value.specs.declared.value.Value.{Value}
-use Rattle.ag_value.specs.declared.value.Value.TheVariants as value
-use Rattle.ag_value.specs.Well.{IsWell}
+use Rattle.treefile.proofs.Common
+use Common.{◌≡◌, ℕ, zero, suc, ◌≤◌, List, [], ◌∷◌, Option, Some, None, slice_get, refl, ap, arith, nat_tests, Value, IsWell, Item}
+use Common.{Production, Class, Grammar, stored_items, Passes, AtEachNodeOf, IsWellOn, NoRule, Solves, SolvesAll, Valuation}
+use Common.{WellAt, children, left_passes, rest, Fits, FitsAll, Forest, IsTokenText, IsTreeOf, Tree, leaf, node, none, more}
+use Common.{well_text, IsFileOfTree, bodies_of, bodies_of_all, copies_of, left_synthesized, node_body, values_up_to, with_copies}
+use Common.{Version, body_of, Node}
+use Common.value
+use Common.item
+use Common.orders
 use Rattle.ag_grammar.specs.Lists.{Each}
-use Rattle.ag_grammar.specs.declared.grammar.Item.TheVariants as item
-use Rattle.ag_grammar.specs.declared.grammar.Item.{Item}
-use Rattle.ag_grammar.specs.declared.grammar.Production.{Production}
-use Rattle.ag_grammar.specs.declared.grammar.Terminal.TheVariants.{Class}
-use Rattle.ag_grammar.specs.grammars.AttributeGrammar.{Grammar, stored_items}
-use Rattle.ag_grammar.specs.grammars.Passes.{Passes}
-use Rattle.ag_grammar.specs.grammars.Solution.{AtEachNodeOf, IsWellOn, NoRule, Solves, SolvesAll, Valuation, WellAt, children}
-use Rattle.ag_grammar.specs.grammars.Solution.{left_passes, rest}
 use Rattle.ag_grammar.specs.grammars.Tree as tree
-use Rattle.ag_grammar.specs.grammars.Tree.{Fits, FitsAll, Forest, IsTokenText, IsTreeOf, Tree, leaf, node, none, more}
-use Rattle.ag_value.proofs.operations.Wells.{well_text}
 use Rattle.treefile.specs.records.FirstFile.{AreFromOne, IsFirstFile, first_bodies, first_bodies_all, first_file, leaf_texts}
 use Rattle.treefile.specs.records.FirstFile.{no_passes}
-use Rattle.treefile.specs.records.Orders as orders
-use Rattle.treefile.specs.records.Records.{IsFileOfTree, bodies_of, bodies_of_all, copies_of, left_synthesized, node_body}
-use Rattle.treefile.specs.records.Records.{values_up_to, with_copies}
-use Rattle.treefile.specs.records.TreeFile.{Version, body_of}
-use Rattle.treefile.specs.declared.body.Kind.TheVariants.{Node}
 use Rattle.treefile.proofs.records.Copies.{synthesized_is}
 use Rattle.treefile.proofs.records.Texts.{texts_are_given}
 

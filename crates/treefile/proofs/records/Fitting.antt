@@ -1,18 +1,13 @@
 -- An accepted grammar has few enough productions, and under a legal assignment its records have few enough values.
-use Rattle.std.proofs.Common.{◌≡◌, ℕ, ◌*◌, ◌≤◌, List, [], ◌∷◌, length, map, Option, Some, None, slice_get, refl, arith}
-use Rattle.std.proofs.Common.{length-append, length-take}
-use Rattle.std.proofs.lemmas.List.{length-map}
-use Rattle.ag_grammar.specs.declared.grammar.Item.TheVariants as item
-use Rattle.ag_grammar.specs.declared.grammar.Item.{Item}
+use Rattle.treefile.proofs.Common
+use Common.{◌≡◌, ℕ, ◌*◌, ◌≤◌, List, [], ◌∷◌, length, map, Option, Some, None, slice_get, refl, arith, length-append, length-take}
+use Common.{length-map, Item, Literal, Class, Grammar, stored_items, IsLegal, Passes, IsNumbered, max_copied, max_copies}
+use Common.{synthesized_count, version_one, version_two}
+use Common.item
 use Rattle.ag_grammar.specs.declared.grammar.Symbol.{Symbol}
-use Rattle.ag_grammar.specs.declared.grammar.Terminal.TheVariants.{Literal, Class}
 use Rattle.ag_grammar.specs.grammars.Accepted.{IsAccepted}
-use Rattle.ag_grammar.specs.grammars.AttributeGrammar.{Grammar, Synthesized, Inherited, stored_items, symbol_kinds}
-use Rattle.ag_grammar.specs.grammars.Passes.{IsLegal, Passes}
+use Rattle.ag_grammar.specs.grammars.AttributeGrammar.{Synthesized, Inherited, symbol_kinds}
 use Rattle.treefile.specs.Laws.{FitsAccepted}
-use Rattle.treefile.specs.records.OneTree.{IsNumbered}
-use Rattle.treefile.specs.records.Records.{max_copied, max_copies, synthesized_count}
-use Rattle.treefile.specs.records.TreeFile.{version_one, version_two}
 
 -- a symbol has at most 16 attributes
 few_kinds : (g : Grammar) (s : ℕ) → IsAccepted g → (o : Option Symbol) → slice_get g.symbols s ≡ o → length (symbol_kinds o) ≤ 16

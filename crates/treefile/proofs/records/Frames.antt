@@ -1,19 +1,13 @@
 -- A body is read exactly if its frame ends at the offset.
-use Rattle.std.proofs.Common.{◌≡◌, ℕ, ◌+◌, ◌-◌, ◌^◌, ◌<◌, ◌≤◌, ◌⊎◌, Bool, true, false, cond, inl, inr, List, ◌++◌, length}
-use Rattle.std.proofs.Common.{take, drop, slice_range, Ok, Err, refl, ◌∙◌, append_assoc, arith, sym}
-use Rattle.std.specs.Prelude.{nat_lt}
-use Rattle.std.specs.Int.{w32, to_be_bytes}
-use Rattle.std.proofs.lemmas.Bool.{le-ltb, lt-ltb}
-use Rattle.std.proofs.lemmas.Bool.Decides.{nat_tests}
-use Rattle.std.proofs.lemmas.List.{take_at, drop_at, take-append-drop, length-append, length-take, length-take-le, length-drop}
-use Rattle.std.proofs.lemmas.List.{get_or-drop, get_or-take, get_or_past}
+use Rattle.treefile.proofs.Common
+use Common.{◌≡◌, ℕ, ◌+◌, ◌-◌, ◌^◌, ◌<◌, ◌≤◌, ◌⊎◌, Bool, true, false, cond, inl, inr, List, ◌++◌, length, take, drop, slice_range}
+use Common.{Ok, Err, refl, ◌∙◌, append_assoc, arith, sym, nat_lt, w32, to_be_bytes, le-ltb, lt-ltb, nat_tests, take_at, drop_at}
+use Common.{get_or-drop, get_or-take, get_or_past, FrameFault, Damaged, Version, frame, IsBytes, IsUsable, length_bytes}
+use Common.{least_body, greatest_body, header_bytes}
+use Rattle.std.proofs.lemmas.List.{take-append-drop, length-append, length-take, length-take-le, length-drop}
 use Rattle.std.proofs.lemmas.List.Folds.{drop_split}
 use Rattle.std.proofs.lemmas.Nat.{be_bytes_4, from_be_bytes-to_be_bytes_4}
-use Rattle.treefile.specs.declared.reading.FrameFault.{FrameFault}
-use Rattle.treefile.specs.declared.reading.FrameFault.TheVariants.{Damaged}
-use Rattle.treefile.specs.records.TreeFile.{Version, frame}
-use Rattle.treefile.specs.framing.Ending.{IsBodyBefore, IsBytes, IsUsable, body_before, fits_before, number_before, length_bytes}
-use Rattle.treefile.specs.framing.Ending.{least_body, greatest_body, header_bytes}
+use Rattle.treefile.specs.framing.Ending.{IsBodyBefore, body_before, fits_before, number_before}
 
 -- ---- reading a content whose frame is known
 

@@ -1,27 +1,14 @@
 -- The values of a record as a list.
-use Rattle.std.proofs.Common.{◌≡◌, ℕ, zero, suc, ◌+◌, ◌≤◌, Bool, true, false, List, [], ◌∷◌, ◌++◌, length, take, drop, None, inl}
-use Rattle.std.proofs.Common.{All, slice_get, refl, ap, append_assoc, length-append, length-drop, length-take-le, inr}
-use Rattle.std.proofs.Common.{take-append-drop, arith}
-use Rattle.std.specs.List.{flat_map}
-use Rattle.std.proofs.lemmas.Bool.{le-leb}
-use Rattle.std.proofs.lemmas.Bool.Decides.{leb_tells, nat_tests}
-use Rattle.std.proofs.lemmas.List.{drop_at}
-use Rattle.std.proofs.lemmas.List.Elements.{All-append, All-drop, All-head, All-tail, All-take}
-use Rattle.ag_value.specs.declared.value.Value.{Value}
-use Rattle.ag_value.specs.Spelling.{spelling_of}
-use Rattle.ag_value.specs.Well.{IsWell}
-use Rattle.ag_grammar.specs.declared.grammar.Item.TheVariants as item
-use Rattle.ag_grammar.specs.declared.grammar.Item.{Item}
-use Rattle.ag_grammar.specs.declared.grammar.Production.{Production}
-use Rattle.ag_grammar.specs.grammars.AttributeGrammar.{Grammar, stored_items}
-use Rattle.ag_grammar.specs.grammars.Passes.{Passes}
-use Rattle.ag_grammar.specs.grammars.Solution.{WellAt, left_passes}
-use Rattle.treefile.specs.framing.ExpectedRecords.{AreCopies, Child, IsRecordOf, children_with_copies}
+use Rattle.treefile.proofs.Common
+use Common.{◌≡◌, ℕ, zero, suc, ◌+◌, ◌≤◌, Bool, true, false, List, [], ◌∷◌, ◌++◌, length, take, drop, None, inl, All, slice_get}
+use Common.{refl, ap, append_assoc, length-append, length-drop, length-take-le, inr, take-append-drop, arith, flat_map, le-leb}
+use Common.{leb_tells, nat_tests, drop_at, All-append, All-drop, All-head, All-tail, All-take, Value, spelling_of, IsWell, Item}
+use Common.{Production, Grammar, stored_items, Passes, WellAt, left_passes, AreCopies, Child, IsRecordOf, children_with_copies}
+use Common.{values_up_to, with_copies, Version}
+use Common.item
 use Rattle.treefile.specs.Laws.{BytesAreLeft, ListedRecord, ValueIsMissing}
 use Rattle.treefile.specs.records.Listed.{IsListedRecord, count_up_to, first_of_values, others_of_values, listed_value}
 use Rattle.treefile.specs.records.Listed.{stored_count}
-use Rattle.treefile.specs.records.Records.{values_up_to, with_copies}
-use Rattle.treefile.specs.records.TreeFile.{Version}
 use Rattle.treefile.proofs.records.Spelled.{spelled_apart}
 use Rattle.treefile.proofs.records.Values.{count_of_values, values_well}
 

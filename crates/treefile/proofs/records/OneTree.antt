@@ -1,25 +1,13 @@
 -- A list begins with the records of at most one tree, and a content is the file of at most one.
-use Rattle.std.proofs.Common.{◌≡◌, ℕ, zero, suc, ◌≤◌, List, [], ◌∷◌, ◌++◌, length, reverse, refl}
-use Rattle.std.proofs.Common.{append_assoc, arith}
-use Rattle.std.proofs.lemmas.List.{reverse-append, reverse-reverse}
-use Rattle.std.proofs.lemmas.Option.{slice_get_within}
-use Rattle.ag_value.specs.declared.value.Value.{Value, Text}
+use Rattle.treefile.proofs.Common
+use Common.{◌≡◌, ℕ, zero, suc, ◌≤◌, List, [], ◌∷◌, ◌++◌, length, reverse, refl, append_assoc, arith, reverse-append}
+use Common.{reverse-reverse, slice_get_within, Value, Text, Direction, LeftToRight, RightToLeft, Item, Class, Grammar}
+use Common.{stored_items, Passes, direction_of, other, AtEachNodeOf, IsWellOn, NoRule, Same, SameAt, Solves, SolvesAll, Valuation}
+use Common.{WellAt, children, rest, Tree, Forest, Fits, FitsAll, leaf, node, none, more, IsNumbered, postfix, prefix, prefix_all}
+use Common.{bodies_of, bodies_of_all, copies_of, Version}
+use Common.item
 use Rattle.ag_value.specs.declared.value.Value.TheVariants.{outs-Text}
-use Rattle.ag_grammar.specs.declared.direction.Direction.{Direction}
-use Rattle.ag_grammar.specs.declared.direction.Direction.TheVariants.{LeftToRight, RightToLeft}
-use Rattle.ag_grammar.specs.declared.grammar.Item.TheVariants as item
-use Rattle.ag_grammar.specs.declared.grammar.Item.{Item}
-use Rattle.ag_grammar.specs.declared.grammar.Terminal.TheVariants.{Class}
-use Rattle.ag_grammar.specs.grammars.AttributeGrammar.{Grammar, stored_items}
-use Rattle.ag_grammar.specs.grammars.Passes.{Passes, direction_of, other}
-use Rattle.ag_grammar.specs.grammars.Solution.{AtEachNodeOf, IsWellOn, NoRule, Same, SameAt, Solves, SolvesAll, Valuation, WellAt}
-use Rattle.ag_grammar.specs.grammars.Solution.{children, rest}
-use Rattle.ag_grammar.specs.grammars.Tree.{Tree, Forest, Fits, FitsAll, leaf, node, none, more}
 use Rattle.treefile.specs.Laws.{OneReading, OneTreeAtEnd, OneTreeBefore}
-use Rattle.treefile.specs.records.OneTree.{IsNumbered}
-use Rattle.treefile.specs.records.Orders.{postfix, prefix, prefix_all}
-use Rattle.treefile.specs.records.Records.{bodies_of, bodies_of_all, copies_of}
-use Rattle.treefile.specs.records.TreeFile.{Version}
 use Rattle.treefile.proofs.framing.Backward.{reads_same}
 use Rattle.treefile.proofs.records.Orders.{turned}
 use Rattle.treefile.proofs.records.Records.{file_back}

@@ -1,12 +1,10 @@
 -- The two orders of a tree's bodies: their lengths, and that a list begins or ends with the bodies of at most one tree.
-use Rattle.std.proofs.Common.{◌≡◌, ℕ, suc, ◌+◌, List, [], ◌∷◌, ◌++◌, length, Option, reverse, refl, ap}
-use Rattle.std.proofs.Common.{append_assoc, length-append, arith}
-use Rattle.std.proofs.lemmas.List.{length-reverse, reverse-append, reverse-reverse}
-use Rattle.ag_grammar.specs.declared.direction.Direction.{Direction}
-use Rattle.ag_grammar.specs.declared.direction.Direction.TheVariants.{LeftToRight, RightToLeft}
-use Rattle.ag_grammar.specs.grammars.Passes.{other}
-use Rattle.treefile.specs.records.Orders.{AllMatchArity, BodyForest, BodyTree, MatchesArity, branch, joined, more, node_count}
-use Rattle.treefile.specs.records.Orders.{node_counts, none, postfix, postfix_all, prefix, prefix_all, tree_count}
+use Rattle.treefile.proofs.Common
+use Common.{◌≡◌, ℕ, suc, ◌+◌, List, [], ◌∷◌, ◌++◌, length, Option, reverse, refl, ap, append_assoc, length-append, arith}
+use Common.{length-reverse, reverse-append, reverse-reverse, Direction, LeftToRight, RightToLeft, other, joined, postfix}
+use Common.{postfix_all, prefix, prefix_all}
+use Rattle.treefile.specs.records.Orders.{AllMatchArity, BodyForest, BodyTree, MatchesArity, branch, more, node_count}
+use Rattle.treefile.specs.records.Orders.{node_counts, none, tree_count}
 
 -- a reversal of lists joined in one direction joins their reversals in the other
 turn_joined : (d : Direction) (xs ys : List (List ℕ)) → reverse (joined d xs ys) ≡ joined (other d) (reverse xs) (reverse ys)

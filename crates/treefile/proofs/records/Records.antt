@@ -1,33 +1,17 @@
 -- The records of a tree's file: there is one for each node, and the length of each body is within the limits, so that the file is
 -- read back.
-use Rattle.std.proofs.Common.{◌≡◌, ℕ, suc, ◌≤◌, Bool, true, false, List, [], ◌∷◌, length, slice_get, All, refl, ap}
-use Rattle.std.proofs.Common.{subst, arith}
+use Rattle.treefile.proofs.Common
+use Common.{◌≡◌, ℕ, suc, ◌≤◌, Bool, true, false, List, [], ◌∷◌, length, slice_get, All, refl, ap, subst, arith, All-append}
+use Common.{All-cons, All-nil, All-push, Value, Text, spelling_of, IsWell, Item, Production, Grammar, stored_items, Direction}
+use Common.{LeftToRight, RightToLeft, Passes, direction_of, other, AtEachNodeOf, IsWellOn, NoRule, Solves, SolvesAll, Valuation}
+use Common.{WellAt, children, left_passes, rest, Forest, Tree, Fits, FitsAll, IsTreeOf, leaf, more, node, node_count, node_counts}
+use Common.{none, flat_map, w16, to_be_bytes, Kind, Node, Token, IsBody, IsUsable, joined, postfix, postfix_all, prefix}
+use Common.{FitsVersion, IsFileOfTree, bodies_of, bodies_of_all, copies_of, max_stored_values, values_up_to, with_copies, Version}
+use Common.{body_of}
+use Common.item
+use Common.orders
 use Rattle.std.proofs.lemmas.List.{length-append}
-use Rattle.std.proofs.lemmas.List.Elements.{All-append, All-cons, All-nil, All-push}
-use Rattle.ag_value.specs.declared.value.Value.{Value, Text}
-use Rattle.ag_value.specs.Spelling.{spelling_of}
-use Rattle.ag_value.specs.Well.{IsWell}
-use Rattle.ag_grammar.specs.declared.grammar.Item.TheVariants as item
-use Rattle.ag_grammar.specs.declared.grammar.Item.{Item}
-use Rattle.ag_grammar.specs.declared.grammar.Production.{Production}
-use Rattle.ag_grammar.specs.grammars.AttributeGrammar.{Grammar, stored_items}
-use Rattle.ag_grammar.specs.declared.direction.Direction.{Direction}
-use Rattle.ag_grammar.specs.declared.direction.Direction.TheVariants.{LeftToRight, RightToLeft}
-use Rattle.ag_grammar.specs.grammars.Passes.{Passes, direction_of, other}
-use Rattle.ag_grammar.specs.grammars.Solution.{AtEachNodeOf, IsWellOn, NoRule, Solves, SolvesAll, Valuation, WellAt, children}
-use Rattle.ag_grammar.specs.grammars.Solution.{left_passes, rest}
-use Rattle.ag_grammar.specs.grammars.Tree.{Forest, Tree, Fits, FitsAll, IsTreeOf, leaf, more, node, node_count, node_counts, none}
-use Rattle.std.specs.List.{flat_map}
-use Rattle.std.specs.Int.{w16, to_be_bytes}
-use Rattle.treefile.specs.declared.body.Kind.{Kind}
-use Rattle.treefile.specs.declared.body.Kind.TheVariants.{Node, Token}
 use Rattle.treefile.specs.framing.Backward.{ReadsBack}
-use Rattle.treefile.specs.framing.Ending.{IsBody, IsUsable}
-use Rattle.treefile.specs.records.Orders as orders
-use Rattle.treefile.specs.records.Orders.{joined, postfix, postfix_all, prefix}
-use Rattle.treefile.specs.records.Records.{FitsVersion, IsFileOfTree, bodies_of, bodies_of_all, copies_of}
-use Rattle.treefile.specs.records.Records.{max_stored_values, values_up_to, with_copies}
-use Rattle.treefile.specs.records.TreeFile.{Version, body_of}
 use Rattle.treefile.proofs.framing.Backward.{read_back}
 use Rattle.treefile.proofs.records.Copies.{copies_few, copies_well, stored_well}
 use Rattle.treefile.proofs.records.Orders.{turned}

@@ -1,15 +1,9 @@
 -- The greatest number of bytes of a body.
-use Rattle.std.proofs.Common.{ℕ, ◌*◌, ◌≤◌, List, [], ◌∷◌, length, All, arith}
-use Rattle.std.specs.List.{flat_map}
+use Rattle.treefile.proofs.Common
+use Common.{ℕ, ◌*◌, ◌≤◌, List, [], ◌∷◌, length, All, arith, flat_map, All-drop, Value, spelling_of, IsWell, Kind, Version}
+use Common.{body_of, greatest_body}
 use Rattle.std.proofs.lemmas.List.{length-append}
-use Rattle.std.proofs.lemmas.List.Elements.{All-drop}
-use Rattle.ag_value.specs.declared.value.Value.{Value}
-use Rattle.ag_value.specs.Spelling.{spelling_of}
-use Rattle.ag_value.specs.Well.{IsWell}
 use Rattle.ag_value.proofs.Lengths.{length-spelling}
-use Rattle.treefile.specs.declared.body.Kind.{Kind}
-use Rattle.treefile.specs.records.TreeFile.{Version, body_of}
-use Rattle.treefile.specs.framing.Ending.{greatest_body}
 
 -- the spelling of a well value has at most 1,048,576 bytes
 spelling_size : (value : Value) → IsWell value → length (spelling_of value) ≤ 1048576

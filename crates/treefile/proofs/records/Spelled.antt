@@ -1,26 +1,11 @@
 -- The bytes of a record determine its production and its values.
-use Rattle.std.proofs.Common.{◌≡◌, ℕ, zero, suc, ◌^◌, ◌<◌, ◌≤◌, Bool, true, false, List, [], ◌∷◌, ◌++◌, length, inl, inr, ap}
-use Rattle.std.proofs.Common.{All, Option, Some, slice_get, refl, append_assoc, arith}
-use Rattle.std.specs.Int.{w16, to_be_bytes}
-use Rattle.std.specs.List.{flat_map}
-use Rattle.std.proofs.lemmas.Bool.Decides.{leb_tells}
-use Rattle.std.proofs.lemmas.Grind.{flat_map-append}
-use Rattle.std.proofs.lemmas.List.{drop_at, take_at}
-use Rattle.std.proofs.lemmas.List.Elements.{All-head, All-tail}
+use Rattle.treefile.proofs.Common
+use Common.{◌≡◌, ℕ, zero, suc, ◌^◌, ◌<◌, ◌≤◌, Bool, true, false, List, [], ◌∷◌, ◌++◌, length, inl, inr, ap, All, Option, Some}
+use Common.{slice_get, refl, append_assoc, arith, w16, to_be_bytes, flat_map, leb_tells, flat_map-append, drop_at, take_at}
+use Common.{All-head, All-tail, slice_get_within, Value, Text, spelling_of, IsWell, well_is_read, Item, Grammar, stored_items}
+use Common.{Passes, SameAt, WellAt, left_passes, AreCopies, node_body, token_body, values_up_to, with_copies, Version}
 use Rattle.std.proofs.lemmas.Nat.{from_be_bytes-to_be_bytes_2}
-use Rattle.std.proofs.lemmas.Option.{slice_get_within}
-use Rattle.ag_value.specs.declared.value.Value.{Value, Text}
-use Rattle.ag_value.specs.Spelling.{spelling_of}
-use Rattle.ag_value.specs.Well.{IsWell}
-use Rattle.ag_value.proofs.Codec.{well_is_read}
-use Rattle.ag_grammar.specs.declared.grammar.Item.{Item}
-use Rattle.ag_grammar.specs.grammars.AttributeGrammar.{Grammar, stored_items}
-use Rattle.ag_grammar.specs.grammars.Passes.{Passes}
-use Rattle.ag_grammar.specs.grammars.Solution.{SameAt, WellAt, left_passes}
-use Rattle.treefile.specs.framing.ExpectedRecords.{AreCopies}
 use Rattle.treefile.specs.Laws.{OneNode}
-use Rattle.treefile.specs.records.Records.{node_body, token_body, values_up_to, with_copies}
-use Rattle.treefile.specs.records.TreeFile.{Version}
 
 -- the spelling of a well value followed by bytes determines the value and these bytes
 pub spelled_apart : (v w : Value) (xs ys : List ℕ) → IsWell v → IsWell w → spelling_of v ++ xs ≡ spelling_of w ++ ys

@@ -1,10 +1,7 @@
 -- Values that give each leaf of a tree its text.
-use Rattle.std.proofs.Common.{ℕ, zero, suc, [], ◌∷◌, slice_get, refl}
-use Rattle.ag_value.specs.declared.value.Value.{Text}
-use Rattle.ag_grammar.specs.grammars.AttributeGrammar.{Grammar}
-use Rattle.ag_grammar.specs.grammars.Solution.{NoRule, Solves, SolvesAll, Valuation, at}
-use Rattle.ag_grammar.proofs.grammars.EachNode.{no_rules}
-use Rattle.ag_grammar.specs.grammars.Tree.{Tree, Forest, leaf, node, none, more}
+use Rattle.treefile.proofs.Common
+use Common.{ℕ, zero, suc, [], ◌∷◌, slice_get, refl, Text, Grammar, NoRule, Solves, SolvesAll, Valuation, at, no_rules, Tree}
+use Common.{Forest, leaf, node, none, more}
 
 abbrev mutual
   texts : Tree → Valuation

@@ -1,12 +1,8 @@
 -- The values up to a pass: their number, and that they are well.
-use Rattle.std.proofs.Common.{◌≡◌, ℕ, suc, ◌≤◌, List, [], ◌∷◌, length, All, refl, arith, inl, inr}
-use Rattle.std.proofs.lemmas.Bool.Decides.{leb_tells, nat_tests}
-use Rattle.std.proofs.lemmas.List.Elements.{All-cons, All-nil}
-use Rattle.ag_value.specs.declared.value.Value.{Value}
-use Rattle.ag_value.specs.Well.{IsWell}
-use Rattle.ag_grammar.specs.grammars.Solution.{WellAt}
+use Rattle.treefile.proofs.Common
+use Common.{◌≡◌, ℕ, suc, ◌≤◌, List, [], ◌∷◌, length, All, refl, arith, inl, inr, leb_tells, nat_tests, All-cons, All-nil, Value}
+use Common.{IsWell, WellAt, values_up_to}
 use Rattle.treefile.specs.records.Listed.{count_up_to}
-use Rattle.treefile.specs.records.Records.{values_up_to}
 
 -- the number of values of a record
 pub count_of_values : (k : ℕ) (ps : List ℕ) (e : ℕ → Value) → length (values_up_to k ps e) ≡ count_up_to k ps

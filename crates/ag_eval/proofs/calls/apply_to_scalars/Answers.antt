@@ -1,5 +1,4 @@
-use Rattle.std.proofs.Common.{ap}
-use Rattle.ag_eval.specs.Operands.{scalar_value}
+use Rattle.ag_eval.proofs.Common.{ap, scalar_value}
 use Rattle.ag_eval.proofs.Arguments.{left_is_fault}
 use Rattle.ag_eval.proofs.calls.apply_to_scalars.Goals as goal
 

@@ -1,8 +1,5 @@
-use Rattle.std.proofs.Common.{◌≡◌, subst}
-use Rattle.std.specs.Result.{IfOk}
-use Rattle.ag_value.specs.declared.value.Value.{Value}
+use Rattle.ag_eval.proofs.Common.{◌≡◌, subst, IfOk, Value, operand_value}
 use Rattle.ag_grammar.specs.values.Calls.{binary_call_result}
-use Rattle.ag_eval.specs.Operands.{operand_value}
 use Rattle.ag_eval.proofs.calls.call_binary.Goals as goal
 
 pub returns : goal.returns

@@ -1,7 +1,4 @@
-use Rattle.std.proofs.Common.{◌≡◌, ◌++◌, ◌∷◌, [], true, None, ap, arith, sym, ◌∙◌}
-use Rattle.ag_value.specs.operations.Arguments.{leftmost}
-use Rattle.ag_value.specs.operations.Texts.{bytes_of, is_text}
-use Rattle.ag_eval.specs.Operands.{operand_value}
+use Rattle.ag_eval.proofs.Common.{◌≡◌, ◌++◌, ◌∷◌, [], true, None, ap, arith, sym, ◌∙◌, leftmost, bytes_of, is_text, operand_value}
 use Rattle.ag_eval.proofs.Texts.{both_texts, join_is, too_long}
 use Rattle.ag_eval.proofs.concatenation.concatenate.Goals as goal
 

@@ -1,5 +1,4 @@
-use Rattle.std.proofs.Common.{◌∙◌, true, refl, ap}
-use Rattle.ag_expr.specs.language.State.{IsReadEnded, start}
+use Rattle.ag_expr.proofs.Common.{◌∙◌, true, refl, ap, IsReadEnded, start}
 use Rattle.ag_expr.proofs.language.Texts.{passed_on}
 use Rattle.ag_expr.proofs.expression.read_ended.Goals as goal
 

@@ -1,6 +1,4 @@
-use Rattle.std.proofs.Common.{◌∙◌, [], Err, refl, sym}
-use Rattle.std.specs.Result.{IfErr}
-use Rattle.ag_expr.specs.language.State.{IsReadEnded}
+use Rattle.ag_expr.proofs.Common.{◌∙◌, [], Err, refl, sym, IfErr, IsReadEnded}
 use Rattle.ag_expr.proofs.language.Agree.{expr_exact}
 use Rattle.ag_expr.proofs.language.Below.{expr_below}
 use Rattle.ag_expr.proofs.language.Texts.{passed_on}

@@ -1,7 +1,4 @@
-use Rattle.std.proofs.Common.{◌≡◌, ◌∙◌, true, [], length, Err, refl, sym, subst}
-use Rattle.std.specs.Result.{IfErr}
-use Rattle.ag_grammar.specs.expressions.Trees.{is_below}
-use Rattle.ag_expr.specs.language.State.{IsReadToEnd, complete_list}
+use Rattle.ag_expr.proofs.Common.{◌≡◌, ◌∙◌, true, [], length, Err, refl, sym, subst, IfErr, is_below, IsReadToEnd, complete_list}
 use Rattle.ag_expr.proofs.language.Agree.{expr_exact}
 use Rattle.ag_expr.proofs.language.Below.{expr_below}
 use Rattle.ag_expr.proofs.language.States.{all_at_end}

@@ -1,4 +1,4 @@
-use Rattle.ag_expr.specs.language.State.{IsReadToEnd}
+use Rattle.ag_expr.proofs.Common.{IsReadToEnd}
 use Rattle.ag_expr.proofs.language.Texts.{passed_on}
 use Rattle.ag_expr.proofs.expression.whole.Goals as goal
 

@@ -1,5 +1,4 @@
-use Rattle.std.proofs.Common.{◌≡◌, None, bytes_eq, drop}
-use Rattle.ag_expr.specs.language.Names.{last_from}
+use Rattle.ag_expr.proofs.Common.{◌≡◌, None, bytes_eq, drop, last_from}
 use Rattle.ag_expr.proofs.names.last_position.Given as goal
 
 abbrev pub invariant-loop-at : goal.invariant-loop-at

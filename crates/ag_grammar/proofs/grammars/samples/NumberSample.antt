@@ -1,24 +1,15 @@
 -- The grammar of numbers, its tree and its values.
-use Rattle.ag_value.specs.operations.Numbers.{number_value}
-use Rattle.std.proofs.Common.{slice_index_or, ℕ, zero, suc, ◌≡◌, ◌≤◌, ◌<◌, inl, inr, Some, List, [], ◌∷◌, slice_get}
-use Rattle.std.proofs.Common.{slice_index_or, length, refl, ap, sym, ◌∙◌, ◌+ℤ◌, arith, pos}
-use Rattle.ag_value.specs.declared.value.Value.{Num}
-use Rattle.ag_grammar.specs.declared.syntax.node.Node.TheVariants as node_of
-use Rattle.ag_grammar.specs.declared.syntax.node.Operator.TheVariants.{Add}
-use Rattle.ag_grammar.specs.Lists.{Each, Differ}
-use Rattle.ag_grammar.specs.declared.grammar.Item.TheVariants as item
-use Rattle.ag_grammar.specs.declared.grammar.Production.{Production}
-use Rattle.ag_grammar.specs.declared.grammar.Rule.{Rule}
-use Rattle.ag_grammar.specs.declared.grammar.Target.{Target}
-use Rattle.ag_grammar.specs.declared.grammar.Terminal.TheVariants.{Literal, Class}
-use Rattle.ag_grammar.specs.grammars.AttributeGrammar.{attribute_names, item_at, item_names, stored_items, IsRule, Kind, HasKind}
-use Rattle.ag_grammar.specs.grammars.AttributeGrammar.{RefersTo, defined_kind, used_kind, Synthesized, Inherited}
+use Rattle.ag_grammar.proofs.Common
+use Common.{number_value, slice_index_or, ℕ, zero, suc, ◌≡◌, ◌≤◌, ◌<◌, inl, inr, Some, List, [], ◌∷◌, slice_get, slice_index_or}
+use Common.{length, refl, ap, sym, ◌∙◌, ◌+ℤ◌, arith, pos, Num, Add, Each, Differ, Production, Rule, Target, Literal, Class}
+use Common.{attribute_names, item_at, item_names, stored_items, IsRule, Kind, HasKind, RefersTo, defined_kind, used_kind}
+use Common.{Synthesized, Inherited, IsTreeOf, children, at, Holds, Solves, AnyRule, IsTranslation}
+use Common.node_of
+use Common.item
 use Rattle.ag_grammar.specs.grammars.Accepted.{out_name, max_attributes, max_items, max_children, max_literal_bytes, class_count}
 use Rattle.ag_grammar.specs.grammars.Accepted.{IsSeparator, IsWithinGrammarLimits, IsInUse, IsNamedItem, IsNamedRule, IsNamed}
 use Rattle.ag_grammar.specs.grammars.Accepted.{IsComplete, IsNormal, IsProductive, by_production, nothing, a_symbol, a_terminal}
 use Rattle.ag_grammar.specs.grammars.Accepted.{IsReached, at_start, within, IsAccepted}
-use Rattle.ag_grammar.specs.grammars.Tree.{IsTreeOf}
-use Rattle.ag_grammar.specs.grammars.Solution.{children, at, Holds, Solves, AnyRule, IsTranslation}
 use Rattle.ag_grammar.specs.grammars.Sample.{sample, without_out, doubled, bare, rule_bare, named as named_at, copy_rule, s_name}
 use Rattle.ag_grammar.specs.grammars.Sample.{i_name, production_r, production_a, attribute, symbol_r, symbol_a, rule_out}
 use Rattle.ag_grammar.specs.grammars.Sample.{rule_first, rule_second, rule_s, sample_tree, sample_values}

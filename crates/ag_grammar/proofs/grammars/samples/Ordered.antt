@@ -1,5 +1,5 @@
 -- Sample grammars that are in order, and some that are not.
-use Rattle.std.proofs.Common.{zero, suc, ◌≡◌, [], ◌∷◌, refl, arith}
+use Rattle.ag_grammar.proofs.Common.{zero, suc, ◌≡◌, [], ◌∷◌, refl, arith}
 use Rattle.ag_grammar.specs.grammars.Order.{IsInOrder, IsInOrderOfAppearance}
 use Rattle.ag_grammar.specs.grammars.Sample.{both_ways, back_first, token_sample}
 

@@ -1,16 +1,11 @@
 -- Sample grammars that the definitions reject.
+use Rattle.ag_grammar.proofs.Common
+use Common.{ℕ, zero, suc, sym, ◌≡◌, inl, inr, ◌≤◌, List, [], ◌∷◌, Option, Some, slice_get, refl, ap, subst, ◌∙◌, arith, Each}
+use Common.{Item, Production, Literal, Inherited, symbol_kinds, stored_items, IsProduction, Tree, Forest, node, none, more, Fits}
+use Common.{FitsAll, IsTreeOf, Passes, Direction, LeftToRight, RightToLeft, MayUse, IsBefore, direction_of, IsLegal}
+use Common.item
 use Rattle.ag_grammar.proofs.grammars.OneSolution.{counterpart}
-use Rattle.std.proofs.Common.{ℕ, zero, suc, sym, ◌≡◌, inl, inr, ◌≤◌, List, [], ◌∷◌, Option, Some, slice_get, refl, ap, subst, ◌∙◌}
-use Rattle.std.proofs.Common.{arith}
-use Rattle.ag_grammar.specs.Lists.{Each}
-use Rattle.ag_grammar.specs.declared.grammar.Item.TheVariants as item
-use Rattle.ag_grammar.specs.declared.grammar.Item.{Item}
-use Rattle.ag_grammar.specs.declared.grammar.Production.{Production}
-use Rattle.ag_grammar.specs.declared.grammar.Terminal.TheVariants.{Literal}
-use Rattle.ag_grammar.specs.grammars.AttributeGrammar.{Inherited, symbol_kinds, stored_items, IsProduction}
 use Rattle.ag_grammar.specs.grammars.Accepted.{IsNormal, IsProductive, IsReached, at_start, within}
-use Rattle.ag_grammar.specs.grammars.Tree.{Tree, Forest, node, none, more, Fits, FitsAll, IsTreeOf}
-use Rattle.ag_grammar.specs.grammars.Passes.{Passes, Direction, LeftToRight, RightToLeft, MayUse, IsBefore, direction_of, IsLegal}
 use Rattle.ag_grammar.specs.grammars.Sample.{both_ways, production_back, copy_rule, s_name, symbol_a, sample, production_r}
 use Rattle.ag_grammar.specs.grammars.Sample.{production_a, production_t, attribute, rule_out, rule_first, rule_second, rule_s}
 use Rattle.ag_grammar.specs.grammars.Sample.{rule_inherited, later_passes, endless, with_unreached}

@@ -1,18 +1,12 @@
 -- The grammar of a token, its tree and its values.
+use Rattle.ag_grammar.proofs.Common
+use Common.{ℕ, zero, suc, ◌≡◌, ◌<◌, ◌≤◌, [], ◌∷◌, IsAscii, length, refl, sym, ◌∙◌, arith, Text, IsTokenText, IsTreeOf, Each, at}
+use Common.{Holds, Solves, AnyRule, IsTranslation, Differ, Rule, Literal, Class, attribute_names, lex_name, stored_items, HasKind}
+use Common.{IsRule, RefersTo, Synthesized, used_kind, defined_kind}
+use Common.item
 use Rattle.std.proofs.lemmas.Str.{IsUtf8-from_ascii, is_utf8-from_IsUtf8}
-use Rattle.std.proofs.Common.{ℕ, zero, suc, ◌≡◌, ◌<◌, ◌≤◌, [], ◌∷◌, IsAscii, length, refl, sym, ◌∙◌, arith}
-use Rattle.ag_value.specs.declared.value.Value.{Text}
-use Rattle.ag_grammar.specs.grammars.Tree.{IsTokenText, IsTreeOf}
-use Rattle.ag_grammar.specs.Lists.{Each}
-use Rattle.ag_grammar.specs.grammars.Solution.{at, Holds, Solves, AnyRule, IsTranslation}
 use Rattle.ag_grammar.specs.grammars.Sample.{attribute, named as named_at, token_sample, production_s, symbol_s, token_tree}
 use Rattle.ag_grammar.specs.grammars.Sample.{token_values, rule_lex, iffy}
-use Rattle.ag_grammar.specs.Lists.{Differ}
-use Rattle.ag_grammar.specs.declared.grammar.Item.TheVariants as item
-use Rattle.ag_grammar.specs.declared.grammar.Rule.{Rule}
-use Rattle.ag_grammar.specs.declared.grammar.Terminal.TheVariants.{Literal, Class}
-use Rattle.ag_grammar.specs.grammars.AttributeGrammar.{attribute_names, lex_name, stored_items, HasKind, IsRule, RefersTo}
-use Rattle.ag_grammar.specs.grammars.AttributeGrammar.{Synthesized, used_kind, defined_kind}
 use Rattle.ag_grammar.specs.grammars.Accepted.{out_name, max_attributes, max_items, max_children, max_literal_bytes, class_count}
 use Rattle.ag_grammar.specs.grammars.Accepted.{IsSeparator, IsWithinGrammarLimits, IsInUse, IsNamedItem, IsNamedRule, IsNamed}
 use Rattle.ag_grammar.specs.grammars.Accepted.{IsComplete, IsNormal, IsProductive, by_production, nothing, a_terminal, IsReached}

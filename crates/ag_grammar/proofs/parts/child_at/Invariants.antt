@@ -1,5 +1,4 @@
-use Rattle.std.proofs.Common.{◌≡◌, drop, slice_get}
-use Rattle.ag_grammar.specs.grammars.AttributeGrammar.{stored_items}
+use Rattle.ag_grammar.proofs.Common.{◌≡◌, drop, slice_get, stored_items}
 use Rattle.ag_grammar.proofs.parts.child_at.Given as goal
 
 abbrev pub invariant-loop-item : goal.invariant-loop-item

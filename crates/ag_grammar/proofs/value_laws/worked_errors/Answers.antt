@@ -1,4 +1,4 @@
-use Rattle.ag_value.specs.declared.value.Value.TheVariants.{outs-Fault, outs-Num, outs-Text}
+use Rattle.ag_grammar.proofs.Common.{outs-Fault, outs-Num, outs-Text}
 use Rattle.ag_value.specs.operations.Arguments.{leftmost}
 use Rattle.ag_grammar.proofs.expressions.Trees.{value-Bound, value-Chain, value-If, value-Let, value-Literal, value-Unary}
 use Rattle.ag_grammar.proofs.values.Worked.{fit_number}

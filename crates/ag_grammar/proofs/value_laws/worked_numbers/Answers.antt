@@ -1,4 +1,4 @@
-use Rattle.ag_value.specs.declared.value.Value.TheVariants.{outs-Num, outs-Text}
+use Rattle.ag_grammar.proofs.Common.{outs-Num, outs-Text}
 use Rattle.ag_value.specs.operations.Arguments.{leftmost}
 use Rattle.ag_grammar.proofs.value_laws.worked_numbers.Goals as goal
 

@@ -1,5 +1,4 @@
-use Rattle.std.proofs.Common.{refl}
-use Rattle.ag_value.specs.declared.value.Value.TheVariants.{outs-List, outs-Num, outs-Table, outs-Text}
+use Rattle.ag_grammar.proofs.Common.{refl, outs-List, outs-Num, outs-Table, outs-Text}
 use Rattle.ag_value.proofs.Layers.{spelling-Num, spelling-Text}
 use Rattle.ag_value.specs.operations.Arguments.{leftmost}
 use Rattle.ag_grammar.proofs.value_laws.worked_parts.Goals as goal

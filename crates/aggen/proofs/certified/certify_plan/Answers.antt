@@ -1,6 +1,4 @@
-use Rattle.std.proofs.Common.{Err, ap}
-use Rattle.std.proofs.lemmas.Result.{err_from_is_err_and}
-use Rattle.passassign.specs.Rows.{passes_of}
+use Rattle.aggen.proofs.Common.{Err, ap, err_from_is_err_and, passes_of}
 use Rattle.aggen.proofs.Building.{conflict_exact}
 use Rattle.aggen.proofs.OneLeast.{least_is_one}
 use Rattle.aggen.proofs.certified.certify_plan.Goals as goal

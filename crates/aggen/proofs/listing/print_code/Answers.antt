@@ -1,8 +1,5 @@
-use Rattle.std.proofs.Common.{Err, ap, subst}
-use Rattle.std.proofs.lemmas.Result.{err_from_is_err_and}
-use Rattle.ag_grammar.specs.grammars.AttributeGrammar.{Grammar}
+use Rattle.aggen.proofs.Common.{Err, ap, subst, err_from_is_err_and, Grammar, AppendsBeginning}
 use Rattle.agoutput.specs.Listings.{code_text}
-use Rattle.agoutput.specs.Writing.{AppendsBeginning}
 use Rattle.aggen.proofs.Building.{of_plan, write_exact}
 use Rattle.aggen.proofs.listing.print_code.Goals as goal
 

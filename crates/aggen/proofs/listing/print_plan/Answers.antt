@@ -1,6 +1,4 @@
-use Rattle.std.proofs.Common.{Err, ap, subst}
-use Rattle.std.proofs.lemmas.Result.{err_from_is_err_and}
-use Rattle.ag_grammar.specs.grammars.AttributeGrammar.{Grammar}
+use Rattle.aggen.proofs.Common.{Err, ap, subst, err_from_is_err_and, Grammar}
 use Rattle.agoutput.specs.Listings.{AppendsPlanBeginning}
 use Rattle.aggen.proofs.Building.{of_plan, write_exact}
 use Rattle.aggen.proofs.listing.print_plan.Goals as goal

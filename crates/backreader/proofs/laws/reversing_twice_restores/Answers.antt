@@ -1,15 +1,7 @@
-use Rattle.std.proofs.Common.{◌≡◌, ℕ, List, ◌∷◌, ◌++◌, [], length, Option, All, ap, sym, refl, ◌∙◌}
-use Rattle.std.proofs.lemmas.List.Elements.{All-append, All-cons, All-head, All-nil, All-tail}
-use Rattle.ag_grammar.specs.declared.direction.Direction.{Direction}
-use Rattle.ag_grammar.specs.declared.direction.Direction.TheVariants.{LeftToRight, RightToLeft}
-use Rattle.ag_grammar.specs.grammars.Passes.{other}
-use Rattle.treefile.specs.framing.Ending.{IsBody}
-use Rattle.treefile.specs.records.Orders.{BodyForest, BodyTree, MatchesArity, branch, joined, more, none, postfix, postfix_all}
-use Rattle.treefile.specs.records.Orders.{prefix}
-use Rattle.treefile.specs.records.TreeFile.{file, version_two}
-use Rattle.treefile.proofs.framing.Backward.{reads_same}
-use Rattle.treefile.proofs.records.Orders.{one_tree, one_tree_at_end}
-use Rattle.backreader.specs.turning.Turning.{IsFileOf}
+use Rattle.backreader.proofs.Common
+use Common.{◌≡◌, ℕ, List, ◌∷◌, ◌++◌, [], length, Option, All, ap, sym, refl, ◌∙◌, All-append, All-cons, All-head, All-nil}
+use Common.{All-tail, Direction, LeftToRight, RightToLeft, other, IsBody, BodyForest, BodyTree, MatchesArity, branch, joined}
+use Common.{more, none, postfix, postfix_all, prefix, file, version_two, reads_same, one_tree, one_tree_at_end, IsFileOf}
 use Rattle.backreader.proofs.turnings.Mirror.{mirror, other-other, postfix-mirror, arities-mirror}
 use Rattle.backreader.proofs.turnings.Whole.{tree_back}
 use Rattle.backreader.proofs.laws.reversing_twice_restores.Goals as goal

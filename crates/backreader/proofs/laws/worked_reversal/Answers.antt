@@ -1,10 +1,9 @@
-use Rattle.std.proofs.Common.{ℕ, List, [], ◌∷◌, None, All, map, refl, lit≤}
-use Rattle.std.proofs.lemmas.List.Elements.{All-cons, All-nil}
+use Rattle.backreader.proofs.Common
+use Common.{ℕ, List, [], ◌∷◌, None, All, map, refl, lit≤, All-cons, All-nil, IsBody, BodyTree, branch, more, none, header}
+use Common.{version_two}
 use Rattle.backreader.specs.turning.Worked.{arity_in_fractions}
 use Rattle.treefile.specs.framing.Backward.{next_before}
-use Rattle.treefile.specs.framing.Ending.{IsBody, is_tree_file}
-use Rattle.treefile.specs.records.Orders.{BodyTree, branch, more, none}
-use Rattle.treefile.specs.records.TreeFile.{header, version_two}
+use Rattle.treefile.specs.framing.Ending.{is_tree_file}
 use Rattle.backreader.proofs.turnings.Whole.{missing}
 use Rattle.backreader.proofs.laws.worked_reversal.Goals as goal
 

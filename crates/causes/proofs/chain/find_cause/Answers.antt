@@ -1,10 +1,7 @@
-use Rattle.std.proofs.Common.{◌≡◌, ◌*◌, Bor, List, ℕ, inl, inr, ap, refl, true, subst, sym, ◌∙◌, arith, rules}
-use Rattle.causes.specs.Chains.{Follows, IsCause, IsChain, in_content, itself, places_of}
-use Rattle.causes.specs.Indexed.{IsNumberAt, in_file}
-use Rattle.ag_grammar.specs.grammars.AttributeGrammar.{Grammar}
-use Rattle.tree_index.specs.declared.index.TreeIndex.{TreeIndex}
+use Rattle.causes.proofs.Common
+use Common.{◌≡◌, ◌*◌, Bor, List, ℕ, inl, inr, ap, refl, true, subst, sym, ◌∙◌, arith, rules, Follows, IsCause, IsChain}
+use Common.{in_content, itself, places_of, IsNumberAt, in_file, Grammar, TreeIndex, MAX_NODES}
 use Rattle.causes.proofs.ChainSteps.{arises_in, reads_on}
-use Rattle.ag_grammar.specs.declared.limits.TheConstants.{MAX_NODES}
 use Rattle.causes.proofs.Complete.{none_complete}
 use Rattle.causes.proofs.InIndex.{cause_in, cause_in_tree}
 use Rattle.causes.proofs.Stops.{stops_after}

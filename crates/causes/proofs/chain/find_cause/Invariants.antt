@@ -1,7 +1,4 @@
-use Rattle.std.proofs.Common.{◌≡◌}
-use Rattle.causes.specs.Chains.{IsChain, places_of}
-use Rattle.causes.specs.Indexed.{Leads, in_file}
-use Rattle.treefile.specs.devices.Device.{LeavesContent, Persists, WhenHonest}
+use Rattle.causes.proofs.Common.{◌≡◌, IsChain, places_of, Leads, in_file, LeavesContent, Persists, WhenHonest}
 use Rattle.causes.proofs.chain.find_cause.Given as goal
 
 abbrev pub invariant-loop-steps : goal.invariant-loop-steps

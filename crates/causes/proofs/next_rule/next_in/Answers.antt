@@ -1,6 +1,4 @@
-use Rattle.std.proofs.Common.{◌∙◌, sym, subst}
-use Rattle.origins.specs.Causes.{AnswersSource}
-use Rattle.origins.specs.Rows.{table_of}
+use Rattle.causes.proofs.Common.{◌∙◌, sym, subst, AnswersSource, table_of}
 use Rattle.causes.proofs.ChainSteps.{rule_there}
 use Rattle.causes.proofs.Stops.{clean_of, no_other}
 use Rattle.causes.proofs.next_rule.next_in.Goals as goal

@@ -1,7 +1,5 @@
-use Rattle.std.proofs.Common.{◌≡◌, ◌∙◌, Some, Option, ℕ, slice_get, ap, subst, sym}
-use Rattle.std.specs.Prelude.{IfNone, IfSome}
-use Rattle.std.proofs.lemmas.Option.{slice_get-get_or}
-use Rattle.causes.specs.Chains.{IsNumberFor}
+use Rattle.causes.proofs.Common
+use Common.{◌≡◌, ◌∙◌, Some, Option, ℕ, slice_get, ap, subst, sym, IfNone, IfSome, slice_get-get_or, IsNumberFor}
 use Rattle.causes.proofs.ChainSteps.{number_found}
 use Rattle.causes.proofs.Stops.{NoneBefore, none_further, none_that_fits}
 use Rattle.causes.proofs.next_rule.rule_for.Goals as goal

@@ -1,4 +1,4 @@
-use Rattle.std.proofs.Common.{drop, refl}
+use Rattle.llparse.proofs.Common.{drop, refl}
 use Rattle.llparse.proofs.steps.Shown.{whole}
 use Rattle.llparse.proofs.laws.left_trees_are_beyond_the_limit.Goals as goal
 

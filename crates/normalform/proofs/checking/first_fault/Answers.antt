@@ -1,6 +1,5 @@
 -- The remaining goals of `first_fault`.
-use Rattle.std.proofs.Common.{sym, ◌∙◌}
-use Rattle.normalform.specs.faults.Faults.{in_names}
+use Rattle.normalform.proofs.Common.{sym, ◌∙◌, in_names}
 use Rattle.normalform.proofs.checking.first_fault.Goals as goal
 
 pub returns-in-Some : goal.returns-in-Some

@@ -1,5 +1,5 @@
 -- The remaining goals of `naming_fault`.
-use Rattle.std.proofs.Common.{arith}
+use Rattle.normalform.proofs.Common.{arith}
 use Rattle.normalform.proofs.found.Wrong.{wrong-append}
 use Rattle.normalform.proofs.checking.naming_fault.Goals as goal
 

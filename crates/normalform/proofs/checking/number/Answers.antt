@@ -1,6 +1,6 @@
 -- The remaining goals of `number`.
-use Rattle.std.proofs.Common.{◌≡◌, map, ap, ◌∙◌}
-use Rattle.normalform.specs.numbers.Numbers.{symbol_of, declared_names, number_in, production_of, literals_of, classes_of}
+use Rattle.normalform.proofs.Common
+use Common.{◌≡◌, map, ap, ◌∙◌, symbol_of, declared_names, number_in, production_of, literals_of, classes_of}
 use Rattle.normalform.proofs.numbered.Accepting.{small, made}
 use Rattle.normalform.proofs.numbered.Ordered.{made_in_order}
 use Rattle.normalform.proofs.found.Reduced.{symbols}

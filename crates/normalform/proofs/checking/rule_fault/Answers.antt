@@ -1,5 +1,5 @@
 -- The remaining goals of `rule_fault`.
-use Rattle.std.proofs.Common.{arith}
+use Rattle.normalform.proofs.Common.{arith}
 use Rattle.normalform.proofs.found.Wrong.{wrong-append}
 use Rattle.normalform.proofs.checking.rule_fault.Goals as goal
 

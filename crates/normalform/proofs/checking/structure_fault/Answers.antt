@@ -1,6 +1,5 @@
 -- The remaining goals of `structure_fault`.
-use Rattle.std.proofs.Common.{sym, ◌∙◌}
-use Rattle.normalform.specs.faults.Faults.{in_rules}
+use Rattle.normalform.proofs.Common.{sym, ◌∙◌, in_rules}
 use Rattle.normalform.proofs.checking.structure_fault.Goals as goal
 
 pub unreachable-requires-clause-productive : goal.unreachable-requires-clause-productive

@@ -1,11 +1,7 @@
 -- The remaining goals of `unproductive`.
-use Rattle.std.proofs.Common.{◌≡◌, [], length, ap, sym, ◌∙◌}
-use Rattle.std.proofs.lemmas.List.{length-map}
-use Rattle.closure.specs.Clauses.{Clauses}
-use Rattle.normalform.specs.faults.Found.{IsFoundAt}
-use Rattle.normalform.specs.faults.Underivable.{IsFirstUnderivable}
-use Rattle.normalform.specs.numbers.Numbers.{symbol_of}
-use Rattle.normalform.specs.declared.fault.NormalFault.TheVariants as fault
+use Rattle.normalform.proofs.Common
+use Common.{◌≡◌, [], length, ap, sym, ◌∙◌, length-map, Clauses, IsFoundAt, IsFirstUnderivable, symbol_of}
+use Common.fault
 use Rattle.normalform.proofs.found.Founds.{bounded, unproductive_found, all_productive, found_map, none_map}
 use Rattle.normalform.proofs.found.Reduced.{symbols, clauses}
 use Rattle.normalform.proofs.checking.unproductive.Goals as goal

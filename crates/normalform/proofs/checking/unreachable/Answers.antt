@@ -1,12 +1,8 @@
 -- The remaining goals of `unreachable`.
-use Rattle.std.proofs.Common.{◌≡◌, ◌<◌, [], ◌∷◌, All, length, map, ap, subst, sym, ◌∙◌}
-use Rattle.std.proofs.lemmas.List.{length-map}
-use Rattle.closure.specs.Clauses.{Clauses}
-use Rattle.closure.specs.Edges.{clause_of_edge}
-use Rattle.normalform.specs.faults.Found.{IsFoundAt}
-use Rattle.normalform.specs.faults.Underivable.{IsFirstUnderivable}
-use Rattle.normalform.specs.numbers.Numbers.{symbol_of}
-use Rattle.normalform.specs.declared.fault.NormalFault.TheVariants as fault
+use Rattle.normalform.proofs.Common
+use Common.{◌≡◌, ◌<◌, [], ◌∷◌, All, length, map, ap, subst, sym, ◌∙◌, length-map, Clauses, clause_of_edge, IsFoundAt}
+use Common.{IsFirstUnderivable, symbol_of}
+use Common.fault
 use Rattle.normalform.proofs.found.Founds.{edges_bounded, unreached_found, all_reached, found_map, none_map, start_bounded}
 use Rattle.normalform.proofs.found.Reduced.{symbols, start, edges}
 use Rattle.normalform.proofs.checking.unreachable.Goals as goal

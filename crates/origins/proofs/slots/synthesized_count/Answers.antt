@@ -1,5 +1,4 @@
-use Rattle.std.proofs.Common.{◌≡◌, Some, slice_get, ap, sym, length, length-append, arith}
-use Rattle.std.proofs.lemmas.Option.{slice_get-get_or, slice_get_past}
+use Rattle.origins.proofs.Common.{◌≡◌, Some, slice_get, ap, sym, length, length-append, arith, slice_get-get_or, slice_get_past}
 use Rattle.treefile.specs.records.Records.{synthesized_count}
 use Rattle.origins.proofs.slots.synthesized_count.Goals as goal
 

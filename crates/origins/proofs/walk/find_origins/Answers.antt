@@ -1,9 +1,6 @@
-use Rattle.std.proofs.Common.{◌≡◌, ◌-◌, ℕ, [], ◌∷◌, ap, ◌∙◌, reverse, take}
-use Rattle.std.proofs.lemmas.List.{append-nil, reverse-append}
-use Rattle.std.proofs.lemmas.Result.{IfOk-weaker}
-use Rattle.ag_grammar.specs.grammars.Passes.{direction_of, other}
-use Rattle.treefile.specs.devices.Device.{WhenHonest}
-use Rattle.origins.specs.Origins.{AreOriginsIn}
+use Rattle.origins.proofs.Common
+use Common.{◌≡◌, ◌-◌, ℕ, [], ◌∷◌, ap, ◌∙◌, reverse, take, append-nil, reverse-append, IfOk-weaker, direction_of, other}
+use Common.{WhenHonest, AreOriginsIn}
 use Rattle.origins.specs.declared.walk.Origins.{Origins}
 use Rattle.origins.proofs.Step.{begin_next, end}
 use Rattle.origins.proofs.walk.find_origins.Goals as goal

@@ -1,5 +1,4 @@
-use Rattle.std.proofs.Common.{reverse}
-use Rattle.treefile.specs.devices.Device.{LeavesContent, Persists, WhenHonest}
+use Rattle.origins.proofs.Common.{reverse, LeavesContent, Persists, WhenHonest}
 use Rattle.origins.specs.Walking.{HasComeTo, IsReady}
 use Rattle.origins.proofs.walk.find_origins.Given as goal
 

@@ -1,9 +1,6 @@
-use Rattle.std.proofs.Common.{◌≡◌, ℕ, suc, ◌<◌, ◌≤◌, ◌⊎◌, false, inl, inr, List, [], ◌∷◌, length, length-drop, drop, refl}
-use Rattle.std.proofs.Common.{sym, ◌∙◌, arith}
-use Rattle.std.specs.Prelude.{nat_lt}
-use Rattle.std.proofs.lemmas.Bool.{cases_lt, le-ltb, lt-ltb}
-use Rattle.std.proofs.lemmas.List.{drop_all}
-use Rattle.origins.specs.Origins.{is_before}
+use Rattle.origins.proofs.Common
+use Common.{◌≡◌, ℕ, suc, ◌<◌, ◌≤◌, ◌⊎◌, false, inl, inr, List, [], ◌∷◌, length, length-drop, drop, refl, sym, ◌∙◌, arith, nat_lt}
+use Common.{cases_lt, le-ltb, lt-ltb, drop_all, is_before}
 use Rattle.origins.proofs.walk.is_before.Goals as goal
 
 before_all : (q : List ℕ) → is_before [] q ≡ nat_lt 0 (length q)

@@ -1,5 +1,4 @@
-use Rattle.std.proofs.Common.{◌≡◌, drop}
-use Rattle.origins.specs.Origins.{is_before}
+use Rattle.origins.proofs.Common.{◌≡◌, drop, is_before}
 use Rattle.origins.proofs.walk.is_before.Given as goal
 
 abbrev pub invariant-loop-index : goal.invariant-loop-index

@@ -1,4 +1,4 @@
-use Rattle.std.proofs.Common.{◌≡◌, map, take}
+use Rattle.origins.proofs.Common.{◌≡◌, map, take}
 use Rattle.origins.specs.Walking.{last_of}
 use Rattle.origins.proofs.walk.path_below.Given as goal
 

@@ -1,5 +1,4 @@
-use Rattle.std.proofs.Common.{◌≡◌, ◌+◌, ◌≤◌, drop, length}
-use Rattle.ag_grammar.specs.grammars.AttributeGrammar.{stored_items}
+use Rattle.origins.proofs.Common.{◌≡◌, ◌+◌, ◌≤◌, drop, length, stored_items}
 use Rattle.origins.proofs.walk.stored_among.Given as goal
 
 abbrev pub invariant-loop-item : goal.invariant-loop-item

@@ -1,4 +1,4 @@
-use Rattle.std.proofs.Common.{arith}
+use Rattle.passassign.proofs.Common.{arith}
 use Rattle.passassign.proofs.making.Refusing.{refused}
 use Rattle.passassign.proofs.making.SoFar.{last_in_use, so_far_next}
 use Rattle.passassign.proofs.assigning.advance.Goals as goal

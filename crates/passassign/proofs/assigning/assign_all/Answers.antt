@@ -1,9 +1,5 @@
-use Rattle.std.proofs.Common.{◌≡◌, ◌≤◌, length, inl, ap, subst, refl, arith}
+use Rattle.passassign.proofs.Common.{◌≡◌, ◌≤◌, length, inl, ap, subst, refl, arith, open_count, AreReady, numbers_of, is_open}
 use Rattle.std.proofs.lemmas.List.Sums.{count_by-le-length}
-use Rattle.passassign.specs.PassesSoFar.{open_count}
-use Rattle.passassign.specs.Searching.{AreReady}
-use Rattle.passassign.specs.Rows.{numbers_of}
-use Rattle.passassign.specs.Tables.{is_open}
 use Rattle.passassign.proofs.making.Finally.{with_of, first_made, least, few, is_table}
 use Rattle.passassign.proofs.making.SoFar.{none_so_far, strikes_of_all}
 use Rattle.passassign.proofs.assigning.assign_all.Goals as goal

@@ -1,10 +1,6 @@
-use Rattle.std.proofs.Common.{◌≡◌, ◌+◌, ◌*◌, ◌≤◌, ◌⊎◌, length, true}
-use Rattle.ag_grammar.specs.grammars.AttributeGrammar.{Grammar}
-use Rattle.passassign.specs.PassStrikes.{AreStrikesSoFar, IsLastInUse}
-use Rattle.passassign.specs.PassesSoFar.{IsProgress, IsAcceptedWith, open_count}
-use Rattle.ag_grammar.specs.grammars.Accepted.{max_passes}
-use Rattle.passassign.specs.Searching.{AreReady}
-use Rattle.passassign.specs.Tables.{table_passes}
+use Rattle.passassign.proofs.Common
+use Common.{◌≡◌, ◌+◌, ◌*◌, ◌≤◌, ◌⊎◌, length, true, Grammar, AreStrikesSoFar, IsLastInUse, IsProgress, IsAcceptedWith, open_count}
+use Common.{max_passes, AreReady, table_passes}
 use Rattle.passassign.proofs.assigning.assign_all.Given as goal
 
 abbrev pub invariant-loop-open_now : goal.invariant-loop-open_now

@@ -1,8 +1,4 @@
-use Rattle.std.proofs.Common.{ℕ, List}
-use Rattle.std.proofs.lemmas.Result.{IfOk-weaker}
-use Rattle.ag_grammar.specs.grammars.AttributeGrammar.{Grammar}
-use Rattle.passassign.specs.PassesSoFar.{IsAcceptedWith}
-use Rattle.passassign.specs.Rows.{AreWithinMaxPasses}
+use Rattle.passassign.proofs.Common.{ℕ, List, IfOk-weaker, Grammar, IsAcceptedWith, AreWithinMaxPasses}
 use Rattle.passassign.specs.declared.stuck.Strikes.{Strikes}
 use Rattle.passassign.proofs.assigning.assign_with_strikes.Goals as goal
 

@@ -1,4 +1,4 @@
-use Rattle.std.proofs.Common.{refl}
+use Rattle.passassign.proofs.Common.{refl}
 use Rattle.passassign.proofs.making.PassMade.{next_made}
 use Rattle.passassign.proofs.assigning.make_pass.Goals as goal
 

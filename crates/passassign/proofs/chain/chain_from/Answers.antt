@@ -1,7 +1,5 @@
-use Rattle.std.proofs.Common.{◌≡◌, ◌<◌, ◌++◌, [], ◌∷◌, Some, slice_get, length, refl, append_assoc, arith}
-use Rattle.std.proofs.lemmas.List.{append-nil}
-use Rattle.std.proofs.lemmas.Option.{slice_get-get_or}
-use Rattle.passassign.specs.Chains.{strike_at}
+use Rattle.passassign.proofs.Common
+use Common.{◌≡◌, ◌<◌, ◌++◌, [], ◌∷◌, Some, slice_get, length, refl, append_assoc, arith, append-nil, slice_get-get_or, strike_at}
 use Rattle.passassign.proofs.slots.Lists.{get_push_front}
 use Rattle.passassign.proofs.strikes.Walked.{among_more, none}
 use Rattle.passassign.proofs.chain.chain_from.Goals as goal

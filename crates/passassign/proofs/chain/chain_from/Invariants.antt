@@ -1,7 +1,4 @@
-use Rattle.std.proofs.Common.{ℕ, ◌≡◌, ◌<◌, ◌++◌, List, ◌∷◌, Some, slice_get, length}
-use Rattle.ag_grammar.specs.Lists.{Has}
-use Rattle.passassign.specs.declared.stuck.Strike.{Strike}
-use Rattle.passassign.specs.Chains.{AreLinked, strike_at}
+use Rattle.passassign.proofs.Common.{ℕ, ◌≡◌, ◌<◌, ◌++◌, List, ◌∷◌, Some, slice_get, length, Has, Strike, AreLinked, strike_at}
 use Rattle.passassign.proofs.chain.chain_from.Given as goal
 
 abbrev pub invariant-loop-before : goal.invariant-loop-before

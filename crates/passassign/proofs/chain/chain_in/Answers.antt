@@ -1,7 +1,4 @@
-use Rattle.std.proofs.Common.{◌≡◌, slice_get}
-use Rattle.std.proofs.lemmas.Result.{IfOk-weaker}
-use Rattle.passassign.specs.Certificate.{IsStruckBy}
-use Rattle.passassign.specs.Chains.{StartsWith}
+use Rattle.passassign.proofs.Common.{◌≡◌, slice_get, IfOk-weaker, IsStruckBy, StartsWith}
 use Rattle.passassign.proofs.strikes.Walked.{starts}
 use Rattle.passassign.proofs.chain.chain_in.Goals as goal
 

@@ -1,5 +1,4 @@
-use Rattle.std.proofs.Common.{◌≡◌, ◌↔◌, IsTrue, false}
-use Rattle.passassign.specs.declared.stuck.Strike.{Strike}
+use Rattle.passassign.proofs.Common.{◌≡◌, ◌↔◌, IsTrue, false, Strike}
 use Rattle.passassign.proofs.slots.Lists.{whole_prefix, prefix_more}
 use Rattle.passassign.proofs.strikes.Following.{strikes_has}
 use Rattle.passassign.proofs.chain.index_of.Goals as goal

@@ -1,5 +1,4 @@
-use Rattle.std.proofs.Common.{ℕ, ◌≡◌, ◌<◌, Some, slice_get}
-use Rattle.passassign.specs.declared.stuck.Strike.{Strike}
+use Rattle.passassign.proofs.Common.{ℕ, ◌≡◌, ◌<◌, Some, slice_get, Strike}
 use Rattle.passassign.proofs.chain.index_of.Given as goal
 
 abbrev pub invariant-loop-index : goal.invariant-loop-index

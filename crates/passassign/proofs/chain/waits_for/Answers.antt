@@ -1,5 +1,4 @@
-use Rattle.std.proofs.Common.{refl}
-use Rattle.std.proofs.lemmas.Option.{slice_get_read}
+use Rattle.passassign.proofs.Common.{refl, slice_get_read}
 use Rattle.passassign.proofs.strikes.Chained.{wait_of}
 use Rattle.passassign.proofs.chain.waits_for.Goals as goal
 

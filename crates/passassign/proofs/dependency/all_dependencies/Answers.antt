@@ -1,5 +1,4 @@
-use Rattle.std.proofs.Common.{length, refl, ap, arith}
-use Rattle.std.proofs.lemmas.Option.{slice_get_read}
+use Rattle.passassign.proofs.Common.{length, refl, ap, arith, slice_get_read}
 use Rattle.passassign.proofs.strikes.Adding.{adds_all, adds_more, adds_only}
 use Rattle.passassign.proofs.dependency.all_dependencies.Goals as goal
 

@@ -1,5 +1,4 @@
-use Rattle.std.proofs.Common.{[]}
-use Rattle.passassign.specs.Dependencies.{OfPrefix, Adds, IsByProduction}
+use Rattle.passassign.proofs.Common.{[], OfPrefix, Adds, IsByProduction}
 use Rattle.passassign.proofs.dependency.all_dependencies.Given as goal
 
 abbrev pub invariant-loop-index : goal.invariant-loop-index

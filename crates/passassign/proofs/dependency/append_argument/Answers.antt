@@ -1,9 +1,6 @@
-use Rattle.std.proofs.Common.{ℕ, ◌≡◌, ◌↔◌, List, Some, slice_get}
-use Rattle.ag_grammar.specs.declared.grammar.Item.{Item}
-use Rattle.ag_grammar.specs.declared.grammar.Target.{Target}
-use Rattle.passassign.specs.Dependencies.{IsByArgument, dependency_of, symbol_of, table_slot}
-use Rattle.passassign.specs.declared.dependency.Dependency.{Dependency}
-use Rattle.passassign.specs.declared.stuck.Strike.{Strike}
+use Rattle.passassign.proofs.Common
+use Common.{ℕ, ◌≡◌, ◌↔◌, List, Some, slice_get, Item, Target, IsByArgument, dependency_of, symbol_of, table_slot, Dependency}
+use Common.{Strike}
 use Rattle.passassign.proofs.strikes.Adding.{adds_none, adds_push, adds_same}
 use Rattle.passassign.proofs.dependency.append_argument.Goals as goal
 

@@ -1,5 +1,4 @@
-use Rattle.std.proofs.lemmas.Option.{slice_get-get_or}
-use Rattle.ag_grammar.specs.declared.grammar.Target.{Target}
+use Rattle.passassign.proofs.Common.{slice_get-get_or, Target}
 use Rattle.passassign.proofs.strikes.Adding.{adds_all, adds_more}
 use Rattle.passassign.proofs.dependency.append_arguments.Goals as goal
 

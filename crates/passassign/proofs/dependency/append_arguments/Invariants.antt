@@ -1,4 +1,4 @@
-use Rattle.passassign.specs.Dependencies.{OfPrefix, Adds, IsByArgument}
+use Rattle.passassign.proofs.Common.{OfPrefix, Adds, IsByArgument}
 use Rattle.passassign.proofs.dependency.append_arguments.Given as goal
 
 abbrev pub invariant-loop-index : goal.invariant-loop-index

@@ -1,9 +1,6 @@
-use Rattle.std.proofs.Common.{ℕ, ◌≡◌, ◌↔◌, List, Some}
-use Rattle.ag_grammar.specs.declared.grammar.Rule.{Rule}
-use Rattle.ag_grammar.specs.declared.grammar.Item.{Item}
+use Rattle.passassign.proofs.Common
+use Common.{ℕ, ◌≡◌, ◌↔◌, List, Some, Rule, Item, Dependency, OfEach, IsByArgument, IsByRule, head_of, symbol_of}
 use Rattle.std.specs.List.{slice_get}
-use Rattle.passassign.specs.declared.dependency.Dependency.{Dependency}
-use Rattle.passassign.specs.Dependencies.{OfEach, IsByArgument, IsByRule, head_of, symbol_of}
 use Rattle.passassign.proofs.strikes.Adding.{adds_same}
 use Rattle.passassign.proofs.slots.Few.{few_arguments}
 use Rattle.passassign.proofs.dependency.append_rule.Goals as goal

@@ -1,5 +1,4 @@
-use Rattle.std.proofs.Common.{length, refl, ap, arith}
-use Rattle.std.proofs.lemmas.Option.{slice_get_read}
+use Rattle.passassign.proofs.Common.{length, refl, ap, arith, slice_get_read}
 use Rattle.passassign.proofs.strikes.Adding.{adds_all, adds_more}
 use Rattle.passassign.proofs.slots.Few.{few_rules}
 use Rattle.passassign.proofs.dependency.append_rules.Goals as goal

@@ -1,9 +1,4 @@
-use Rattle.std.proofs.Common.{ℕ, ◌≡◌, ◌↔◌, List, refl}
-use Rattle.std.proofs.lemmas.Option.{slice_get-get_or}
-use Rattle.ag_grammar.specs.Lists.{Has}
-use Rattle.passassign.specs.Dependencies.{OfEach}
-use Rattle.passassign.specs.Searching.{IsBarred}
-use Rattle.passassign.specs.declared.dependency.Dependency.{Dependency}
+use Rattle.passassign.proofs.Common.{ℕ, ◌≡◌, ◌↔◌, List, refl, slice_get-get_or, Has, OfEach, IsBarred, Dependency}
 use Rattle.passassign.proofs.strikes.Adding.{adds_all, adds_more, adds_only, adds_same}
 use Rattle.passassign.proofs.search.barred_dependencies.Goals as goal
 

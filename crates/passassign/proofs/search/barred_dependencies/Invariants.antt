@@ -1,6 +1,4 @@
-use Rattle.std.proofs.Common.{◌≡◌, []}
-use Rattle.passassign.specs.Dependencies.{OfPrefix, Adds}
-use Rattle.passassign.specs.Searching.{IsBarred}
+use Rattle.passassign.proofs.Common.{◌≡◌, [], OfPrefix, Adds, IsBarred}
 use Rattle.passassign.proofs.search.barred_dependencies.Given as goal
 
 abbrev pub invariant-loop-one : goal.invariant-loop-one

@@ -1,5 +1,4 @@
-use Rattle.std.proofs.Common.{◌≡◌, map, take}
-use Rattle.passassign.specs.Searching.{edge_of}
+use Rattle.passassign.proofs.Common.{◌≡◌, map, take, edge_of}
 use Rattle.passassign.proofs.search.edges.Given as goal
 
 abbrev pub invariant-loop-one : goal.invariant-loop-one

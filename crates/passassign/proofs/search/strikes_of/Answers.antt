@@ -1,5 +1,4 @@
-use Rattle.std.proofs.Common.{arith}
-use Rattle.std.proofs.lemmas.Option.{slice_get-get_or, slice_get_within}
+use Rattle.passassign.proofs.Common.{arith, slice_get-get_or, slice_get_within}
 use Rattle.passassign.proofs.strikes.ReportedStrikes.{strike_more}
 use Rattle.passassign.proofs.search.strikes_of.Goals as goal
 

@@ -1,6 +1,4 @@
-use Rattle.std.proofs.Common.{ℕ, ◌≡◌, ◌<◌, Some, slice_get, length}
-use Rattle.closure.specs.declared.addition.Addition.{Addition}
-use Rattle.passassign.specs.Searching.{IsStrikeOf}
+use Rattle.passassign.proofs.Common.{ℕ, ◌≡◌, ◌<◌, Some, slice_get, length, Addition, IsStrikeOf}
 use Rattle.passassign.proofs.search.strikes_of.Given as goal
 
 abbrev pub invariant-loop-one : goal.invariant-loop-one

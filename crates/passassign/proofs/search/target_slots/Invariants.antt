@@ -1,5 +1,4 @@
-use Rattle.std.proofs.Common.{◌≡◌, map, take}
-use Rattle.passassign.specs.Searching.{target_of}
+use Rattle.passassign.proofs.Common.{◌≡◌, map, take, target_of}
 use Rattle.passassign.proofs.search.target_slots.Given as goal
 
 abbrev pub invariant-loop-one : goal.invariant-loop-one

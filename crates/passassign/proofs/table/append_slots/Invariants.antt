@@ -1,5 +1,4 @@
-use Rattle.std.proofs.Common.{ℕ, ◌≡◌, ◌+◌, ◌<◌, length}
-use Rattle.passassign.specs.Tables.{state_at, first_state}
+use Rattle.passassign.proofs.Common.{ℕ, ◌≡◌, ◌+◌, ◌<◌, length, state_at, first_state}
 use Rattle.passassign.proofs.table.append_slots.Given as goal
 
 abbrev pub invariant-loop-attr : goal.invariant-loop-attr

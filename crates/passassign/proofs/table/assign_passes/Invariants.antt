@@ -1,5 +1,4 @@
-use Rattle.std.proofs.Common.{ℕ, ◌≡◌, ◌<◌, ◌≤◌, length}
-use Rattle.passassign.specs.Tables.{state_at, after_pass, is_marked}
+use Rattle.passassign.proofs.Common.{ℕ, ◌≡◌, ◌<◌, ◌≤◌, length, state_at, after_pass, is_marked}
 use Rattle.passassign.proofs.table.assign_passes.Given as goal
 
 abbrev pub invariant-loop-slot : goal.invariant-loop-slot

@@ -1,5 +1,4 @@
-use Rattle.std.proofs.Common.{refl, arith}
-use Rattle.passassign.specs.Tables.{slot_of}
+use Rattle.passassign.proofs.Common.{refl, arith, slot_of}
 use Rattle.passassign.proofs.slots.OpenOnes.{open_more, open_within}
 use Rattle.passassign.proofs.table.open_attributes.Goals as goal
 

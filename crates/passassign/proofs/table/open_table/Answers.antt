@@ -1,4 +1,4 @@
-use Rattle.std.proofs.Common.{arith}
+use Rattle.passassign.proofs.Common.{arith}
 use Rattle.passassign.proofs.table.open_table.Goals as goal
 
 pub returns : goal.returns

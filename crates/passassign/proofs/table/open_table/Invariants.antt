@@ -1,5 +1,4 @@
-use Rattle.std.proofs.Common.{ℕ, ◌≡◌, ◌*◌, ◌<◌, length, slice_get}
-use Rattle.passassign.specs.Tables.{state_at, first_state, slot_of, attribute_count}
+use Rattle.passassign.proofs.Common.{ℕ, ◌≡◌, ◌*◌, ◌<◌, length, slice_get, state_at, first_state, slot_of, attribute_count}
 use Rattle.passassign.proofs.table.open_table.Given as goal
 
 abbrev pub invariant-loop-symbol : goal.invariant-loop-symbol

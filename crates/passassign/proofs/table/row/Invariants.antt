@@ -1,5 +1,4 @@
-use Rattle.std.proofs.Common.{ℕ, ◌≡◌, ◌+◌, ◌<◌, length, Some, slice_get, unwrap_or}
-use Rattle.passassign.specs.Tables.{state_at, pass_of_state}
+use Rattle.passassign.proofs.Common.{ℕ, ◌≡◌, ◌+◌, ◌<◌, length, Some, slice_get, unwrap_or, state_at, pass_of_state}
 use Rattle.passassign.proofs.table.row.Given as goal
 
 abbrev pub invariant-loop-attr : goal.invariant-loop-attr

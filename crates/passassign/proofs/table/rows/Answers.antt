@@ -1,5 +1,4 @@
-use Rattle.std.proofs.Common.{refl}
-use Rattle.std.proofs.lemmas.Option.{slice_get_read}
+use Rattle.passassign.proofs.Common.{refl, slice_get_read}
 use Rattle.passassign.proofs.slots.TableRows.{rows_more, rows_end}
 use Rattle.passassign.proofs.table.rows.Goals as goal
 

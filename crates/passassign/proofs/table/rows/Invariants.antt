@@ -1,4 +1,4 @@
-use Rattle.passassign.specs.Rows.{numbers_of}
+use Rattle.passassign.proofs.Common.{numbers_of}
 use Rattle.passassign.proofs.slots.TableRows.{AreRowsBelow}
 use Rattle.passassign.proofs.table.rows.Given as goal
 

@@ -1,6 +1,4 @@
-use Rattle.std.proofs.Common.{◌≡◌, length, sym, subst, arith}
-use Rattle.passassign.specs.Rows.{passes_of}
-use Rattle.passcode.specs.Shape.{HasLists}
+use Rattle.passcode.proofs.Common.{◌≡◌, length, sym, subst, arith, passes_of, HasLists}
 use Rattle.passcode.proofs.lists.Collected.{AreCollected, all_rows, collected_lists, rows_more}
 use Rattle.passcode.proofs.Lawful.{lists_agree, planned}
 use Rattle.passcode.proofs.Slices.{read_at, length_pushed}

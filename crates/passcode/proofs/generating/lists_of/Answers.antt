@@ -1,4 +1,4 @@
-use Rattle.passassign.specs.Rows.{passes_of}
+use Rattle.passcode.proofs.Common.{passes_of}
 use Rattle.passcode.proofs.lists.Collected.{lists_more}
 use Rattle.passcode.proofs.Slices.{length_pushed}
 use Rattle.passcode.proofs.generating.lists_of.Goals as goal

@@ -1,8 +1,4 @@
-use Rattle.std.proofs.Common.{ℕ, ◌≡◌, ◌+◌, List, Some, length, slice_get}
-use Rattle.passassign.specs.Rows.{passes_of}
-use Rattle.passcode.specs.declared.instr.Instr.{Instr}
-use Rattle.passcode.specs.Listing.{generated_list}
-use Rattle.passcode.specs.Rows.{row_of}
+use Rattle.passcode.proofs.Common.{ℕ, ◌≡◌, ◌+◌, List, Some, length, slice_get, passes_of, Instr, generated_list, row_of}
 use Rattle.passcode.proofs.generating.lists_of.Given as goal
 
 abbrev pub invariant-loop-before : goal.invariant-loop-before

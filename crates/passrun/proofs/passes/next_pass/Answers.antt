@@ -1,4 +1,4 @@
-use Rattle.std.proofs.Common.{inl}
+use Rattle.passrun.proofs.Common.{inl}
 use Rattle.pass_rows.specs.Settings.{pass_setting}
 use Rattle.passrun.proofs.course.Stepping.{err_more, passed_from_a, passed_from_b, refused_from_a, refused_from_b, some_left}
 use Rattle.passrun.proofs.passes.next_pass.Goals as goal

@@ -1,7 +1,5 @@
-use Rattle.std.proofs.Common.{inl, suc, ◌≡◌, ◌+◌, ◌-◌, refl, ◌∙◌, arith}
-use Rattle.std.proofs.lemmas.Result.{err_from_is_err_and}
+use Rattle.passrun.proofs.Common.{inl, suc, ◌≡◌, ◌+◌, ◌-◌, refl, ◌∙◌, arith, err_from_is_err_and, A}
 use Rattle.passrun.specs.Rounds.{other_content}
-use Rattle.passrun.specs.declared.last.Last.TheVariants.{A}
 use Rattle.passrun.proofs.course.Stepping.{all_goes_on, all_refused, all_starts, greatest_most, left_again, persists_on}
 use Rattle.passrun.proofs.course.Stepping.{persists_still}
 use Rattle.passrun.proofs.Totals.{greatest_is_last, solutions_left}

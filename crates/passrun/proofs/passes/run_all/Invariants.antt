@@ -1,7 +1,4 @@
-use Rattle.std.proofs.Common.{◌≡◌, ◌+◌, ◌-◌, ◌*◌, ◌≤◌}
-use Rattle.ag_grammar.specs.grammars.Tree.{max_nodes}
-use Rattle.passassign.specs.Rows.{passes_of}
-use Rattle.treefile.specs.devices.Device.{Persists, WhenHonest}
+use Rattle.passrun.proofs.Common.{◌≡◌, ◌+◌, ◌-◌, ◌*◌, ◌≤◌, max_nodes, passes_of, Persists, WhenHonest}
 use Rattle.passrun.specs.Rounds.{HasRunAll, LeavesSomeFile}
 use Rattle.passrun.proofs.passes.run_all.Given as goal
 

@@ -1,4 +1,4 @@
-use Rattle.std.proofs.lemmas.Option.{slice_get-get_or}
+use Rattle.planchecker.proofs.Common.{slice_get-get_or}
 use Rattle.planchecker.proofs.Loops.{prefix_more, prefix_whole, is_yes, says_yes}
 use Rattle.planchecker.proofs.certificate.are_struck.Goals as goal
 

@@ -1,6 +1,4 @@
-use Rattle.std.proofs.Common.{ap, sym, ◌∙◌, arith}
-use Rattle.std.proofs.lemmas.Option.{slice_get-get_or}
-use Rattle.passcode.specs.Course.{State}
+use Rattle.planchecker.proofs.Common.{ap, sym, ◌∙◌, arith, slice_get-get_or, State}
 use Rattle.planchecker.proofs.Completing.{next_state, on_way, too_short, whole, wrong_at}
 use Rattle.planchecker.proofs.Loops.{prefix_more, is_no, is_yes}
 use Rattle.planchecker.proofs.following.first_wrong_index.Goals as goal

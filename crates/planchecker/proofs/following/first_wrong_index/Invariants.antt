@@ -1,6 +1,4 @@
-use Rattle.std.proofs.Common.{◌≡◌}
-use Rattle.passassign.specs.Rows.{passes_of}
-use Rattle.passcode.specs.Course.{start, state_at}
+use Rattle.planchecker.proofs.Common.{◌≡◌, passes_of, start, state_at}
 use Rattle.passcode.proofs.States.{MayRunTo}
 use Rattle.planchecker.proofs.following.first_wrong_index.Given as goal
 

@@ -1,7 +1,4 @@
-use Rattle.std.proofs.Common.{arith}
-use Rattle.std.proofs.lemmas.List.{length-map}
-use Rattle.std.specs.Global.{Vec}
-use Rattle.passcode.specs.declared.instr.Instr.{Instr}
+use Rattle.planchecker.proofs.Common.{arith, length-map, Vec, Instr}
 use Rattle.planchecker.proofs.Checked.{items_at}
 use Rattle.planchecker.proofs.Lists.{first_list_of}
 use Rattle.planchecker.proofs.Loops.{prefix_more, prefix_whole}

@@ -1,7 +1,4 @@
-use Rattle.std.proofs.Common.{◌+◌}
-use Rattle.passassign.specs.Rows.{passes_of}
-use Rattle.passcode.specs.Agreement.{ListAgrees}
-use Rattle.passcode.specs.Rows.{row_of}
+use Rattle.planchecker.proofs.Common.{◌+◌, passes_of, ListAgrees, row_of}
 use Rattle.planchecker.proofs.Loops.{Prefix}
 use Rattle.planchecker.proofs.following.first_wrong_list.Given as goal
 

@@ -1,5 +1,4 @@
-use Rattle.std.proofs.Common.{ap, ◌∙◌, sym, Some}
-use Rattle.std.proofs.lemmas.Option.{slice_get-get_or}
+use Rattle.planchecker.proofs.Common.{ap, ◌∙◌, sym, Some, slice_get-get_or}
 use Rattle.planchecker.proofs.Loops.{prefix_more, prefix_whole, is_yes, says_yes}
 use Rattle.planchecker.proofs.least.are_all_strikes.Goals as goal
 

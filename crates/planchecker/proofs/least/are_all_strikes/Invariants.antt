@@ -1,6 +1,4 @@
-use Rattle.std.proofs.Common.{◌+◌}
-use Rattle.passassign.specs.PassStrikes.{AreStrikesAt}
-use Rattle.passassign.specs.Rows.{passes_of}
+use Rattle.planchecker.proofs.Common.{◌+◌, AreStrikesAt, passes_of}
 use Rattle.planchecker.proofs.Loops.{Prefix}
 use Rattle.planchecker.proofs.least.are_all_strikes.Given as goal
 

@@ -1,8 +1,6 @@
-use Rattle.std.proofs.Common.{◌≡◌, inl, inr, [], Some, ◌∙◌, sym, length, slice_get, subst, arith, ℕ}
-use Rattle.std.proofs.lemmas.Bool.{cases_lt}
-use Rattle.std.proofs.lemmas.List.{get_or_past}
-use Rattle.std.proofs.lemmas.Option.{slice_get-get_or}
-use Rattle.passassign.specs.Rows.{numbers_of}
+use Rattle.planchecker.proofs.Common
+use Common.{◌≡◌, inl, inr, [], Some, ◌∙◌, sym, length, slice_get, subst, arith, ℕ, cases_lt, get_or_past, slice_get-get_or}
+use Common.{numbers_of}
 use Rattle.passassign.proofs.slots.Lists.{length_rows, row_of}
 use Rattle.planchecker.proofs.Checked.{items_at}
 use Rattle.planchecker.proofs.Loops.{prefix_more, prefix_whole, is_no, is_yes, says_no, says_yes}

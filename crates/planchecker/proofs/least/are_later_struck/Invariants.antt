@@ -1,7 +1,4 @@
-use Rattle.std.proofs.Common.{ℕ, List, ◌<◌}
-use Rattle.planchecker.specs.Marking.{IsMarked}
-use Rattle.passassign.specs.Rows.{numbers_of}
-use Rattle.planchecker.specs.First.{EachAt}
+use Rattle.planchecker.proofs.Common.{ℕ, List, ◌<◌, IsMarked, numbers_of, EachAt}
 use Rattle.planchecker.proofs.Loops.{Prefix}
 use Rattle.planchecker.proofs.least.are_later_struck.Given as goal
 

@@ -1,4 +1,4 @@
-use Rattle.passassign.specs.Rows.{passes_of}
+use Rattle.planchecker.proofs.Common.{passes_of}
 use Rattle.passassign.proofs.making.NoEarlier.{later_from}
 use Rattle.planchecker.proofs.Loops.{is_no, is_yes}
 use Rattle.planchecker.proofs.Strikes.{exact, inexact}

@@ -1,5 +1,4 @@
-use Rattle.std.proofs.Common.{IsTrue, ap, ◌∙◌, length, sym}
-use Rattle.passassign.specs.PassStrikes.{AreStrikesOf}
+use Rattle.planchecker.proofs.Common.{IsTrue, ap, ◌∙◌, length, sym, AreStrikesOf}
 use Rattle.planchecker.proofs.least.check_least.Goals as goal
 
 pub returns : goal.returns

@@ -1,5 +1,4 @@
-use Rattle.std.proofs.Common.{◌<◌}
-use Rattle.planchecker.specs.Marking.{IsMarked}
+use Rattle.planchecker.proofs.Common.{◌<◌, IsMarked}
 use Rattle.planchecker.proofs.Loops.{Prefix}
 use Rattle.planchecker.proofs.least.is_row_struck.Given as goal
 

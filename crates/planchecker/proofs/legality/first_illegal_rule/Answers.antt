@@ -1,4 +1,4 @@
-use Rattle.passcode.proofs.Slices.{read_at}
+use Rattle.planchecker.proofs.Common.{read_at}
 use Rattle.planchecker.proofs.Loops.{first_not, prefix_more, prefix_whole, is_no, is_yes}
 use Rattle.planchecker.proofs.legality.first_illegal_rule.Goals as goal
 

@@ -1,5 +1,4 @@
-use Rattle.passassign.specs.Rows.{passes_of}
-use Rattle.planchecker.specs.Legality.{IsAllowed}
+use Rattle.planchecker.proofs.Common.{passes_of, IsAllowed}
 use Rattle.planchecker.proofs.Loops.{Prefix}
 use Rattle.planchecker.proofs.legality.first_illegal_rule.Given as goal
 

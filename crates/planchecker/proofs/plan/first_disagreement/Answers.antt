@@ -1,5 +1,5 @@
+use Rattle.planchecker.proofs.Common.{read_at}
 use Rattle.passcode.proofs.Lawful.{planned}
-use Rattle.passcode.proofs.Slices.{read_at}
 use Rattle.planchecker.proofs.Checked.{lists_at}
 use Rattle.planchecker.proofs.Loops.{first_not, prefix_more, prefix_whole}
 use Rattle.planchecker.proofs.plan.first_disagreement.Goals as goal

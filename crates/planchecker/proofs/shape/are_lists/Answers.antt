@@ -1,8 +1,4 @@
-use Rattle.std.proofs.Common.{arith}
-use Rattle.std.proofs.lemmas.List.{length-map}
-use Rattle.std.specs.Global.{Vec}
-use Rattle.passcode.specs.declared.instr.Instr.{Instr}
-use Rattle.passcode.specs.Rows.{row_of}
+use Rattle.planchecker.proofs.Common.{arith, length-map, Vec, Instr, row_of}
 use Rattle.planchecker.proofs.Checked.{row_is}
 use Rattle.planchecker.proofs.Loops.{prefix_more, prefix_whole, says_no, says_yes}
 use Rattle.planchecker.proofs.shape.are_lists.Goals as goal

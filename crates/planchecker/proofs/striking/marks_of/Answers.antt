@@ -1,5 +1,4 @@
-use Rattle.std.proofs.lemmas.Option.{slice_get-get_or}
-use Rattle.passassign.specs.declared.stuck.Strike.{Strike}
+use Rattle.planchecker.proofs.Common.{slice_get-get_or, Strike}
 use Rattle.planchecker.proofs.Loops.{prefix_more, prefix_whole, is_no, is_yes, says_no, says_yes}
 use Rattle.planchecker.proofs.Strikes.{marks_more, next_same, within_limits}
 use Rattle.planchecker.proofs.striking.marks_of.Goals as goal

@@ -1,8 +1,6 @@
-use Rattle.std.proofs.Common.{ℕ, ◌≡◌, ◌↔◌, length, take}
+use Rattle.planchecker.proofs.Common.{ℕ, ◌≡◌, ◌↔◌, length, take, IsMarked, IsNext}
 use Rattle.passassign.specs.Certificate.{IsStruckBy}
 use Rattle.passassign.specs.Tables.{max_slots}
-use Rattle.planchecker.specs.Marking.{IsMarked}
-use Rattle.planchecker.specs.Striking.{IsNext}
 use Rattle.planchecker.proofs.Loops.{Prefix}
 use Rattle.planchecker.proofs.striking.marks_of.Given as goal
 

@@ -18,7 +18,7 @@ returns-in_err-read_node-clause-none c =
     (subst (λ s. IsNoNode (setting_of g plan (last + 1)) s c.args.body.now) c.start.ensures.value
     (c.in_err-read_node.ensures.none (same_fault _ _ damaged))) x root)
 
--- the number of `out` is one of the row
+-- the number of `out` is less than the length of the row
 pub swap_remove-requires : goal.swap_remove-requires
 swap_remove-requires c =
     let g = c.args.grammar.now in

@@ -1,7 +1,6 @@
-use Rattle.std.specs.List.{flat_map}
+use Rattle.treefile.proofs.Common.{flat_map, frame}
 use Rattle.treefile.proofs.framing.Backward.{back_is_file, pass_of_file, read_back}
 use Rattle.treefile.proofs.framing.Files.{begins}
-use Rattle.treefile.specs.records.TreeFile.{frame}
 use Rattle.treefile.proofs.laws.files_are_read_back.Goals as goal
 
 pub returns-clause-begins : goal.returns-clause-begins

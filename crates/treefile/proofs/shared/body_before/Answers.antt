@@ -1,5 +1,4 @@
-use Rattle.std.proofs.Common.{rules, ◌-◌, length}
-use Rattle.treefile.specs.records.TreeFile.{version_two}
+use Rattle.treefile.proofs.Common.{rules, ◌-◌, length, version_two}
 use Rattle.treefile.proofs.Lending.{cut_out, dropped_bytes}
 use Rattle.treefile.proofs.shared.body_before.Goals as goal
 

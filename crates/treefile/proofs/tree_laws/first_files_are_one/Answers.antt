@@ -1,4 +1,4 @@
-use Rattle.std.proofs.Common.{refl, sym, ◌∙◌}
+use Rattle.treefile.proofs.Common.{refl, sym, ◌∙◌}
 use Rattle.treefile.specs.records.FirstFile.{first_file}
 use Rattle.treefile.proofs.records.FirstFile.{first_file_is, is_first_file}
 use Rattle.treefile.proofs.tree_laws.first_files_are_one.Goals as goal

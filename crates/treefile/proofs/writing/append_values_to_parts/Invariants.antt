@@ -1,6 +1,4 @@
-use Rattle.std.proofs.Common.{◌≡◌, ◌++◌, drop}
-use Rattle.std.specs.List.{flat_map}
-use Rattle.ag_value.specs.Spelling.{spelling_of}
+use Rattle.treefile.proofs.Common.{◌≡◌, ◌++◌, drop, flat_map, spelling_of}
 use Rattle.treefile.proofs.writing.append_values_to_parts.Given as goal
 
 abbrev pub invariant-loop-value : goal.invariant-loop-value

@@ -1,4 +1,4 @@
-use Rattle.std.proofs.Common.{rules}
+use Rattle.treefile.proofs.Common.{rules}
 use Rattle.treefile.proofs.records.Records.{is_body}
 use Rattle.treefile.proofs.writing.fill_parts.Goals as goal
 

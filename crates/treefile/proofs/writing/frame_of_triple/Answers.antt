@@ -1,6 +1,5 @@
-use Rattle.std.proofs.Common.{w64}
+use Rattle.treefile.proofs.Common.{w64, spelling-Num}
 use Rattle.std.proofs.lemmas.Int.{to_z-of_z}
-use Rattle.ag_value.proofs.Layers.{spelling-Num}
 use Rattle.treefile.proofs.writing.frame_of_triple.Goals as goal
 
 -- the bytes of each part, one after another

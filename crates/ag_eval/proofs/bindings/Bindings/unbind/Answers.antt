@@ -1,7 +1,6 @@
-use Rattle.std.proofs.Common.{◌≡◌, ◌≢◌, ◌<◌, ◌++◌, ◌∷◌, [], length, ap, arith, subst, sym, ◌∙◌}
-use Rattle.std.specs.Option.{option_to_list}
-use Rattle.ag_grammar.specs.expressions.Evaluation.{bound_value}
-use Rattle.ag_eval.specs.Operands.{IsIn, held_value, operand_value}
+use Rattle.ag_eval.proofs.Common
+use Common.{◌≡◌, ◌≢◌, ◌<◌, ◌++◌, ◌∷◌, [], length, ap, arith, subst, sym, ◌∙◌, option_to_list, bound_value, IsIn, held_value}
+use Common.{operand_value}
 use Rattle.ag_eval.proofs.Innermost.{seen_stays}
 use Rattle.ag_eval.proofs.bindings.Bindings.unbind.Goals as goal
 

@@ -1,6 +1,4 @@
-use Rattle.std.proofs.Common.{ap, ◌∙◌}
-use Rattle.ag_value.specs.operations.Arguments.{truth}
-use Rattle.ag_grammar.proofs.values.Same.{decided}
+use Rattle.ag_eval.proofs.Common.{ap, ◌∙◌, truth, decided}
 use Rattle.ag_eval.proofs.builtins.comparing.equal_shared.Goals as goal
 
 pub returns-clause-value : goal.returns-clause-value

@@ -1,7 +1,7 @@
-use Rattle.std.proofs.Common.{◌≡◌, sym, ap, ◌∙◌}
-use Rattle.ag_value.specs.declared.value.Value.TheVariants as value
+use Rattle.ag_eval.proofs.Common
+use Common.{◌≡◌, sym, ap, ◌∙◌, ref_value}
+use Common.value
 use Rattle.ag_carried.proofs.Tables.{equal_items, equal_pairs}
-use Rattle.ag_eval.specs.Operands.{ref_value}
 use Rattle.ag_eval.proofs.builtins.comparing.same_values.Goals as goal
 
 pub returns-in-Table-Table : goal.returns-in-Table-Table

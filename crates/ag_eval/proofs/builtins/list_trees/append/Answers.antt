@@ -1,5 +1,4 @@
-use Rattle.std.proofs.Common.{◌∙◌, ap, arith, sym}
-use Rattle.ag_eval.specs.Operands.{held_value}
+use Rattle.ag_eval.proofs.Common.{◌∙◌, ap, arith, sym, held_value}
 use Rattle.ag_eval.proofs.Lists.{appended, deep_item, heavy_item}
 use Rattle.ag_eval.proofs.builtins.list_trees.append.Goals as goal
 

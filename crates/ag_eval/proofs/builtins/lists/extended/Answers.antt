@@ -1,5 +1,4 @@
-use Rattle.std.proofs.Common.{◌≡◌, ◌∙◌, ◌++◌, ap}
-use Rattle.ag_value.proofs.operations.Growing.{fits-together}
+use Rattle.ag_eval.proofs.Common.{◌≡◌, ◌∙◌, ◌++◌, ap, fits-together}
 use Rattle.ag_eval.proofs.builtins.lists.extended.Goals as goal
 
 pub fit-requires : goal.fit-requires

@@ -1,4 +1,4 @@
-use Rattle.ag_value.proofs.operations.Wells.{short_table}
+use Rattle.ag_eval.proofs.Common.{short_table}
 use Rattle.ag_eval.proofs.builtins.lists.length.Goals as goal
 
 pub count-requires-in-Table : goal.count-requires-in-Table

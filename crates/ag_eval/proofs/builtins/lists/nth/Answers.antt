@@ -1,9 +1,6 @@
+use Rattle.ag_eval.proofs.Common.{ap, sym, ◌∙◌, option_copied, item_at, well_nth}
 use mir.Syntax.{w64}
 use mir.Val.{of_z, to_z}
-use Rattle.std.proofs.Common.{ap, sym, ◌∙◌}
-use Rattle.std.specs.Prelude.{option_copied}
-use Rattle.ag_value.specs.operations.Lists.{item_at}
-use Rattle.ag_value.proofs.operations.Wells.{well_nth}
 use Rattle.ag_eval.proofs.builtins.lists.nth.Goals as goal
 
 pub from_lent-requires : goal.from_lent-requires

@@ -1,5 +1,4 @@
-use Rattle.std.proofs.Common.{◌≡◌, ◌∙◌, ◌++◌, ◌∷◌, [], ap}
-use Rattle.ag_value.proofs.operations.Growing.{fits-pushed}
+use Rattle.ag_eval.proofs.Common.{◌≡◌, ◌∙◌, ◌++◌, ◌∷◌, [], ap, fits-pushed}
 use Rattle.ag_eval.proofs.builtins.lists.pushed.Goals as goal
 
 pub fit-requires : goal.fit-requires

@@ -1,6 +1,4 @@
-use Rattle.std.proofs.Common.{◌∙◌, subst}
-use Rattle.std.specs.Str.{IsUtf8}
-use Rattle.ag_value.proofs.operations.Wells.{well_decimal}
+use Rattle.ag_eval.proofs.Common.{◌∙◌, subst, IsUtf8, well_decimal}
 use Rattle.ag_eval.proofs.builtins.numbers.decimal.Goals as goal
 
 pub returns-clause-well : goal.returns-clause-well

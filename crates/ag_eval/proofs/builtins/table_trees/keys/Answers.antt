@@ -1,6 +1,6 @@
-use Rattle.std.proofs.Common.{refl}
-use Rattle.ag_value.specs.declared.value.Value.TheVariants as value
-use Rattle.ag_value.proofs.operations.Tables.{well_keys}
+use Rattle.ag_eval.proofs.Common
+use Common.{refl, well_keys}
+use Common.value
 use Rattle.ag_eval.proofs.builtins.table_trees.keys.Goals as goal
 
 pub returns-clause-well : goal.returns-clause-well

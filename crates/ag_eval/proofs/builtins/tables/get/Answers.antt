@@ -1,7 +1,4 @@
-use Rattle.std.proofs.Common.{◌∙◌, ap, sym}
-use Rattle.std.specs.Prelude.{option_copied}
-use Rattle.ag_value.specs.operations.Tables.{pair_with}
-use Rattle.ag_value.proofs.operations.Tables.{rising_table, well_got}
+use Rattle.ag_eval.proofs.Common.{◌∙◌, ap, sym, option_copied, pair_with, rising_table, well_got}
 use Rattle.ag_eval.proofs.builtins.tables.get.Goals as goal
 
 pub pair_with-requires : goal.pair_with-requires

@@ -1,4 +1,4 @@
-use Rattle.ag_value.proofs.operations.Tables.{rising_table}
+use Rattle.ag_eval.proofs.Common.{rising_table}
 use Rattle.ag_eval.proofs.builtins.tables.has.Goals as goal
 
 pub pair_with-requires : goal.pair_with-requires

@@ -1,6 +1,5 @@
-use Rattle.std.proofs.Common.{rules}
+use Rattle.ag_eval.proofs.Common.{rules, is_before}
 use Rattle.std.proofs.lemmas.List.Sorted.{IsPartitionPoint-from_clause}
-use Rattle.ag_value.specs.Well.{is_before}
 use Rattle.ag_eval.proofs.Keys.{partitioned, index_is}
 use Rattle.ag_eval.proofs.builtins.tables.index_of.Goals as goal
 

@@ -1,5 +1,6 @@
-use Rattle.std.proofs.Common.{◌≡◌, map, take}
-use Rattle.ag_value.specs.declared.value.Value.TheVariants as value
+use Rattle.ag_eval.proofs.Common
+use Common.{◌≡◌, map, take}
+use Common.value
 use Rattle.ag_eval.proofs.builtins.tables.key_texts.Given as goal
 
 abbrev pub invariant-loop-pair : goal.invariant-loop-pair

@@ -1,6 +1,6 @@
-use Rattle.std.proofs.Common.{◌∙◌, ap, map}
-use Rattle.ag_value.specs.declared.value.Value.TheVariants as value
-use Rattle.ag_value.proofs.operations.Tables.{well_keys}
+use Rattle.ag_eval.proofs.Common
+use Common.{◌∙◌, ap, map, well_keys}
+use Common.value
 use Rattle.ag_eval.proofs.builtins.tables.keys.Goals as goal
 
 pub returns-in_ok-key_texts-in-Table-clause-well : goal.returns-in_ok-key_texts-in-Table-clause-well

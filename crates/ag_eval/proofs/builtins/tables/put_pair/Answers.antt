@@ -1,13 +1,9 @@
-use Rattle.std.proofs.Common.{◌≡◌, ◌∙◌, ◌+◌, ap, arith, false, length, refl, slice_get, subst, sym}
+use Rattle.ag_eval.proofs.Common
+use Common.{◌≡◌, ◌∙◌, ◌+◌, ap, arith, false, length, refl, slice_get, subst, sym, insert, IsWell, is_item, Value, IsIndex}
+use Common.{has_key, item_of, rising_table}
+use Common.value
 use Rattle.std.proofs.lemmas.Str.{is_utf8-from_IsUtf8}
-use Rattle.std.specs.List.{insert}
-use Rattle.ag_value.specs.Well.{IsWell, is_item}
-use Rattle.ag_value.specs.declared.value.Value.{Value}
-use Rattle.ag_value.specs.declared.value.Value.TheVariants as value
-use Rattle.ag_value.specs.operations.Tables.{IsIndex, has_key}
-use Rattle.ag_value.proofs.operations.Growing.{item_of}
 use Rattle.ag_eval.proofs.Putting.{fits-inserted, inserts, item_with}
-use Rattle.ag_value.proofs.operations.Tables.{rising_table}
 use Rattle.ag_eval.proofs.builtins.tables.put_pair.Goals as goal
 
 pub index_of-index-requires : goal.index_of-index-requires

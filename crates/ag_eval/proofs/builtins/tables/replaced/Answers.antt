@@ -1,6 +1,6 @@
-use Rattle.std.proofs.Common.{◌∙◌, ap}
-use Rattle.ag_value.specs.declared.value.Value.TheVariants as value
-use Rattle.ag_value.specs.operations.Fitting.{fit}
+use Rattle.ag_eval.proofs.Common
+use Common.{◌∙◌, ap, fit}
+use Common.value
 use Rattle.ag_eval.proofs.Putting.{item_set, replaced_is}
 use Rattle.ag_eval.proofs.builtins.tables.replaced.Goals as goal
 

@@ -1,6 +1,4 @@
-use Rattle.std.proofs.Common.{◌≡◌, drop}
-use Rattle.std.specs.List.{list_all}
-use Rattle.ag_value.specs.operations.Texts.{is_text}
+use Rattle.ag_eval.proofs.Common.{◌≡◌, drop, list_all, is_text}
 use Rattle.ag_eval.proofs.builtins.texts.are_texts.Given as goal
 
 abbrev pub invariant-loop-item : goal.invariant-loop-item

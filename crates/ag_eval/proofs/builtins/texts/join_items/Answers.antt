@@ -1,9 +1,6 @@
-use Rattle.std.proofs.Common.{◌≡◌, ◌∙◌, true, ap, arith, sym, refl}
-use Rattle.std.specs.List.{join_by, list_all}
-use Rattle.ag_value.specs.declared.value.Value.TheVariants as value
-use Rattle.ag_value.specs.operations.Fitting.{fit}
-use Rattle.ag_value.specs.operations.Texts.{bytes_of, is_text}
-use Rattle.ag_value.proofs.operations.Wells.{big_text}
+use Rattle.ag_eval.proofs.Common
+use Common.{◌≡◌, ◌∙◌, true, ap, arith, sym, refl, join_by, list_all, fit, bytes_of, is_text, big_text}
+use Common.value
 use Rattle.ag_eval.proofs.builtins.texts.join_items.Goals as goal
 
 pub returns-then-weight-gt-MAX_WEIGHT : goal.returns-then-weight-gt-MAX_WEIGHT

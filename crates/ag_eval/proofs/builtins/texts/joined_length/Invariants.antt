@@ -1,6 +1,4 @@
-use Rattle.std.proofs.Common.{◌≡◌, ◌+◌, ◌-◌, ◌++◌, ◌^◌, ◌<◌, drop, length, min}
-use Rattle.std.specs.List.{flat_map, join_by}
-use Rattle.ag_value.specs.operations.Texts.{bytes_of}
+use Rattle.ag_eval.proofs.Common.{◌≡◌, ◌+◌, ◌-◌, ◌++◌, ◌^◌, ◌<◌, drop, length, min, flat_map, join_by, bytes_of}
 use Rattle.ag_eval.proofs.builtins.texts.joined_length.Given as goal
 
 abbrev pub invariant-loop-item : goal.invariant-loop-item

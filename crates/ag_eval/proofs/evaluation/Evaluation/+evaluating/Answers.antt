@@ -1,12 +1,7 @@
-use Rattle.std.proofs.Common.{◌≡◌, ◌∙◌, ◌++◌, ◌∷◌, [], List, ap, length, map, refl, rules, subst, sym, true}
-use Rattle.std.specs.Result.{IfOk, OnOk}
-use Rattle.ag_value.specs.declared.value.Value.{Value}
-use Rattle.ag_grammar.specs.declared.syntax.node.Node.{Node, the_lemmas}
-use Rattle.ag_grammar.specs.declared.syntax.node.Operator.{Operator}
-use Rattle.ag_grammar.specs.expressions.Evaluation.{Meaning, chain_value, value_in}
-use Rattle.ag_eval.specs.Operands.{operand_value}
-use Rattle.ag_grammar.specs.expressions.Trees.{all_below, is_within}
-use Rattle.ag_grammar.proofs.expressions.Trees.{body_below, chain_below, chain_is, operand_below}
+use Rattle.ag_eval.proofs.Common
+use Common.{◌≡◌, ◌∙◌, ◌++◌, ◌∷◌, [], List, ap, length, map, refl, rules, subst, sym, true, IfOk, OnOk, Value, Node, the_lemmas}
+use Common.{Operator, Meaning, chain_value, value_in, operand_value, all_below, is_within, body_below, chain_below, chain_is}
+use Common.{operand_below}
 use Rattle.ag_eval.proofs.evaluation.Evaluation.+evaluating.Goals as goal
 
 pub chain_of-operand_of-requires : goal.chain_of-operand_of-requires

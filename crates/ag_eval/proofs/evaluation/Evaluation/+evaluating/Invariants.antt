@@ -1,11 +1,7 @@
-use Rattle.std.proofs.Common.{◌≡◌, ◌++◌, length, drop, map, true}
-use Rattle.ag_value.specs.declared.value.Value.TheVariants as value
-use Rattle.ag_grammar.specs.expressions.Evaluation.{chain_value, item_values, value_in}
-use Rattle.ag_eval.specs.Operands.{IsIn, each_within, operand_value}
-use Rattle.ag_grammar.specs.expressions.Trees.{all_below}
-use Rattle.ag_value.specs.operations.Arguments.{fault_or, leftmost}
-use Rattle.ag_value.specs.operations.Fitting.{fit}
-use Rattle.ag_value.specs.operations.Lists.{listed}
+use Rattle.ag_eval.proofs.Common
+use Common.{◌≡◌, ◌++◌, length, drop, map, true, chain_value, item_values, value_in, IsIn, each_within, operand_value, all_below}
+use Common.{fault_or, leftmost, fit, listed}
+use Common.value
 use Rattle.ag_eval.proofs.evaluation.Evaluation.+evaluating.Given as goal
 
 abbrev pub invariant-chain_of-loop-other : goal.invariant-chain_of-loop-other

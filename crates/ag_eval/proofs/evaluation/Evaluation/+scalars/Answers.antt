@@ -1,10 +1,6 @@
-use Rattle.std.proofs.Common.{◌≡◌, ◌∙◌, List, ap, length, map, refl, rules, sym, true}
-use Rattle.ag_value.specs.declared.value.Value.{Value}
-use Rattle.ag_grammar.specs.declared.syntax.node.Node.{Node, the_lemmas}
-use Rattle.ag_grammar.specs.declared.syntax.node.Operator.{Operator}
-use Rattle.ag_grammar.specs.expressions.Evaluation.{Meaning, chain_value, value_in}
-use Rattle.ag_grammar.specs.expressions.Trees.{all_below}
-use Rattle.ag_grammar.proofs.expressions.Trees.{chain_below, chain_is, operand_below}
+use Rattle.ag_eval.proofs.Common
+use Common.{◌≡◌, ◌∙◌, List, ap, length, map, refl, rules, sym, true, Value, Node, the_lemmas, Operator, Meaning, chain_value}
+use Common.{value_in, all_below, chain_below, chain_is, operand_below}
 use Rattle.ag_eval.proofs.evaluation.Evaluation.+scalars.Goals as goal
 
 pub scalar_of_chain-loop-other-init : goal.scalar_of_chain-loop-other-init

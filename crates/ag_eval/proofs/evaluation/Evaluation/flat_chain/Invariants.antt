@@ -1,7 +1,4 @@
-use Rattle.std.proofs.Common.{◌≡◌, [], length, drop, map, true}
-use Rattle.ag_grammar.specs.expressions.Evaluation.{chain_value, value_in}
-use Rattle.ag_grammar.specs.expressions.Trees.{all_below}
-use Rattle.ag_eval.specs.Operands.{scalar_value}
+use Rattle.ag_eval.proofs.Common.{◌≡◌, [], length, drop, map, true, chain_value, value_in, all_below, scalar_value}
 use Rattle.ag_eval.proofs.evaluation.Evaluation.flat_chain.Given as goal
 
 abbrev pub invariant-loop-other : goal.invariant-loop-other

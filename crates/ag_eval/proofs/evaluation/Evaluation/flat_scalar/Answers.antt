@@ -1,11 +1,6 @@
-use Rattle.std.proofs.Common.{◌≡◌, ◌∙◌, List, [], ap, map, subst, sym}
-use Rattle.std.specs.Option.{IfSome}
-use Rattle.ag_value.specs.declared.value.Value.{Value}
-use Rattle.ag_grammar.specs.declared.syntax.node.Node.{Node}
-use Rattle.ag_grammar.specs.declared.syntax.node.Operator.{Operator}
-use Rattle.ag_grammar.specs.expressions.Evaluation.{Meaning, chain_value, value_in}
-use Rattle.ag_grammar.proofs.expressions.Trees.{chain_is}
-use Rattle.ag_eval.specs.Operands.{scalar_value}
+use Rattle.ag_eval.proofs.Common
+use Common.{◌≡◌, ◌∙◌, List, [], ap, map, subst, sym, IfSome, Value, Node, Operator, Meaning, chain_value, value_in, chain_is}
+use Common.{scalar_value}
 use Rattle.ag_eval.specs.declared.scalar.Scalar.{Scalar}
 use Rattle.ag_eval.proofs.evaluation.Evaluation.flat_scalar.Goals as goal
 

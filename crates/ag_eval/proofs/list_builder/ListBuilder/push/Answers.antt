@@ -1,6 +1,4 @@
-use Rattle.std.proofs.Common.{arith, ◌≡◌, ◌++◌, ◌∷◌, ◌∙◌, [], ap, subst}
-use Rattle.ag_value.specs.Well.{IsWell}
-use Rattle.ag_value.proofs.operations.Growing.{gathers}
+use Rattle.ag_eval.proofs.Common.{arith, ◌≡◌, ◌++◌, ◌∷◌, ◌∙◌, [], ap, subst, IsWell, gathers}
 use Rattle.ag_eval.proofs.list_builder.ListBuilder.push.Goals as goal
 
 pub invariant_of-self-2 : goal.invariant_of-self-2

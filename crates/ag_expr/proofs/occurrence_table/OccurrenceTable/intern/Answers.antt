@@ -1,4 +1,4 @@
-use Rattle.std.proofs.Common.{◌∙◌, refl, sym}
+use Rattle.ag_expr.proofs.Common.{◌∙◌, refl, sym}
 use Rattle.ag_expr.proofs.language.Numbered.{listed_where, unlisted_where, number_pushed, follows_pushed, pushed_apart}
 use Rattle.ag_expr.proofs.occurrence_table.OccurrenceTable.intern.Goals as goal
 

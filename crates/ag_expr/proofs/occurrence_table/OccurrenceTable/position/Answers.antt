@@ -1,4 +1,4 @@
-use Rattle.std.proofs.Common.{◌∙◌}
+use Rattle.ag_expr.proofs.Common.{◌∙◌}
 use Rattle.ag_expr.proofs.occurrence_table.OccurrenceTable.position.Goals as goal
 
 pub returns : goal.returns

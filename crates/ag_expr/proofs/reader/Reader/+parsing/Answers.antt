@@ -1,7 +1,5 @@
-use Rattle.std.proofs.Common.{[], ◌∙◌, ap, refl, sym, Ok}
-use Rattle.ag_tokens.specs.Parsing.{further_from}
+use Rattle.ag_expr.proofs.Common.{[], ◌∙◌, ap, refl, sym, Ok, further_from, input}
 use Rattle.ag_expr.specs.language.Reading.{atom_from, expr_in, is_operator_of, items_from, other_from, ranked_from}
-use Rattle.ag_expr.specs.language.State.{input}
 use Rattle.ag_expr.specs.language.Syntax.{closer, takes_one}
 use Rattle.ag_expr.proofs.language.Parts.{answered, goes_on, ends, failed, stopped}
 use Rattle.ag_expr.proofs.reader.Reader.+parsing.Goals as goal

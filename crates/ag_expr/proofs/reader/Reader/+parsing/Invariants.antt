@@ -1,18 +1,11 @@
-use Rattle.std.proofs.Common.{List, false, [], ◌≡◌, ℕ, ◌+◌, ◌*◌, length}
-use Rattle.ag_tokens.specs.Parsing.{further_from, is_sign}
-use Rattle.ag_tokens.specs.GrammarToken.{mark}
-use Rattle.ag_tokens.specs.declared.token.Punctuation.TheVariants as punctuation
+use Rattle.ag_expr.proofs.Common
+use Common.{List, false, [], ◌≡◌, ℕ, ◌+◌, ◌*◌, length, further_from, is_sign, mark, Operator, Node, Occ, Names, input, Precedence}
+use Common.punctuation
+use Common.precedence
 use Rattle.ag_expr.proofs.language.Parts.{Looping}
-use Rattle.ag_grammar.specs.declared.syntax.node.Operator.{Operator}
-use Rattle.ag_grammar.specs.declared.syntax.node.Node.{Node}
-use Rattle.ag_grammar.specs.declared.syntax.occurrence.Occ.{Occ}
-use Rattle.ag_expr.specs.language.Names.{Names}
 use Rattle.ag_expr.specs.language.Reading.{Parser, items_from, is_operator_of, next_from, other_from, ranked_from, atom_from}
 use Rattle.ag_expr.specs.language.Reading.{expr_in}
-use Rattle.ag_expr.specs.language.State.{input}
 use Rattle.ag_expr.specs.language.Syntax.{closer, takes_one}
-use Rattle.ag_expr.specs.declared.parser.Precedence.{Precedence}
-use Rattle.ag_expr.specs.declared.parser.Precedence.TheVariants as precedence
 use Rattle.ag_expr.proofs.reader.Reader.+parsing.Given as goal
 
 -- The numbers below show that the recursion ends: each function has a smaller number than those that call it. This one is the

@@ -1,5 +1,4 @@
-use Rattle.std.proofs.Common.{ap, ◌∙◌}
-use Rattle.ag_expr.specs.language.Occurrences.{listed_with}
+use Rattle.ag_expr.proofs.Common.{ap, ◌∙◌, listed_with}
 use Rattle.ag_expr.proofs.language.States.{taken_keeps, taken_tokens}
 use Rattle.ag_expr.proofs.reader.Reader.take_occurrence.Goals as goal
 

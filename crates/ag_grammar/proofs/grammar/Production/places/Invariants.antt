@@ -1,5 +1,4 @@
-use Rattle.std.proofs.Common.{◌≡◌, ◌++◌, drop}
-use Rattle.ag_grammar.specs.grammars.AttributeGrammar.{places_of, stored_items}
+use Rattle.ag_grammar.proofs.Common.{◌≡◌, ◌++◌, drop, places_of, stored_items}
 use Rattle.ag_grammar.proofs.grammar.Production.places.Given as goal
 
 abbrev pub invariant-loop-item : goal.invariant-loop-item

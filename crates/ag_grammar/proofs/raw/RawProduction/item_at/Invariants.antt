@@ -1,5 +1,4 @@
-use Rattle.std.proofs.Common.{◌≡◌, ◌-◌, drop, slice_get}
-use Rattle.ag_grammar.specs.grammars.Raw.{raw_stored}
+use Rattle.ag_grammar.proofs.Common.{◌≡◌, ◌-◌, drop, slice_get, raw_stored}
 use Rattle.ag_grammar.proofs.raw.RawProduction.item_at.Given as goal
 
 abbrev pub invariant-loop-item : goal.invariant-loop-item

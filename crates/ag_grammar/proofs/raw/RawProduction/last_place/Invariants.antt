@@ -1,5 +1,4 @@
-use Rattle.std.proofs.Common.{◌≡◌, ◌≤◌, ◌+◌, drop, length}
-use Rattle.ag_grammar.specs.grammars.Raw.{raw_stored}
+use Rattle.ag_grammar.proofs.Common.{◌≡◌, ◌≤◌, ◌+◌, drop, length, raw_stored}
 use Rattle.ag_grammar.proofs.raw.RawProduction.last_place.Given as goal
 
 abbrev pub invariant-loop-item : goal.invariant-loop-item

@@ -1,9 +1,5 @@
 -- The results for the grammar or the sentence of a job are results for the job.
-use Rattle.std.proofs.Common.{List, ℕ, inl, refl, subst}
-use Rattle.std.proofs.lemmas.Result.{err_from_is_err_and}
-use Rattle.std.specs.Result.{IfErr}
-use Rattle.aggen.specs.Building.{IsBuildFault}
-use Rattle.aggen.specs.Checking.{IsGrammarOf}
+use Rattle.aggen.proofs.Common.{List, ℕ, inl, refl, subst, err_from_is_err_and, IfErr, IsBuildFault, IsGrammarOf}
 use Rattle.aggen.specs.Translating.{IsTranslationFault}
 use Rattle.aggen.proofs.Jobs.{no_translation, no_translator}
 use Rattle.aggen.specs.Translating.{IsAfterPasses, LeavesLastFiles}

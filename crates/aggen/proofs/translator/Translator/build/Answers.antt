@@ -1,5 +1,4 @@
-use Rattle.std.proofs.Common.{Err, ap}
-use Rattle.std.proofs.lemmas.Result.{err_from_is_err_and}
+use Rattle.aggen.proofs.Common.{Err, ap, err_from_is_err_and}
 use Rattle.aggen.proofs.Building.{conflict_exact}
 use Rattle.aggen.proofs.translator.Translator.build.Goals as goal
 

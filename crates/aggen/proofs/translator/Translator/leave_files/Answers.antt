@@ -1,12 +1,7 @@
-use Rattle.std.proofs.Common.{◌≡◌, ◌-◌, inl, inr, refl, subst, arith}
-use Rattle.std.proofs.lemmas.Result.{err_from_is_err_and}
-use Rattle.ag_grammar.specs.grammars.AttributeGrammar.{Grammar}
-use Rattle.passassign.specs.Rows.{IsGreatest, passes_of}
-use Rattle.passcode.specs.Settings.{setting_of}
-use Rattle.passrun.specs.Rounds.{HasRunAll}
-use Rattle.passrun.specs.passing.Ahead.{IsRunFault}
+use Rattle.aggen.proofs.Common
+use Common.{◌≡◌, ◌-◌, inl, inr, refl, subst, arith, err_from_is_err_and, Grammar, IsGreatest, passes_of, setting_of, HasRunAll}
+use Common.{IsRunFault, left_again}
 use Rattle.aggen.proofs.Composed.{are_left, never_refused, one_tree}
-use Rattle.passrun.proofs.course.Stepping.{left_again}
 use Rattle.aggen.proofs.Left.{no_parse_of_run}
 use Rattle.aggen.proofs.translator.Translator.leave_files.Goals as goal
 

@@ -1,7 +1,5 @@
-use Rattle.std.proofs.Common.{Err, ap, inr, refl, sym}
-use Rattle.std.proofs.lemmas.Result.{err_from_is_err_and}
+use Rattle.aggen.proofs.Common.{Err, ap, inr, refl, sym, err_from_is_err_and, IsTreeOfSentence}
 use Rattle.treefile.proofs.framing.Beginning.{not_begun}
-use Rattle.aggen.specs.Sentences.{IsTreeOfSentence}
 use Rattle.aggen.proofs.Sentences.{one_of, parse_exact, scan_exact, with_tokens}
 use Rattle.aggen.proofs.Left.{first_begins, no_parse_of_device, no_parse_of_scan}
 use Rattle.aggen.proofs.translator.Translator.parse_tree.Goals as goal

@@ -1,4 +1,4 @@
-use Rattle.std.proofs.Common.{sym}
+use Rattle.aggen.proofs.Common.{sym}
 use Rattle.aggen.proofs.translator.Translator.plan.Goals as goal
 
 pub returns : goal.returns

@@ -1,15 +1,8 @@
-use Rattle.std.proofs.Common.{◌≡◌, ◌+◌, ◌-◌, inl, inr, refl, subst, arith}
-use Rattle.std.proofs.lemmas.Result.{err_from_is_err_and}
-use Rattle.ag_grammar.specs.grammars.AttributeGrammar.{Grammar}
-use Rattle.passassign.specs.Rows.{IsGreatest, passes_of}
-use Rattle.passcode.specs.Settings.{setting_of}
-use Rattle.passrun.specs.passing.Ahead.{IsRunFault}
-use Rattle.passrun.specs.Passed.{IsPassed}
-use Rattle.passrun.specs.Rounds.{HasRunAll}
-use Rattle.passrun.proofs.Totals.{greatest_is_last}
+use Rattle.aggen.proofs.Common
+use Common.{◌≡◌, ◌+◌, ◌-◌, inl, inr, refl, subst, arith, err_from_is_err_and, Grammar, IsGreatest, passes_of, setting_of}
+use Common.{IsRunFault, IsPassed, HasRunAll, greatest_is_last, left_again}
 use Rattle.aggen.proofs.Composed.{some_pass}
 use Rattle.aggen.proofs.Evaluated.{are_left_of_tree, first_refused, never_later}
-use Rattle.passrun.proofs.course.Stepping.{left_again}
 use Rattle.aggen.proofs.translator.Translator.run_tree.Goals as goal
 
 -- there is a pass

@@ -1,10 +1,6 @@
-use Rattle.std.proofs.Common.{List, ℕ, sym, subst}
-use Rattle.std.proofs.lemmas.Result.{err_from_is_err_and}
-use Rattle.std.specs.Io.KnownBytes.{Appends}
-use Rattle.agoutput.specs.Writing.{AppendsBeginning}
+use Rattle.aggen.proofs.Common.{List, ℕ, sym, subst, err_from_is_err_and, Appends, AppendsBeginning, LeavesSomeFile}
 use Rattle.aggen.proofs.Composed.{begins, files_supposed, root_refused, translates}
 use Rattle.aggen.proofs.Begun.{some}
-use Rattle.passrun.specs.Rounds.{LeavesSomeFile}
 use Rattle.aggen.proofs.Left.{files_kept, no_parse_of_text, none_after_files}
 use Rattle.aggen.proofs.translator.Translator.translate.Goals as goal
 

@@ -1,7 +1,4 @@
-use Rattle.std.proofs.Common.{subst}
-use Rattle.std.proofs.lemmas.Result.{err_from_is_err_and}
-use Rattle.ag_grammar.specs.grammars.AttributeGrammar.{Grammar}
-use Rattle.tree_upgrade.specs.upgrading.Upgrading.{IsUpgradeFault}
+use Rattle.aggen.proofs.Common.{subst, err_from_is_err_and, Grammar, IsUpgradeFault}
 use Rattle.aggen.proofs.Old.{old_fault}
 use Rattle.aggen.proofs.translator.Translator.upgrade.Goals as goal
 

@@ -1,5 +1,4 @@
-use Rattle.std.proofs.Common.{inr, sym, ◌∙◌}
-use Rattle.std.proofs.lemmas.Result.{err_from_is_err_and}
+use Rattle.aggen.proofs.Common.{inr, sym, ◌∙◌, err_from_is_err_and}
 use Rattle.aggen.proofs.Closed.{explained, no_value, refused_none, same_offset, wanted}
 use Rattle.aggen.proofs.values.value.read_closed.Goals as goal
 

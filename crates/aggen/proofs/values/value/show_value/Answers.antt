@@ -1,7 +1,5 @@
-use Rattle.std.proofs.Common.{inl, refl, subst, sym}
-use Rattle.std.proofs.lemmas.Result.{err_from_is_err_and}
+use Rattle.aggen.proofs.Common.{inl, refl, subst, sym, err_from_is_err_and, LeavesBeginning}
 use Rattle.aggen.proofs.Closed.{no_value}
-use Rattle.treefile.specs.framing.Beginning.{LeavesBeginning}
 use Rattle.aggen.proofs.values.value.show_value.Goals as goal
 
 pub returns-in_err-value-clause-refused : goal.returns-in_err-value-clause-refused

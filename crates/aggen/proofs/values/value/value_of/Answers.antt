@@ -1,4 +1,4 @@
-use Rattle.std.proofs.lemmas.Result.{err_from_is_err_and}
+use Rattle.aggen.proofs.Common.{err_from_is_err_and}
 use Rattle.aggen.proofs.values.value.value_of.Goals as goal
 
 pub returns-in_err-expr-clause-occurs : goal.returns-in_err-expr-clause-occurs

@@ -1,7 +1,4 @@
-use Rattle.std.proofs.Common.{ap, ◌∙◌}
-use Rattle.std.proofs.lemmas.Result.{err_from_is_err_and}
-use Rattle.treefile.specs.framing.Ending.{last_body_of}
-use Rattle.treefile.specs.records.TreeFile.{version_two}
+use Rattle.aggen.proofs.Common.{ap, ◌∙◌, err_from_is_err_and, last_body_of, version_two}
 use Rattle.aggen.proofs.Reading.{body_exact, last_of, offset_exact, value_exact, resource_exact}
 use Rattle.aggen.proofs.values.value_file.read_file.Goals as goal
 

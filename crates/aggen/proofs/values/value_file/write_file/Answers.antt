@@ -1,11 +1,6 @@
-use Rattle.std.proofs.Common.{[], ◌∷◌, Ok, Err, inr, ap, arith}
+use Rattle.aggen.proofs.Common.{[], ◌∷◌, Ok, Err, inr, ap, arith, IsWell, DeviceFault, Token, body_of, version_two, is_body}
 use Rattle.std.proofs.lemmas.List.Elements.{All-cons, All-nil}
-use Rattle.ag_value.specs.Well.{IsWell}
-use Rattle.treefile.specs.declared.device.DeviceFault.{DeviceFault}
-use Rattle.treefile.specs.declared.body.Kind.TheVariants.{Token}
-use Rattle.treefile.specs.records.TreeFile.{body_of, version_two}
 use Rattle.treefile.proofs.framing.Beginning.{frames_begin, not_begun, one_added, one_refused}
-use Rattle.treefile.proofs.records.Records.{is_body}
 use Rattle.aggen.proofs.values.value_file.write_file.Goals as goal
 
 -- after a failure of `begin` the device has what it had, or a prefix of the header

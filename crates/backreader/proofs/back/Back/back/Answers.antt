@@ -1,14 +1,8 @@
-use Rattle.std.proofs.Common.{rules, ◌≡◌, ◌+◌, ◌≤◌, None, Some, Ok, Err, length, ℕ, List, Bor, refl, sym, ap, subst, ◌∙◌, arith}
-use Rattle.std.specs.Option.{option_map}
-use Rattle.backreader.specs.BackState.{IsLarge, BackState, Progress, progress_after}
-use Rattle.backreader.specs.Windows.{taken, unread}
+use Rattle.backreader.proofs.Common
+use Common.{rules, ◌≡◌, ◌+◌, ◌≤◌, None, Some, Ok, Err, length, ℕ, List, Bor, refl, sym, ap, subst, ◌∙◌, arith, option_map}
+use Common.{IsLarge, BackState, Progress, progress_after, taken, unread, length_part, before_frame, next_before, ReadsAs}
+use Common.{greatest_body, version_of, FrameFault, NoMemory}
 use Rattle.backreader.proofs.EndingAt.{exact_as_well}
-use Rattle.treefile.proofs.records.Frames.{length_part}
-use Rattle.treefile.specs.framing.Backward.{before_frame, next_before}
-use Rattle.treefile.specs.framing.Ending.{ReadsAs, greatest_body}
-use Rattle.treefile.specs.records.TreeFile.{version_of}
-use Rattle.treefile.specs.declared.reading.FrameFault.{FrameFault}
-use Rattle.treefile.specs.declared.reading.FrameFault.TheVariants.{NoMemory}
 use Rattle.backreader.proofs.back.Back.back.Goals as goal
 
 -- the header ends there

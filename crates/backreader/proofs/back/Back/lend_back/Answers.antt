@@ -1,10 +1,7 @@
-use Rattle.std.proofs.Common.{rules, ◌≡◌, ◌+◌, ◌<◌, Some, Ok, length, drop, ℕ, sym, ap, subst, ◌∙◌, arith}
-use Rattle.backreader.specs.BackState.{BackState, Progress, progress_after}
-use Rattle.backreader.specs.Windows.{unread}
+use Rattle.backreader.proofs.Common
+use Common.{rules, ◌≡◌, ◌+◌, ◌<◌, Some, Ok, length, drop, ℕ, sym, ap, subst, ◌∙◌, arith, BackState, Progress, progress_after}
+use Common.{unread, before_frame, next_before, IsBytes, header_bytes, version_of, version_two}
 use Rattle.backreader.proofs.Lent.{next_is_body, none_occur}
-use Rattle.treefile.specs.framing.Backward.{before_frame, next_before}
-use Rattle.treefile.specs.framing.Ending.{IsBytes, header_bytes}
-use Rattle.treefile.specs.records.TreeFile.{version_of, version_two}
 use Rattle.backreader.proofs.back.Back.lend_back.Goals as goal
 
 pub returns-clause-after : goal.returns-clause-after

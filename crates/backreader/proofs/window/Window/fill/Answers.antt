@@ -1,6 +1,5 @@
-use Rattle.std.proofs.Common.{◌≡◌, ◌-◌, length, drop, take, take_at, slice_range, ℕ, List, ◌++◌, arith, sym, ap, subst, ◌∙◌}
-use Rattle.backreader.specs.BackState.{EndsAt}
-use Rattle.backreader.specs.Windows.{unread}
+use Rattle.backreader.proofs.Common
+use Common.{◌≡◌, ◌-◌, length, drop, take, take_at, slice_range, ℕ, List, ◌++◌, arith, sym, ap, subst, ◌∙◌, EndsAt, unread}
 use Rattle.backreader.proofs.EndingAt.{read_occurs, same_occur}
 use Rattle.backreader.proofs.window.Window.fill.Goals as goal
 

@@ -1,7 +1,5 @@
-use Rattle.std.proofs.Common.{◌≡◌, ◌-◌, true, List, ℕ, slice_range, rules, sym, subst, ◌∙◌}
+use Rattle.backreader.proofs.Common.{◌≡◌, ◌-◌, true, List, ℕ, slice_range, rules, sym, subst, ◌∙◌, EndsAt, unread}
 use Rattle.backreader.proofs.EndingAt.{same_occur}
-use Rattle.backreader.specs.BackState.{EndsAt}
-use Rattle.backreader.specs.Windows.{unread}
 use Rattle.backreader.proofs.window.Window.next.Goals as goal
 
 -- after NoMemory the bytes that `length_before` read are dropped: the unread bytes are those before the call

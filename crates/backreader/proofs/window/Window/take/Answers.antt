@@ -1,4 +1,4 @@
-use Rattle.std.proofs.Common.{◌+◌, arith}
+use Rattle.backreader.proofs.Common.{◌+◌, arith}
 use Rattle.backreader.proofs.EndingAt.{body_occurs, taken_occurs}
 use Rattle.backreader.proofs.window.Window.take.Goals as goal
 

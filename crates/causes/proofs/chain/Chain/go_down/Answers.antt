@@ -1,8 +1,4 @@
-use Rattle.std.proofs.Common.{Bor, ap, get_or}
-use Rattle.std.proofs.lemmas.Option.{slice_get-get_or}
-use Rattle.ag_grammar.specs.grammars.AttributeGrammar.{Grammar}
-use Rattle.tree_index.specs.declared.index.TreeIndex.{TreeIndex}
-use Rattle.causes.specs.Chains.{places_of}
+use Rattle.causes.proofs.Common.{Bor, ap, get_or, slice_get-get_or, Grammar, TreeIndex, places_of}
 use Rattle.causes.proofs.Stops.{leads_nowhere}
 use Rattle.causes.proofs.chain.Chain.go_down.Goals as goal
 

@@ -1,6 +1,4 @@
-use Rattle.std.proofs.Common.{◌≡◌, take}
-use Rattle.causes.specs.Chains.{places_of}
-use Rattle.causes.specs.Indexed.{Leads}
+use Rattle.causes.proofs.Common.{◌≡◌, take, places_of, Leads}
 use Rattle.causes.proofs.chain.Chain.go_down.Given as goal
 
 abbrev pub invariant-loop-place : goal.invariant-loop-place

@@ -1,4 +1,4 @@
-use Rattle.causes.specs.Chains.{places_of}
+use Rattle.causes.proofs.Common.{places_of}
 use Rattle.causes.proofs.InIndex.{child_number, leads_down}
 use Rattle.causes.proofs.chain.Chain.go_to_child.Goals as goal
 

@@ -1,5 +1,4 @@
-use Rattle.std.proofs.Common.{◌≡◌, take}
-use Rattle.causes.specs.Chains.{places_of}
+use Rattle.causes.proofs.Common.{◌≡◌, take, places_of}
 use Rattle.causes.proofs.chain.Chain.places.Given as goal
 
 abbrev pub invariant-loop-node : goal.invariant-loop-node

@@ -1,8 +1,4 @@
-use Rattle.std.proofs.Common.{List, ℕ, inr, subst}
-use Rattle.std.proofs.lemmas.Option.{IfSome_then}
-use Rattle.ag_value.specs.declared.value.Value.{Value}
-use Rattle.origins.specs.Records.{IsNode, IsRecord}
-use Rattle.causes.specs.Chains.{DoesNextAt, HasNoErrorAt, places_of}
+use Rattle.causes.proofs.Common.{List, ℕ, inr, subst, IfSome_then, Value, IsNode, IsRecord, DoesNextAt, HasNoErrorAt, places_of}
 use Rattle.causes.proofs.InIndex.{read_in_tree}
 use Rattle.causes.proofs.Stops.{none_then}
 use Rattle.causes.proofs.chain.Chain.read_next.Goals as goal

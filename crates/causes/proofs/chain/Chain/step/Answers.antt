@@ -1,8 +1,4 @@
-use Rattle.std.proofs.Common.{inr, subst}
-use Rattle.causes.specs.Chains.{places_of}
-use Rattle.causes.specs.Indexed.{in_file}
-use Rattle.causes.specs.declared.next_rule.Next.{Next}
-use Rattle.treefile.specs.devices.Device.{WhenHonest}
+use Rattle.causes.proofs.Common.{inr, subst, places_of, in_file, Next, WhenHonest}
 use Rattle.causes.proofs.Stops.{nothing_there, some_there}
 use Rattle.causes.proofs.chain.Chain.step.Goals as goal
 

@@ -1,6 +1,4 @@
-use Rattle.std.proofs.Common.{◌∷◌, reverse, arith}
-use Rattle.ag_grammar.specs.grammars.Tree.{max_nodes}
-use Rattle.llparse.specs.sentence.Turns.{advanced}
+use Rattle.llparse.proofs.Common.{◌∷◌, reverse, arith, max_nodes, advanced}
 use Rattle.llparse.proofs.steps.Prefixes.{on_top}
 use Rattle.llparse.proofs.steps.Stacks.{fewer_opened, fewer_passed}
 use Rattle.llparse.proofs.sentence.expected.can_accept.Goals as goal

@@ -1,4 +1,4 @@
-use Rattle.llparse.specs.sentence.Turns.{left_of}
+use Rattle.llparse.proofs.Common.{left_of}
 use Rattle.llparse.proofs.sentence.expected.can_accept.Given as goal
 
 abbrev pub decreases-loop-terminal : goal.decreases-loop-terminal

@@ -1,6 +1,5 @@
-use Rattle.std.proofs.Common.{◌≡◌, true, length}
+use Rattle.llparse.proofs.Common.{◌≡◌, true, length, is_known}
 use Rattle.std.specs.Prelude.{All}
-use Rattle.llparse.specs.table.Tables.{is_known}
 use Rattle.llparse.proofs.sentence.expected.expected_after.Given as goal
 
 abbrev pub invariant-loop-index : goal.invariant-loop-index

@@ -1,9 +1,5 @@
-use Rattle.std.proofs.Common.{◌≡◌, Err, ap}
-use Rattle.std.proofs.lemmas.Result.{err_from_is_err_and}
-use Rattle.treefile.specs.records.Records.{token_body}
-use Rattle.treefile.proofs.framing.Beginning.{none_added, one_added, one_refused}
-use Rattle.llparse.specs.declared.sentence.parse_fault.ParseFault.{ParseFault}
-use Rattle.treefile.proofs.records.FirstFile.{text_well}
+use Rattle.llparse.proofs.Common
+use Common.{◌≡◌, Err, ap, err_from_is_err_and, token_body, none_added, one_added, one_refused, ParseFault, text_well}
 use Rattle.llparse.proofs.answers.Putting.{of_leaf, stopped}
 use Rattle.llparse.proofs.sentence.parser.put_leaf.Goals as goal
 

@@ -1,13 +1,8 @@
-use Rattle.std.proofs.Common.{[], Err, ap, arith}
-use Rattle.std.proofs.lemmas.List.Elements.{All-nil}
-use Rattle.ag_value.specs.Well.{IsWell}
-use Rattle.std.proofs.lemmas.Result.{err_from_is_err_and}
-use Rattle.treefile.specs.records.TreeFile.{body_of, version_two}
+use Rattle.llparse.proofs.Common
+use Common.{[], Err, ap, arith, All-nil, IsWell, err_from_is_err_and, body_of, version_two, one_added, one_refused, is_body}
+use Common.{ParseFault}
 use Rattle.treefile.specs.declared.body.Kind.TheVariants.{Node}
-use Rattle.treefile.proofs.framing.Beginning.{one_added, one_refused}
-use Rattle.treefile.proofs.records.Records.{is_body}
 use Rattle.llparse.specs.sentence.Refusals.{parse_fault_of}
-use Rattle.llparse.specs.declared.sentence.parse_fault.ParseFault.{ParseFault}
 use Rattle.llparse.proofs.sentence.parser.put_node.Goals as goal
 
 -- the bytes that are appended, after success and after a failure, if the node has no texts

@@ -1,11 +1,6 @@
-use Rattle.std.proofs.Common.{◌≡◌, ℕ, List, Bool, Result, Ok, Err}
-use Rattle.std.specs.Prelude.{IfErr}
-use Rattle.treefile.specs.framing.Beginning.{AddsFrames, BeginsFile}
-use Rattle.treefile.specs.devices.Device.{WhenHonest}
-use Rattle.treefile.specs.records.TreeFile.{header, version_two}
-use Rattle.treefile.proofs.framing.Beginning.{frames_begin}
-use Rattle.llparse.specs.sentence.Sentences.{words_of}
-use Rattle.llparse.specs.declared.sentence.parse_fault.ParseFault.{ParseFault}
+use Rattle.llparse.proofs.Common
+use Common.{◌≡◌, ℕ, List, Bool, Result, Ok, Err, IfErr, AddsFrames, BeginsFile, WhenHonest, header, version_two, frames_begin}
+use Common.{words_of, ParseFault}
 use Rattle.llparse.proofs.answers.Answered.{file_of, none_of}
 use Rattle.llparse.proofs.steps.Steps.{one_parse}
 use Rattle.llparse.proofs.sentence.parsing.parse.Goals as goal

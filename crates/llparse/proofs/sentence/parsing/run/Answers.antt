@@ -1,19 +1,8 @@
-use Rattle.std.proofs.Common.{◌<◌, List, drop, None, subst}
-use Rattle.ag_scan.specs.TokenReader.{offset_at}
-use Rattle.ag_scan.specs.Tokens.{Token}
-use Rattle.llparse.specs.Ahead.{ahead_of}
-use Rattle.llparse.specs.sentence.Sentences.{words_of}
-use Rattle.llparse.specs.table.Tables.{choice_of}
+use Rattle.llparse.proofs.Common
+use Common.{◌<◌, List, drop, None, subst, offset_at, Token, ahead_of, words_of, choice_of, sym, ◌∙◌, ◌≡◌, ◌≤◌, length, Ok, Err}
+use Common.{refl, ap, arith, err_from_is_err_and, max_nodes, TokenReader, added, none_added, task_of, ParseFault}
 use Rattle.llparse.specs.declared.sentence.parse_fault.ParseFault.TheVariants.{Unexpected}
-use Rattle.std.proofs.Common.{sym, ◌∙◌, ◌≡◌, ◌≤◌, length, Ok, Err, refl, ap}
-use Rattle.std.proofs.Common.{arith}
-use Rattle.std.proofs.lemmas.Result.{err_from_is_err_and}
-use Rattle.ag_grammar.specs.grammars.Tree.{max_nodes}
-use Rattle.ag_scan.specs.TokenReader.{TokenReader}
 use Rattle.treefile.specs.framing.Writing.{Progress}
-use Rattle.treefile.proofs.framing.Beginning.{added, none_added}
-use Rattle.llparse.specs.sentence.Parsing.{task_of}
-use Rattle.llparse.specs.declared.sentence.parse_fault.ParseFault.{ParseFault}
 use Rattle.llparse.proofs.steps.Prefixes.{on_top}
 use Rattle.llparse.proofs.answers.Nexts.{some_left, all_taken}
 use Rattle.llparse.proofs.answers.Putting.{stopped}

@@ -1,9 +1,5 @@
-use Rattle.std.proofs.Common.{◌≡◌, ◌+◌, Bool, true, false, length, Ok}
-use Rattle.treefile.specs.framing.Beginning.{AddsFrames}
-use Rattle.treefile.specs.devices.Device.{Persists, WhenHonest}
-use Rattle.llparse.specs.sentence.Parsing.{task_of}
-use Rattle.llparse.specs.sentence.Turns.{left_of, IsBetween}
-use Rattle.llparse.specs.declared.sentence.parse_fault.ParseFault.{ParseFault}
+use Rattle.llparse.proofs.Common
+use Common.{◌≡◌, ◌+◌, Bool, true, false, length, Ok, AddsFrames, Persists, WhenHonest, task_of, left_of, IsBetween, ParseFault}
 use Rattle.llparse.proofs.sentence.parsing.run.Given as goal
 
 abbrev pub invariant-loop-terminal : goal.invariant-loop-terminal

@@ -1,8 +1,4 @@
-use Rattle.std.proofs.Common.{◌+◌, ◌∷◌, drop, sym, ap, ◌∙◌}
-use Rattle.std.proofs.lemmas.Bool.{false≢true}
-use Rattle.std.proofs.lemmas.Option.{slice_get_within}
-use Rattle.ag_scan.specs.TokenReader.{token_of}
-use Rattle.llparse.specs.sentence.Sentences.{words_of}
+use Rattle.llparse.proofs.Common.{◌+◌, ◌∷◌, drop, sym, ap, ◌∙◌, false≢true, slice_get_within, token_of, words_of}
 use Rattle.llparse.proofs.answers.Nexts.{next_is, none_is, other_next}
 use Rattle.llparse.proofs.sentence.tokens.expect.Goals as goal
 

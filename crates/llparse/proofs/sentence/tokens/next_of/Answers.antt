@@ -1,6 +1,4 @@
-use Rattle.std.proofs.Common.{sym, ap}
-use Rattle.ag_scan.specs.TokenReader.{token_of}
-use Rattle.llparse.specs.Ahead.{ahead_of}
+use Rattle.llparse.proofs.Common.{sym, ap, token_of, ahead_of}
 use Rattle.llparse.proofs.answers.Nexts.{next_is, no_next}
 use Rattle.llparse.proofs.sentence.tokens.next_of.Goals as goal
 

@@ -1,4 +1,4 @@
-use Rattle.std.proofs.Common.{◌≡◌}
+use Rattle.llparse.proofs.Common.{◌≡◌}
 use Rattle.llparse.proofs.look_ahead.Columns.{fits, free_of, least_of}
 use Rattle.llparse.proofs.table.building.tables.Goals as goal
 

@@ -1,5 +1,4 @@
-use Rattle.std.proofs.Common.{◌∙◌, ◌≡◌, ◌<◌, ◌+◌, ◌-◌, arith, length, get_or, slice_get, Some, refl}
-use Rattle.std.proofs.lemmas.Option.{slice_get-get_or}
+use Rattle.llparse.proofs.Common.{◌∙◌, ◌≡◌, ◌<◌, ◌+◌, ◌-◌, arith, length, get_or, slice_get, Some, refl, slice_get-get_or}
 use Rattle.llparse.proofs.table.choosing.choose.Goals as goal
 
 pub loop-at-preserved : goal.loop-at-preserved

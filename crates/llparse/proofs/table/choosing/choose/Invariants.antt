@@ -1,5 +1,4 @@
-use Rattle.std.proofs.Common.{◌≡◌, length}
-use Rattle.llparse.specs.table.Predicted.{AreEarliestFrom, IsLeastFrom}
+use Rattle.llparse.proofs.Common.{◌≡◌, length, AreEarliestFrom, IsLeastFrom}
 use Rattle.llparse.proofs.table.choosing.choose.Given as goal
 
 abbrev pub invariant-loop-at : goal.invariant-loop-at

@@ -1,5 +1,4 @@
-use Rattle.std.proofs.Common.{◌≡◌, ◌+◌, arith, length}
-use Rattle.llparse.specs.table.Nodes.{index_of}
+use Rattle.llparse.proofs.Common.{◌≡◌, ◌+◌, arith, length, index_of}
 use Rattle.llparse.proofs.look_ahead.Columns.{columns_more, known_of, least_more}
 use Rattle.llparse.proofs.table.filling.columns_of.Goals as goal
 

@@ -1,6 +1,5 @@
-use Rattle.std.proofs.Common.{◌≡◌, length}
+use Rattle.llparse.proofs.Common.{◌≡◌, length, rows}
 use Rattle.llparse.specs.table.Columns.{AreColumns, IsLeastBelow}
-use Rattle.closure.specs.Waiting.{rows}
 use Rattle.llparse.proofs.table.filling.columns_of.Given as goal
 
 abbrev pub invariant-loop-index : goal.invariant-loop-index

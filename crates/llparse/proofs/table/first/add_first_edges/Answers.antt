@@ -1,8 +1,5 @@
 -- The remaining goals of `add_first_edges`.
-use Rattle.std.proofs.Common.{take_all}
-use Rattle.ag_grammar.specs.declared.grammar.Item.{Item}
-use Rattle.llparse.specs.table.Edges.{IsEdge}
-use Rattle.llparse.specs.table.Nodes.{node_of}
+use Rattle.llparse.proofs.Common.{take_all, Item, IsEdge, node_of}
 use Rattle.llparse.proofs.look_ahead.Edges.{adds_more}
 use Rattle.llparse.proofs.table.first.add_first_edges.Goals as goal
 

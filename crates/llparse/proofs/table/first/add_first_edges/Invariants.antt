@@ -1,8 +1,5 @@
 -- The invariant of the loop of `add_first_edges`.
-use Rattle.std.proofs.Common.{take, Contains}
-use Rattle.ag_grammar.specs.declared.grammar.Item.{Item}
-use Rattle.llparse.specs.table.Edges.{Adds, IsEdge, OfSome}
-use Rattle.llparse.specs.table.Nodes.{node_of}
+use Rattle.llparse.proofs.Common.{take, Contains, Item, Adds, IsEdge, OfSome, node_of}
 use Rattle.llparse.proofs.table.first.add_first_edges.Given as goal
 
 abbrev pub invariant-loop-item : goal.invariant-loop-item

@@ -1,4 +1,4 @@
-use Rattle.std.proofs.Common.{sym}
+use Rattle.llparse.proofs.Common.{sym}
 use Rattle.llparse.proofs.look_ahead.Edges.{prefix_step, prefix_stop, prefix_whole}
 use Rattle.llparse.proofs.table.first.starting_items_len.Goals as goal
 

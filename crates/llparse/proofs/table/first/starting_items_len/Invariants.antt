@@ -1,6 +1,4 @@
-use Rattle.std.proofs.Common.{◌≡◌, ◌++◌, take, drop}
-use Rattle.closure.specs.Following.{is_marked}
-use Rattle.llparse.specs.table.Edges.{starting_items}
+use Rattle.llparse.proofs.Common.{◌≡◌, ◌++◌, take, drop, is_marked, starting_items}
 use Rattle.llparse.proofs.table.first.starting_items_len.Given as goal
 
 abbrev pub invariant-loop-at : goal.invariant-loop-at

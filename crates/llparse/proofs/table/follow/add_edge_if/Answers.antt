@@ -1,4 +1,4 @@
-use Rattle.std.proofs.Common.{inl, inr}
+use Rattle.llparse.proofs.Common.{inl, inr}
 use Rattle.llparse.proofs.table.follow.add_edge_if.Goals as goal
 
 pub returns-in_ok-add_edge : goal.returns-in_ok-add_edge

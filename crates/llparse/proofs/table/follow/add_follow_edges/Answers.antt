@@ -1,10 +1,5 @@
-use Rattle.std.proofs.Common.{◌≡◌, ◌+◌, ◌-◌, ◌<◌, arith, false, true, length}
-use Rattle.ag_grammar.specs.declared.grammar.Item.{Item}
-use Rattle.llparse.specs.table.CanStart.{all_nullable}
-use Rattle.llparse.specs.table.Edges.{IsEdge}
-use Rattle.llparse.specs.table.Nodes.{node_of}
-use Rattle.llparse.specs.table.Nullable.{is_nullable_item}
-use Rattle.closure.specs.Following.{is_marked}
+use Rattle.llparse.proofs.Common
+use Common.{◌≡◌, ◌+◌, ◌-◌, ◌<◌, arith, false, true, length, Item, all_nullable, IsEdge, node_of, is_nullable_item, is_marked}
 use Rattle.llparse.proofs.look_ahead.CanStart.{adds_rest, next_more}
 use Rattle.llparse.proofs.table.follow.add_follow_edges.Goals as goal
 

@@ -1,11 +1,6 @@
 -- The invariant of the loop of `add_follow_edges`.
-use Rattle.std.proofs.Common.{◌≡◌, drop, Contains}
-use Rattle.ag_grammar.specs.declared.grammar.Item.{Item}
-use Rattle.llparse.specs.table.CanStart.{all_nullable, OfRest}
-use Rattle.llparse.specs.table.Edges.{Adds, IsEdge}
-use Rattle.llparse.specs.table.Nodes.{node_of}
-use Rattle.llparse.specs.table.Nullable.{is_nullable_item}
-use Rattle.closure.specs.Following.{is_marked}
+use Rattle.llparse.proofs.Common
+use Common.{◌≡◌, drop, Contains, Item, all_nullable, OfRest, Adds, IsEdge, node_of, is_nullable_item, is_marked}
 use Rattle.llparse.proofs.table.follow.add_follow_edges.Given as goal
 
 abbrev pub invariant-loop-at : goal.invariant-loop-at

@@ -1,9 +1,5 @@
-use Rattle.std.proofs.Common.{ℕ, ◌≡◌, ◌+◌, ◌-◌, ◌<◌, arith, false, length}
-use Rattle.ag_grammar.specs.declared.grammar.Item.{Item}
-use Rattle.llparse.specs.table.CanStart.{can_start_in}
-use Rattle.llparse.specs.table.Nodes.{node_of}
-use Rattle.llparse.specs.table.Nullable.{is_nullable_item}
-use Rattle.closure.specs.Following.{is_marked}
+use Rattle.llparse.proofs.Common
+use Common.{ℕ, ◌≡◌, ◌+◌, ◌-◌, ◌<◌, arith, false, length, Item, can_start_in, node_of, is_nullable_item, is_marked}
 use Rattle.llparse.proofs.look_ahead.CanStart.{adds_rest, next_more}
 use Rattle.llparse.proofs.table.follow.add_seeds.Goals as goal
 

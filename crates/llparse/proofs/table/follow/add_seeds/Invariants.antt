@@ -1,10 +1,5 @@
-use Rattle.std.proofs.Common.{ℕ, ◌≡◌, drop, false, Contains}
-use Rattle.ag_grammar.specs.declared.grammar.Item.{Item}
-use Rattle.llparse.specs.table.CanStart.{can_start_in, OfRest}
-use Rattle.llparse.specs.table.Edges.{Adds}
-use Rattle.llparse.specs.table.Nodes.{node_of}
-use Rattle.llparse.specs.table.Nullable.{is_nullable_item}
-use Rattle.closure.specs.Following.{is_marked}
+use Rattle.llparse.proofs.Common
+use Common.{ℕ, ◌≡◌, drop, false, Contains, Item, can_start_in, OfRest, Adds, node_of, is_nullable_item, is_marked}
 use Rattle.llparse.proofs.table.follow.add_seeds.Given as goal
 
 abbrev pub invariant-loop-at : goal.invariant-loop-at

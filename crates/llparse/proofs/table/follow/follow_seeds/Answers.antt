@@ -1,6 +1,4 @@
-use Rattle.std.proofs.Common.{◌≡◌, ◌<◌, ◌≤◌, length, arith, ap, get_or, Contains}
-use Rattle.llparse.specs.table.CanStart.{IsFollowSeed}
-use Rattle.closure.specs.Following.{is_marked}
+use Rattle.llparse.proofs.Common.{◌≡◌, ◌<◌, ◌≤◌, length, arith, ap, get_or, Contains, IsFollowSeed, is_marked}
 use Rattle.llparse.proofs.look_ahead.Edges.{adds_more, contains_none, noted_iff}
 use Rattle.llparse.proofs.table.follow.follow_seeds.Goals as goal
 

@@ -1,7 +1,4 @@
-use Rattle.std.proofs.Common.{take, Contains}
-use Rattle.llparse.specs.table.CanStart.{IsFollowSeed}
-use Rattle.llparse.specs.table.Edges.{Adds, OfSome}
-use Rattle.closure.specs.Following.{is_marked}
+use Rattle.llparse.proofs.Common.{take, Contains, IsFollowSeed, Adds, OfSome, is_marked}
 use Rattle.llparse.proofs.table.follow.follow_seeds.Given as goal
 
 abbrev pub invariant-loop-at : goal.invariant-loop-at

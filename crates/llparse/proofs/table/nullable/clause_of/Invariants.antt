@@ -1,6 +1,5 @@
 -- The invariant of the loop of `clause_of`.
-use Rattle.std.proofs.Common.{◌≡◌, map, take}
-use Rattle.llparse.specs.table.Nodes.{node_of}
+use Rattle.llparse.proofs.Common.{◌≡◌, map, take, node_of}
 use Rattle.llparse.proofs.table.nullable.clause_of.Given as goal
 
 abbrev pub invariant-loop-item : goal.invariant-loop-item

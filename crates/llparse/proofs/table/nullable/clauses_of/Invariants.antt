@@ -1,6 +1,5 @@
 -- The invariant of the loop of `clauses_of`.
-use Rattle.std.proofs.Common.{◌≡◌, map, take}
-use Rattle.llparse.specs.table.Nullable.{clause_of}
+use Rattle.llparse.proofs.Common.{◌≡◌, map, take, clause_of}
 use Rattle.llparse.proofs.table.nullable.clauses_of.Given as goal
 
 abbrev pub invariant-loop-production : goal.invariant-loop-production

@@ -1,6 +1,5 @@
 -- The remaining goals of `nullable`.
-use Rattle.std.proofs.Common.{ap, ◌∙◌}
-use Rattle.closure.specs.Clauses.{Clauses}
+use Rattle.llparse.proofs.Common.{ap, ◌∙◌, Clauses}
 use Rattle.llparse.proofs.look_ahead.Edges.{iff_on}
 use Rattle.llparse.proofs.look_ahead.Nullables.{clauses_below, nullable_iff}
 use Rattle.llparse.proofs.table.nullable.nullable.Goals as goal

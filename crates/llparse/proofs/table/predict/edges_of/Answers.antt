@@ -1,8 +1,5 @@
 -- The remaining goals of `edges_of`.
-use Rattle.std.proofs.Common.{◌≡◌, ◌<◌, ◌≤◌, length, arith, ap, get_or, Contains}
-use Rattle.closure.specs.Following.{is_marked}
-use Rattle.llparse.specs.table.CanStart.{IsFollowEdge}
-use Rattle.llparse.specs.table.Edges.{IsFirstEdge}
+use Rattle.llparse.proofs.Common.{◌≡◌, ◌<◌, ◌≤◌, length, arith, ap, get_or, Contains, is_marked, IsFollowEdge, IsFirstEdge}
 use Rattle.llparse.proofs.look_ahead.Edges.{adds_more, contains_none, noted_iff}
 use Rattle.llparse.proofs.table.predict.edges_of.Goals as goal
 

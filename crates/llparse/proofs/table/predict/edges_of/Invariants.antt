@@ -1,8 +1,5 @@
 -- The invariant of the loop of `edges_of`.
-use Rattle.std.proofs.Common.{take, Contains}
-use Rattle.closure.specs.Following.{is_marked}
-use Rattle.llparse.specs.table.CanStart.{IsFollowEdge}
-use Rattle.llparse.specs.table.Edges.{Adds, IsFirstEdge, OfSome}
+use Rattle.llparse.proofs.Common.{take, Contains, is_marked, IsFollowEdge, Adds, IsFirstEdge, OfSome}
 use Rattle.llparse.proofs.table.predict.edges_of.Given as goal
 
 abbrev pub invariant-loop-at : goal.invariant-loop-at

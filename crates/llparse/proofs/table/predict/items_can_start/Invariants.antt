@@ -1,9 +1,4 @@
-use Rattle.std.proofs.Common.{◌≡◌, drop}
-use Rattle.ag_grammar.specs.declared.grammar.Item.{Item}
-use Rattle.llparse.specs.table.CanStart.{can_start_in}
-use Rattle.llparse.specs.table.Nodes.{node_of}
-use Rattle.llparse.specs.table.Nullable.{is_nullable_item}
-use Rattle.closure.specs.Following.{is_marked}
+use Rattle.llparse.proofs.Common.{◌≡◌, drop, Item, can_start_in, node_of, is_nullable_item, is_marked}
 use Rattle.llparse.proofs.table.predict.items_can_start.Given as goal
 
 abbrev pub invariant-loop-item : goal.invariant-loop-item

@@ -1,7 +1,5 @@
 -- The invariant of the loop of `body_of`.
-use Rattle.std.proofs.Common.{◌≡◌, ◌++◌, drop}
-use Rattle.normalform.specs.faults.Clauses.{body_of}
-use Rattle.normalform.specs.numbers.Numbers.{declared_names}
+use Rattle.normalform.proofs.Common.{◌≡◌, ◌++◌, drop, body_of, declared_names}
 use Rattle.normalform.proofs.faults.clause.body_of.Given as goal
 
 abbrev pub invariant-loop-item : goal.invariant-loop-item

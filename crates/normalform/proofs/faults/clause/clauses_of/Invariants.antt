@@ -1,6 +1,5 @@
 -- The invariant of the loop of `clauses_of`.
-use Rattle.std.proofs.Common.{◌≡◌, take}
-use Rattle.normalform.specs.faults.Clauses.{clauses_of}
+use Rattle.normalform.proofs.Common.{◌≡◌, take, clauses_of}
 use Rattle.normalform.proofs.faults.clause.clauses_of.Given as goal
 
 abbrev pub invariant-loop-production : goal.invariant-loop-production

@@ -1,6 +1,5 @@
 -- The invariant of the loop of `push_edges`.
-use Rattle.std.proofs.Common.{◌≡◌, ◌++◌, map, take}
-use Rattle.normalform.specs.faults.Clauses.{edge}
+use Rattle.normalform.proofs.Common.{◌≡◌, ◌++◌, map, take, edge}
 use Rattle.normalform.proofs.faults.clause.push_edges.Given as goal
 
 abbrev pub invariant-loop-symbol : goal.invariant-loop-symbol

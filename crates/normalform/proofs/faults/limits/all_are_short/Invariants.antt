@@ -1,8 +1,5 @@
 -- The invariant of the loop of `all_are_short`.
-use Rattle.std.proofs.Common.{◌≡◌, drop, map, List, ℕ}
-use Rattle.std.specs.Borrow.{Bor}
-use Rattle.std.specs.List.{list_all}
-use Rattle.normalform.specs.faults.Faults.{is_short}
+use Rattle.normalform.proofs.Common.{◌≡◌, drop, map, List, ℕ, Bor, list_all, is_short}
 use Rattle.normalform.proofs.faults.limits.all_are_short.Given as goal
 
 abbrev pub invariant-loop-text : goal.invariant-loop-text

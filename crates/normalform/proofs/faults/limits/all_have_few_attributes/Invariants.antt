@@ -1,8 +1,5 @@
 -- The invariant of the loop of `all_have_few_attributes`.
-use Rattle.std.proofs.Common.{◌≡◌, map, drop}
-use Rattle.std.specs.List.{list_all}
-use Rattle.normalform.specs.faults.Faults.{few_attributes}
-use Rattle.normalform.specs.numbers.Numbers.{symbol_of}
+use Rattle.normalform.proofs.Common.{◌≡◌, map, drop, list_all, few_attributes, symbol_of}
 use Rattle.normalform.proofs.faults.limits.all_have_few_attributes.Given as goal
 
 abbrev pub invariant-loop-symbol : goal.invariant-loop-symbol

@@ -1,7 +1,5 @@
 -- The invariant of the loop of `all_have_few_children`.
-use Rattle.std.proofs.Common.{◌≡◌, drop}
-use Rattle.std.specs.List.{list_all}
-use Rattle.normalform.specs.faults.Faults.{few_children}
+use Rattle.normalform.proofs.Common.{◌≡◌, drop, list_all, few_children}
 use Rattle.normalform.proofs.faults.limits.all_have_few_children.Given as goal
 
 abbrev pub invariant-loop-production : goal.invariant-loop-production

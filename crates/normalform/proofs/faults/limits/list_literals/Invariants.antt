@@ -1,6 +1,5 @@
 -- The invariant of the loop of `list_literals`.
-use Rattle.std.proofs.Common.{◌≡◌, fold, take}
-use Rattle.normalform.specs.numbers.Numbers.{with_item}
+use Rattle.normalform.proofs.Common.{◌≡◌, fold, take, with_item}
 use Rattle.normalform.proofs.faults.limits.list_literals.Given as goal
 
 abbrev pub invariant-loop-item : goal.invariant-loop-item

@@ -1,6 +1,5 @@
 -- The invariant of the loop of `literals_of`.
-use Rattle.std.proofs.Common.{◌≡◌, fold, take, []}
-use Rattle.normalform.specs.numbers.Numbers.{with_production}
+use Rattle.normalform.proofs.Common.{◌≡◌, fold, take, [], with_production}
 use Rattle.normalform.proofs.faults.limits.literals_of.Given as goal
 
 abbrev pub invariant-loop-production : goal.invariant-loop-production

@@ -1,6 +1,5 @@
 -- The invariant of the loop of `doubled_names`.
-use Rattle.std.proofs.Common.{◌≡◌, drop, take, fold}
-use Rattle.normalform.specs.faults.Faults.{first_wrong, doubled_names, with_name}
+use Rattle.normalform.proofs.Common.{◌≡◌, drop, take, fold, first_wrong, doubled_names, with_name}
 use Rattle.normalform.proofs.faults.naming.doubled_names.Given as goal
 
 abbrev pub invariant-loop-name : goal.invariant-loop-name

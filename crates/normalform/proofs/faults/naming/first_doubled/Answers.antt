@@ -1,6 +1,5 @@
 -- The remaining goals of `first_doubled`.
-use Rattle.std.proofs.Common.{◌∙◌, sym}
-use Rattle.normalform.specs.faults.Faults.{symbol_checks, with_symbol}
+use Rattle.normalform.proofs.Common.{◌∙◌, sym, symbol_checks, with_symbol}
 use Rattle.normalform.proofs.found.Wrong.{along_here, along_past}
 use Rattle.normalform.proofs.faults.naming.first_doubled.Goals as goal
 

@@ -1,6 +1,5 @@
 -- The invariant of the loop of `first_doubled`.
-use Rattle.std.proofs.Common.{◌≡◌, drop}
-use Rattle.normalform.specs.faults.Faults.{first_wrong, doubled_checks, checks_along, symbol_checks, with_symbol}
+use Rattle.normalform.proofs.Common.{◌≡◌, drop, first_wrong, doubled_checks, checks_along, symbol_checks, with_symbol}
 use Rattle.normalform.proofs.faults.naming.first_doubled.Given as goal
 
 abbrev pub invariant-loop-symbol : goal.invariant-loop-symbol

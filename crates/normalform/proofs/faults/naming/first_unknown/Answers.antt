@@ -1,6 +1,5 @@
 -- The remaining goals of `first_unknown`.
-use Rattle.std.proofs.Common.{sym, ◌∙◌}
-use Rattle.normalform.specs.faults.Faults.{unknown_in}
+use Rattle.normalform.proofs.Common.{sym, ◌∙◌, unknown_in}
 use Rattle.normalform.proofs.found.Wrong.{wrong_here, wrong_past}
 use Rattle.normalform.proofs.faults.naming.first_unknown.Goals as goal
 

@@ -1,6 +1,5 @@
 -- The invariant of the loop of `first_unknown`.
-use Rattle.std.proofs.Common.{◌≡◌, drop}
-use Rattle.normalform.specs.faults.Faults.{first_wrong, unknown_checks}
+use Rattle.normalform.proofs.Common.{◌≡◌, drop, first_wrong, unknown_checks}
 use Rattle.normalform.proofs.faults.naming.first_unknown.Given as goal
 
 abbrev pub invariant-loop-production : goal.invariant-loop-production

@@ -1,7 +1,5 @@
 -- The invariant of the loop of `unknown_in_items`.
-use Rattle.std.proofs.Common.{◌≡◌, drop, flat_map}
-use Rattle.normalform.specs.faults.Faults.{first_wrong, item_checks}
-use Rattle.normalform.specs.numbers.Numbers.{declared_names}
+use Rattle.normalform.proofs.Common.{◌≡◌, drop, flat_map, first_wrong, item_checks, declared_names}
 use Rattle.normalform.proofs.faults.naming.unknown_in_items.Given as goal
 
 abbrev pub invariant-loop-item : goal.invariant-loop-item

@@ -1,7 +1,7 @@
 -- The remaining goals of `unknown_in_production`.
-use Rattle.std.proofs.Common.{◌≡◌, ◌∷◌, [], ◌++◌, List, flat_map, IfOk, subst, ◌∙◌}
-use Rattle.normalform.specs.faults.Faults.{Check, name_check, item_checks, rule_checks}
-use Rattle.normalform.specs.numbers.Numbers.{placed, declared_names}
+use Rattle.normalform.proofs.Common
+use Common.{◌≡◌, ◌∷◌, [], ◌++◌, List, flat_map, IfOk, subst, ◌∙◌, Check, name_check, item_checks, rule_checks, placed}
+use Common.{declared_names}
 use Rattle.normalform.proofs.found.Wrong.{first_of, rest_of}
 use Rattle.normalform.proofs.faults.naming.unknown_in_production.Goals as goal
 

@@ -1,7 +1,5 @@
 -- The invariant of the loop of `places_of`.
-use Rattle.std.proofs.Common.{◌≡◌, ◌++◌, drop, map}
-use Rattle.normalform.specs.numbers.Numbers.{placed, stored_of, declared_names}
-use Rattle.normalform.specs.faults.PlacedItem.{item_placed}
+use Rattle.normalform.proofs.Common.{◌≡◌, ◌++◌, drop, map, placed, stored_of, declared_names, item_placed}
 use Rattle.normalform.proofs.faults.placed.places_of.Given as goal
 
 abbrev pub invariant-loop-item : goal.invariant-loop-item

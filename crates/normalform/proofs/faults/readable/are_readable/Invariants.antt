@@ -1,7 +1,5 @@
 -- The invariant of the loop of `are_readable`.
-use Rattle.std.proofs.Common.{◌≡◌, drop}
-use Rattle.std.specs.List.{list_all}
-use Rattle.normalform.specs.faults.Readable.{readable_in}
+use Rattle.normalform.proofs.Common.{◌≡◌, drop, list_all, readable_in}
 use Rattle.normalform.proofs.faults.readable.are_readable.Given as goal
 
 abbrev pub invariant-loop-production : goal.invariant-loop-production

@@ -1,7 +1,5 @@
 -- The invariant of the loop of `is_readable_in`.
-use Rattle.std.proofs.Common.{◌≡◌, drop}
-use Rattle.std.specs.List.{list_all}
-use Rattle.normalform.specs.faults.Readable.{readable_item, readable_in}
+use Rattle.normalform.proofs.Common.{◌≡◌, drop, list_all, readable_item, readable_in}
 use Rattle.normalform.proofs.faults.readable.is_readable_in.Given as goal
 
 abbrev pub invariant-loop-item : goal.invariant-loop-item

@@ -1,7 +1,5 @@
 -- The invariant of the loop of `is_readable_text`.
-use Rattle.std.proofs.Common.{◌≡◌, drop, not}
-use Rattle.std.specs.List.{list_all}
-use Rattle.normalform.specs.faults.Readable.{is_separator}
+use Rattle.normalform.proofs.Common.{◌≡◌, drop, not, list_all, is_separator}
 use Rattle.normalform.proofs.faults.readable.is_readable_text.Given as goal
 
 abbrev pub invariant-loop-byte : goal.invariant-loop-byte

@@ -1,7 +1,5 @@
 -- The remaining goals of `first_among`.
-use Rattle.std.proofs.Common.{map}
-use Rattle.normalform.specs.faults.ReferenceChecks.{check_of_occurrence}
-use Rattle.normalform.specs.faults.PlacedItem.{item_placed}
+use Rattle.normalform.proofs.Common.{map, check_of_occurrence, item_placed}
 use Rattle.normalform.proofs.found.Wrong.{map_here, map_past}
 use Rattle.normalform.proofs.faults.reference_checks.first_among.Goals as goal
 

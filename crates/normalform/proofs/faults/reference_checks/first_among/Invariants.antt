@@ -1,8 +1,5 @@
 -- The invariant of the loop of `first_among`.
-use Rattle.std.proofs.Common.{◌≡◌, drop, map}
-use Rattle.normalform.specs.faults.ReferenceChecks.{check_of_occurrence}
-use Rattle.normalform.specs.faults.Faults.{first_wrong}
-use Rattle.normalform.specs.faults.PlacedItem.{item_placed}
+use Rattle.normalform.proofs.Common.{◌≡◌, drop, map, check_of_occurrence, first_wrong, item_placed}
 use Rattle.normalform.proofs.faults.reference_checks.first_among.Given as goal
 
 abbrev pub invariant-loop-occurrence : goal.invariant-loop-occurrence

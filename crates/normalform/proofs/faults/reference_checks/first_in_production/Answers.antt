@@ -1,9 +1,5 @@
 -- The remaining goals of `first_in_production`.
-use Rattle.std.proofs.Common.{◌∙◌, ap, map, sym}
-use Rattle.normalform.specs.faults.ReferenceChecks.{checks_of_rule}
-use Rattle.normalform.specs.faults.Faults.{first_wrong}
-use Rattle.normalform.specs.faults.PlacedItem.{item_placed}
-use Rattle.normalform.specs.numbers.Numbers.{placed}
+use Rattle.normalform.proofs.Common.{◌∙◌, ap, map, sym, checks_of_rule, first_wrong, item_placed, placed}
 use Rattle.normalform.proofs.found.Wrong.{wrong_here, wrong_past}
 use Rattle.normalform.proofs.faults.reference_checks.first_in_production.Goals as goal
 

@@ -1,8 +1,5 @@
 -- The invariant of the loop of `first_in_production`.
-use Rattle.std.proofs.Common.{◌≡◌, drop, flat_map}
-use Rattle.normalform.specs.faults.ReferenceChecks.{checks_of_rule, checks_of_production}
-use Rattle.normalform.specs.faults.Faults.{first_wrong}
-use Rattle.normalform.specs.numbers.Numbers.{placed}
+use Rattle.normalform.proofs.Common.{◌≡◌, drop, flat_map, checks_of_rule, checks_of_production, first_wrong, placed}
 use Rattle.normalform.proofs.faults.reference_checks.first_in_production.Given as goal
 
 abbrev pub invariant-loop-rule : goal.invariant-loop-rule

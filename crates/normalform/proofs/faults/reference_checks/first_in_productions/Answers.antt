@@ -1,6 +1,5 @@
 -- The remaining goals of `first_in_productions`.
-use Rattle.std.proofs.Common.{sym, ◌∙◌}
-use Rattle.normalform.specs.faults.ReferenceChecks.{checks_of_production}
+use Rattle.normalform.proofs.Common.{sym, ◌∙◌, checks_of_production}
 use Rattle.normalform.proofs.found.Wrong.{wrong_here, wrong_past}
 use Rattle.normalform.proofs.faults.reference_checks.first_in_productions.Goals as goal
 

@@ -1,7 +1,5 @@
 -- The invariant of the loop of `first_in_productions`.
-use Rattle.std.proofs.Common.{◌≡◌, drop}
-use Rattle.normalform.specs.faults.ReferenceChecks.{checks_of}
-use Rattle.normalform.specs.faults.Faults.{first_wrong}
+use Rattle.normalform.proofs.Common.{◌≡◌, drop, checks_of, first_wrong}
 use Rattle.normalform.proofs.faults.reference_checks.first_in_productions.Given as goal
 
 abbrev pub invariant-loop-production : goal.invariant-loop-production

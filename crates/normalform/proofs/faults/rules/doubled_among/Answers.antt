@@ -1,7 +1,5 @@
 -- The remaining goals of `doubled_among`.
-use Rattle.std.proofs.Common.{sym, ◌∙◌, map}
-use Rattle.normalform.specs.faults.Faults.{new_target, with_rule}
-use Rattle.normalform.specs.faults.PlacedItem.{item_placed}
+use Rattle.normalform.proofs.Common.{sym, ◌∙◌, map, new_target, with_rule, item_placed}
 use Rattle.normalform.proofs.found.Wrong.{along_here, along_past}
 use Rattle.normalform.proofs.faults.rules.doubled_among.Goals as goal
 

@@ -1,7 +1,5 @@
 -- The invariant of the loop of `doubled_among`.
-use Rattle.std.proofs.Common.{◌≡◌, drop, map, []}
-use Rattle.normalform.specs.faults.PlacedItem.{item_placed}
-use Rattle.normalform.specs.faults.Faults.{first_wrong, checks_along, with_rule, new_target}
+use Rattle.normalform.proofs.Common.{◌≡◌, drop, map, [], item_placed, first_wrong, checks_along, with_rule, new_target}
 use Rattle.normalform.proofs.faults.rules.doubled_among.Given as goal
 
 abbrev pub invariant-loop-rule : goal.invariant-loop-rule

@@ -1,6 +1,5 @@
 -- The remaining goals of `first_doubled_rule`.
-use Rattle.std.proofs.Common.{sym, ◌∙◌}
-use Rattle.normalform.specs.faults.Faults.{doubled_in}
+use Rattle.normalform.proofs.Common.{sym, ◌∙◌, doubled_in}
 use Rattle.normalform.proofs.found.Wrong.{wrong_here, wrong_past}
 use Rattle.normalform.proofs.faults.rules.first_doubled_rule.Goals as goal
 

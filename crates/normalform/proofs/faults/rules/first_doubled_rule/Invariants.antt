@@ -1,6 +1,5 @@
 -- The invariant of the loop of `first_doubled_rule`.
-use Rattle.std.proofs.Common.{◌≡◌, drop}
-use Rattle.normalform.specs.faults.Faults.{first_wrong, doubled_rules}
+use Rattle.normalform.proofs.Common.{◌≡◌, drop, first_wrong, doubled_rules}
 use Rattle.normalform.proofs.faults.rules.first_doubled_rule.Given as goal
 
 abbrev pub invariant-loop-production : goal.invariant-loop-production

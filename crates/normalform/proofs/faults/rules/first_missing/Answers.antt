@@ -1,6 +1,5 @@
 -- The remaining goals of `first_missing`.
-use Rattle.std.proofs.Common.{◌+◌, sym, refl, ◌∙◌}
-use Rattle.normalform.specs.faults.Faults.{missing_in, next_index}
+use Rattle.normalform.proofs.Common.{◌+◌, sym, refl, ◌∙◌, missing_in, next_index}
 use Rattle.normalform.proofs.found.Wrong.{along_here, along_past}
 use Rattle.normalform.proofs.faults.rules.first_missing.Goals as goal
 

@@ -1,6 +1,5 @@
 -- The invariant of the loop of `first_missing`.
-use Rattle.std.proofs.Common.{◌≡◌, drop}
-use Rattle.normalform.specs.faults.Faults.{first_wrong, checks_along, next_index, missing_in, missing_checks}
+use Rattle.normalform.proofs.Common.{◌≡◌, drop, first_wrong, checks_along, next_index, missing_in, missing_checks}
 use Rattle.normalform.proofs.faults.rules.first_missing.Given as goal
 
 abbrev pub invariant-loop-number : goal.invariant-loop-number

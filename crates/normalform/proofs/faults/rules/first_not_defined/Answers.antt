@@ -1,6 +1,5 @@
 -- The checks of targets are those of N8.
-use Rattle.std.proofs.Common.{IfOk, ◌≡◌, subst}
-use Rattle.normalform.specs.faults.Faults.{first_wrong}
+use Rattle.normalform.proofs.Common.{IfOk, ◌≡◌, subst, first_wrong}
 use Rattle.normalform.proofs.found.Wrong.{defined_checks}
 use Rattle.normalform.proofs.faults.rules.first_not_defined.Goals as goal
 

@@ -1,8 +1,6 @@
 -- The remaining goals of `missing_among`.
-use Rattle.std.proofs.Common.{◌+◌, refl, map}
-use Rattle.normalform.specs.faults.Faults.{missing_at, next_index}
+use Rattle.normalform.proofs.Common.{◌+◌, refl, map, missing_at, next_index, item_placed}
 use Rattle.normalform.specs.declared.faults.placed.PlacedItem.TheVariants as placed
-use Rattle.normalform.specs.faults.PlacedItem.{item_placed}
 use Rattle.normalform.proofs.found.Wrong.{along_here, along_past, mapped, within}
 use Rattle.normalform.proofs.faults.rules.missing_among.Goals as goal
 

@@ -1,6 +1,5 @@
 -- The remaining goals of `missing_at`.
-use Rattle.std.proofs.Common.{arith}
-use Rattle.normalform.specs.faults.Faults.{missing_check}
+use Rattle.normalform.proofs.Common.{arith, missing_check}
 use Rattle.normalform.proofs.found.Wrong.{range_past}
 use Rattle.normalform.proofs.faults.rules.missing_at.Goals as goal
 

@@ -1,7 +1,5 @@
 -- The invariant of the loop of `missing_at`.
-use Rattle.std.proofs.Common.{◌≡◌, ◌-◌, ◌≤◌, map}
-use Rattle.std.specs.List.{range_with_len}
-use Rattle.normalform.specs.faults.Faults.{first_wrong, missing_check}
+use Rattle.normalform.proofs.Common.{◌≡◌, ◌-◌, ◌≤◌, map, range_with_len, first_wrong, missing_check}
 use Rattle.normalform.proofs.faults.rules.missing_at.Given as goal
 
 abbrev pub invariant-loop-attr : goal.invariant-loop-attr

@@ -1,8 +1,5 @@
 -- The remaining goals of `targets_of`.
-use Rattle.std.proofs.Common.{map, []}
-use Rattle.std.proofs.lemmas.List.Sums.{fold_more}
-use Rattle.normalform.specs.faults.Faults.{with_rule}
-use Rattle.normalform.specs.faults.PlacedItem.{item_placed}
+use Rattle.normalform.proofs.Common.{map, [], fold_more, with_rule, item_placed}
 use Rattle.normalform.proofs.faults.rules.targets_of.Goals as goal
 
 pub loop-rule-preserved : goal.loop-rule-preserved

@@ -1,7 +1,5 @@
 -- The invariant of the loop of `targets_of`.
-use Rattle.std.proofs.Common.{◌≡◌, take, map, fold, []}
-use Rattle.normalform.specs.faults.PlacedItem.{item_placed}
-use Rattle.normalform.specs.faults.Faults.{with_rule}
+use Rattle.normalform.proofs.Common.{◌≡◌, take, map, fold, [], item_placed, with_rule}
 use Rattle.normalform.proofs.faults.rules.targets_of.Given as goal
 
 abbrev pub invariant-loop-rule : goal.invariant-loop-rule

@@ -1,6 +1,5 @@
 -- The invariant of the loop of `first_false`.
-use Rattle.std.proofs.Common.{ℕ, ◌≡◌, ◌<◌, true}
-use Rattle.closure.specs.Following.{is_marked}
+use Rattle.normalform.proofs.Common.{ℕ, ◌≡◌, ◌<◌, true, is_marked}
 use Rattle.normalform.proofs.faults.underivable.first_false.Given as goal
 
 abbrev pub invariant-loop-number : goal.invariant-loop-number

@@ -1,6 +1,5 @@
 -- The invariant of the loop of `move_names`.
-use Rattle.std.proofs.Common.{◌≡◌}
-use Rattle.ag_grammar.specs.grammars.Raw.{texts_of}
+use Rattle.normalform.proofs.Common.{◌≡◌, texts_of}
 use Rattle.normalform.proofs.numbers.moving.move_names.Given as goal
 
 abbrev pub invariant-loop-named : goal.invariant-loop-named

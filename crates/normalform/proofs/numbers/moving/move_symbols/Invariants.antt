@@ -1,6 +1,5 @@
 -- The invariant of the loop of `move_symbols`.
-use Rattle.std.proofs.Common.{◌≡◌, map}
-use Rattle.normalform.specs.numbers.Numbers.{symbol_of}
+use Rattle.normalform.proofs.Common.{◌≡◌, map, symbol_of}
 use Rattle.normalform.proofs.numbers.moving.move_symbols.Given as goal
 
 abbrev pub invariant-loop-symbol : goal.invariant-loop-symbol

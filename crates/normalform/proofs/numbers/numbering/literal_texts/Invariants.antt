@@ -1,6 +1,5 @@
 -- The invariant of the loop of `literal_texts`.
-use Rattle.std.proofs.Common.{◌≡◌, take, map, List, ℕ}
-use Rattle.std.specs.Borrow.{Bor}
+use Rattle.normalform.proofs.Common.{◌≡◌, take, map, List, ℕ, Bor}
 use Rattle.normalform.proofs.numbers.numbering.literal_texts.Given as goal
 
 abbrev pub invariant-loop-text : goal.invariant-loop-text

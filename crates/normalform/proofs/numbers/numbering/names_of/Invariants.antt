@@ -1,5 +1,5 @@
 -- The invariant of the loop of `names_of`.
-use Rattle.std.proofs.Common.{◌≡◌, take}
+use Rattle.normalform.proofs.Common.{◌≡◌, take}
 use Rattle.normalform.proofs.numbers.numbering.names_of.Given as goal
 
 abbrev pub invariant-loop-text : goal.invariant-loop-text

@@ -1,7 +1,5 @@
-use Rattle.std.proofs.Common.{drop}
-use Rattle.origins.specs.Arising.{environment}
+use Rattle.origins.proofs.Common.{drop, environment, table_of}
 use Rattle.origins.specs.Forms.{Reaches}
-use Rattle.origins.specs.Rows.{table_of}
 use Rattle.origins.proofs.row.Row.+knowing.Given as goal
 
 abbrev pub invariant-chain_known-loop-other : goal.invariant-chain_known-loop-other

@@ -1,7 +1,4 @@
-use Rattle.std.proofs.Common.{◌≡◌, take}
-use Rattle.std.specs.List.{count_by}
-use Rattle.origins.specs.Arising.{is_arising}
-use Rattle.origins.specs.Rows.{table_of}
+use Rattle.origins.proofs.Common.{◌≡◌, take, count_by, is_arising, table_of}
 use Rattle.origins.proofs.row.Row.arising_count.Given as goal
 
 abbrev pub invariant-loop-rule : goal.invariant-loop-rule

@@ -1,6 +1,5 @@
-use Rattle.std.proofs.Common.{◌≡◌, true}
+use Rattle.origins.proofs.Common.{◌≡◌, true, table_of}
 use Rattle.origins.specs.Causes.{is_still}
-use Rattle.origins.specs.Rows.{table_of}
 use Rattle.origins.proofs.row.Row.evaluated_source.Given as goal
 
 abbrev pub invariant-loop-number : goal.invariant-loop-number

@@ -1,8 +1,6 @@
-use Rattle.std.proofs.Common.{rules, ◌≡◌, None, ap, sym, ◌∙◌}
-use Rattle.ag_grammar.specs.expressions.Evaluation.{value_of}
-use Rattle.ag_value.specs.operations.Arguments.{fault_of}
-use Rattle.origins.specs.Arising.{arises, environment, exchanged, is_same_error}
-use Rattle.origins.specs.Rows.{table_of}
+use Rattle.origins.proofs.Common
+use Common.{rules, ◌≡◌, None, ap, sym, ◌∙◌, value_of, fault_of, environment, exchanged, is_same_error, table_of}
+use Rattle.origins.specs.Arising.{arises}
 use Rattle.origins.proofs.Quiet.{occurrence_is_quiet}
 use Rattle.origins.proofs.row.Row.is_arising.Goals as goal
 

@@ -1,7 +1,4 @@
-use Rattle.std.proofs.Common.{inl}
-use Rattle.std.proofs.lemmas.Option.{slice_get-get_or}
-use Rattle.ag_grammar.specs.declared.grammar.Target.{Target}
-use Rattle.origins.specs.Rows.{table_of}
+use Rattle.origins.proofs.Common.{inl, slice_get-get_or, Target, table_of}
 use Rattle.origins.proofs.Sources.{known_nowhere, known_source}
 use Rattle.origins.proofs.row.Row.known_source.Goals as goal
 

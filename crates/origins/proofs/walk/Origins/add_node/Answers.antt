@@ -1,4 +1,4 @@
-use Rattle.std.proofs.Common.{◌≡◌, List, ℕ, Some, ap, sym, ◌∙◌, arith, reverse}
+use Rattle.origins.proofs.Common.{◌≡◌, List, ℕ, Some, ap, sym, ◌∙◌, arith, reverse}
 use Rattle.origins.specs.Walking.{earlier, way}
 use Rattle.origins.proofs.Children.{way_of}
 use Rattle.origins.proofs.Order.{first_of_some}

@@ -1,5 +1,4 @@
-use Rattle.std.proofs.Common.{reverse}
-use Rattle.std.proofs.lemmas.Result.{on_ok_weaker}
+use Rattle.origins.proofs.Common.{reverse, on_ok_weaker}
 use Rattle.origins.proofs.Step.{read_node, read_token}
 use Rattle.origins.proofs.walk.Walk.read.Goals as goal
 

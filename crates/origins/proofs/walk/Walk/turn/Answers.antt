@@ -1,6 +1,4 @@
-use Rattle.std.proofs.Common.{◌≡◌, [], ◌∷◌, slice_get, ap, sym, ◌∙◌, reverse}
-use Rattle.ag_grammar.specs.grammars.AttributeGrammar.{stored_items}
-use Rattle.std.proofs.lemmas.List.{reverse-append}
+use Rattle.origins.proofs.Common.{◌≡◌, [], ◌∷◌, slice_get, ap, sym, ◌∙◌, reverse, stored_items, reverse-append}
 use Rattle.origins.proofs.Step.{leave, moved, visit}
 use Rattle.origins.proofs.walk.Walk.turn.Goals as goal
 

@@ -1,6 +1,4 @@
-use Rattle.std.proofs.Common.{◌≡◌, ◌++◌, drop, map}
-use Rattle.passassign.specs.Rows.{passes_of}
-use Rattle.pass_rows.specs.layouts.BuiltLayouts.{argument_slot_by}
+use Rattle.pass_rows.proofs.Common.{◌≡◌, ◌++◌, drop, map, passes_of, argument_slot_by}
 use Rattle.pass_rows.proofs.layouts.building.argument_slots.Given as goal
 
 abbrev pub invariant-loop-argument : goal.invariant-loop-argument

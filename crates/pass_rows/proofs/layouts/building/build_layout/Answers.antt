@@ -1,4 +1,4 @@
-use Rattle.passassign.specs.Rows.{passes_of}
+use Rattle.pass_rows.proofs.Common.{passes_of}
 use Rattle.passcode.proofs.Slices.{read_at}
 use Rattle.pass_rows.proofs.places.Widths.{are_small, few_places, are_within}
 use Rattle.pass_rows.proofs.layouts.building.build_layout.Goals as goal

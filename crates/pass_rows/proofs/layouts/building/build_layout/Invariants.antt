@@ -1,6 +1,4 @@
-use Rattle.std.proofs.Common.{◌≡◌, ◌++◌, drop}
-use Rattle.pass_rows.specs.Settings.{pass_setting}
-use Rattle.pass_rows.specs.layouts.BuiltLayouts.{layout_of, rows_from}
+use Rattle.pass_rows.proofs.Common.{◌≡◌, ◌++◌, drop, pass_setting, layout_of, rows_from}
 use Rattle.pass_rows.proofs.layouts.building.build_layout.Given as goal
 
 abbrev pub invariant-loop-number : goal.invariant-loop-number

@@ -1,13 +1,6 @@
-use Rattle.std.proofs.Common.{◌≡◌, ℕ, List, ap, ◌∙◌, length, sym, subst}
-use Rattle.ag_grammar.specs.declared.grammar.Rule.{Rule}
-use Rattle.ag_grammar.specs.grammars.AttributeGrammar.{places_of}
-use Rattle.passcode.specs.Settings.{list_at}
-use Rattle.pass_rows.specs.Settings.{pass_setting}
-use Rattle.pass_rows.specs.declared.layouts.building.PlaceRow.{PlaceRow}
-use Rattle.pass_rows.specs.layouts.BuiltLayouts.{AreWithin, production_slots, rule_slots_by}
-use Rattle.pass_rows.specs.layouts.Starts.{AreLow}
-use Rattle.passassign.specs.Rows.{passes_of}
-use Rattle.std.proofs.Common.{map}
+use Rattle.pass_rows.proofs.Common
+use Common.{◌≡◌, ℕ, List, ap, ◌∙◌, length, sym, subst, Rule, places_of, list_at, pass_setting, PlaceRow, AreWithin}
+use Common.{production_slots, rule_slots_by, AreLow, passes_of, map}
 use Rattle.pass_rows.proofs.places.Slotted.{row_is, rows_long, rows_low, slots_same}
 use Rattle.pass_rows.proofs.layouts.building.row_of_production.Goals as goal
 

@@ -1,8 +1,5 @@
-use Rattle.std.proofs.Common.{◌≡◌, ◌+◌, ◌*◌, ◌≤◌, ◌++◌, drop}
-use Rattle.ag_grammar.specs.grammars.AttributeGrammar.{stored_items}
-use Rattle.pass_rows.specs.Settings.{pass_setting}
-use Rattle.pass_rows.specs.layouts.BuiltLayouts.{place_rows, rows_after}
-use Rattle.pass_rows.specs.layouts.Slots.{copied_all, stored_width}
+use Rattle.pass_rows.proofs.Common
+use Common.{◌≡◌, ◌+◌, ◌*◌, ◌≤◌, ◌++◌, drop, stored_items, pass_setting, place_rows, rows_after, copied_all, stored_width}
 use Rattle.pass_rows.proofs.layouts.building.rows_of_places.Given as goal
 
 abbrev pub invariant-loop-item : goal.invariant-loop-item

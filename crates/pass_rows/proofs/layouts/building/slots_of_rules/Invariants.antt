@@ -1,6 +1,4 @@
-use Rattle.std.proofs.Common.{◌≡◌, ◌++◌, drop, map}
-use Rattle.passassign.specs.Rows.{passes_of}
-use Rattle.pass_rows.specs.layouts.BuiltLayouts.{rule_slots_by}
+use Rattle.pass_rows.proofs.Common.{◌≡◌, ◌++◌, drop, map, passes_of, rule_slots_by}
 use Rattle.pass_rows.proofs.layouts.building.slots_of_rules.Given as goal
 
 abbrev pub invariant-loop-rule : goal.invariant-loop-rule

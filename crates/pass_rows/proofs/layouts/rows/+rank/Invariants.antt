@@ -1,4 +1,4 @@
-use Rattle.std.proofs.Common.{length}
+use Rattle.pass_rows.proofs.Common.{length}
 use Rattle.pass_rows.proofs.layouts.rows.+rank.Given as goal
 
 abbrev pub decreases-rank : goal.decreases-rank

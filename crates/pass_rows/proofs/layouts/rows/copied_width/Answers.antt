@@ -1,5 +1,4 @@
-use Rattle.std.proofs.Common.{ap, length, arith}
-use Rattle.pass_rows.specs.Settings.{pass_setting}
+use Rattle.pass_rows.proofs.Common.{ap, length, arith, pass_setting}
 use Rattle.pass_rows.proofs.places.Slotted.{copied_few}
 use Rattle.pass_rows.proofs.layouts.rows.copied_width.Goals as goal
 

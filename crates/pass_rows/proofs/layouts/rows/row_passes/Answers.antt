@@ -1,9 +1,7 @@
-use Rattle.std.proofs.Common.{ℕ, ◌≡◌, ◌+◌, ◌++◌, ◌∙◌, ap, length, List, subst, sym, arith, drop, get_or}
-use Rattle.std.specs.List.{flat_map}
-use Rattle.ag_grammar.specs.declared.grammar.Item.{Item}
-use Rattle.ag_grammar.specs.declared.grammar.Item.TheVariants as item
-use Rattle.pass_rows.specs.Settings.{pass_setting}
-use Rattle.pass_rows.specs.Places.{copied_passes, row_passes}
+use Rattle.pass_rows.proofs.Common
+use Common.{ℕ, ◌≡◌, ◌+◌, ◌++◌, ◌∙◌, ap, length, List, subst, sym, arith, drop, get_or, flat_map, Item, pass_setting}
+use Common.{copied_passes, row_passes}
+use Common.item
 use Rattle.pass_rows.proofs.Recorded.{passes_more, passes_whole}
 use Rattle.pass_rows.proofs.layouts.rows.row_passes.Goals as goal
 

@@ -1,7 +1,4 @@
-use Rattle.std.proofs.Common.{◌≡◌, ◌++◌, drop}
-use Rattle.std.specs.List.{flat_map}
-use Rattle.pass_rows.specs.Settings.{pass_setting}
-use Rattle.pass_rows.specs.Places.{copied_passes, row_passes}
+use Rattle.pass_rows.proofs.Common.{◌≡◌, ◌++◌, drop, flat_map, pass_setting, copied_passes, row_passes}
 use Rattle.pass_rows.proofs.layouts.rows.row_passes.Given as goal
 
 abbrev pub invariant-loop-item : goal.invariant-loop-item

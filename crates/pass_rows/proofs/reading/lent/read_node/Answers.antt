@@ -1,6 +1,4 @@
-use Rattle.std.proofs.Common.{◌-◌, ◌∙◌, List, ℕ, [], subst}
-use Rattle.pass_rows.specs.layouts.Contexts.{setting}
-use Rattle.pass_rows.specs.reading.Reading.{AreTaken}
+use Rattle.pass_rows.proofs.Common.{◌-◌, ◌∙◌, List, ℕ, [], subst, setting, AreTaken}
 use Rattle.pass_rows.proofs.Recorded.{row_read}
 use Rattle.pass_rows.proofs.reading.lent.read_node.Goals as goal
 

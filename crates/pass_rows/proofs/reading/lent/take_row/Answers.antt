@@ -1,6 +1,4 @@
-use Rattle.std.proofs.Common.{ℕ, ◌≡◌, ◌+◌, ◌-◌, ◌∷◌, List, [], arith, drop, get_or, refl, subst, sym}
-use Rattle.std.proofs.lemmas.Bool.{eqb-true}
-use Rattle.pass_rows.specs.reading.Reading.{AreTaken}
+use Rattle.pass_rows.proofs.Common.{ℕ, ◌≡◌, ◌+◌, ◌-◌, ◌∷◌, List, [], arith, drop, get_or, refl, subst, sym, eqb-true, AreTaken}
 use Rattle.pass_rows.proofs.Recorded.{empty_is, more_taken, none_taken, no_passes_from, passes_from, occur_on}
 use Rattle.pass_rows.proofs.reading.lent.take_row.Goals as goal
 

@@ -1,4 +1,4 @@
-use Rattle.std.proofs.Common.{rules, refl, arith}
+use Rattle.pass_rows.proofs.Common.{rules, refl, arith}
 use Rattle.pass_rows.proofs.Recorded.{taken_later, taken_value}
 use Rattle.pass_rows.proofs.reading.lent.take_value.Goals as goal
 

@@ -1,10 +1,8 @@
+use Rattle.pass_rows.proofs.Common
+use Common.{rules, ◌≡◌, ◌++◌, ◌∷◌, ◌<◌, ◌-◌, length, ℕ, get_or, take, drop, ap, subst, sym, ◌∙◌, Num, spelling_of, IsWell}
 use Rattle.std.specs.Int.{to_be_bytes, from_be_bytes, cast_signed, cast_unsigned, w64}
-use Rattle.std.proofs.Common.{rules, ◌≡◌, ◌++◌, ◌∷◌, ◌<◌, ◌-◌, length, ℕ, get_or, take, drop, ap, subst, sym, ◌∙◌}
 use Rattle.std.proofs.lemmas.Nat.{be_bytes_8}
 use Rattle.std.proofs.lemmas.Int.{of_z-to_z}
-use Rattle.ag_value.specs.declared.value.Value.{Num}
-use Rattle.ag_value.specs.Spelling.{spelling_of}
-use Rattle.ag_value.specs.Well.{IsWell}
 use Rattle.ag_value.proofs.Layers.{spelling-Num}
 use Rattle.pass_rows.proofs.Recorded.{number_well, tagged}
 use Rattle.pass_rows.proofs.reading.record.number_in.Goals as goal

@@ -1,9 +1,6 @@
-use Rattle.std.proofs.Common.{◌-◌, ◌∙◌, List, ℕ, [], ap, length, subst, arith}
-use Rattle.std.proofs.lemmas.Option.{slice_get_within}
-use Rattle.std.proofs.lemmas.Result.{err_from_is_err_and}
-use Rattle.pass_rows.specs.Settings.{pass_setting}
-use Rattle.pass_rows.specs.Places.{row_passes}
-use Rattle.pass_rows.specs.reading.Reading.{AreTaken, IsNoRow}
+use Rattle.pass_rows.proofs.Common
+use Common.{◌-◌, ◌∙◌, List, ℕ, [], ap, length, subst, arith, slice_get_within, err_from_is_err_and, pass_setting, row_passes}
+use Common.{AreTaken, IsNoRow}
 use Rattle.pass_rows.proofs.Recorded.{no_node, no_node_read, node_read, production_is, same_err}
 use Rattle.pass_rows.proofs.reading.record.read_node.Goals as goal
 

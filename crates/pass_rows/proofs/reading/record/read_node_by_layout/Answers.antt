@@ -1,8 +1,5 @@
-use Rattle.std.proofs.Common.{◌-◌, ◌∙◌, List, ℕ, [], subst}
-use Rattle.std.proofs.lemmas.Option.{slice_get_within}
-use Rattle.std.proofs.lemmas.Result.{err_from_is_err_and}
-use Rattle.pass_rows.specs.layouts.Contexts.{setting}
-use Rattle.pass_rows.specs.reading.Reading.{AreTaken, IsNoRow}
+use Rattle.pass_rows.proofs.Common
+use Common.{◌-◌, ◌∙◌, List, ℕ, [], subst, slice_get_within, err_from_is_err_and, setting, AreTaken, IsNoRow}
 use Rattle.pass_rows.proofs.Recorded.{no_node, no_node_read, node_read, same_err}
 use Rattle.pass_rows.proofs.reading.record.read_node_by_layout.Goals as goal
 

@@ -1,6 +1,5 @@
+use Rattle.pass_rows.proofs.Common.{◌≡◌, ◌∷◌, ◌++◌, ◌∙◌, [], rules, refl, ap, arith, Num}
 use Rattle.std.specs.Int.{cast_signed, cast_unsigned, w64}
-use Rattle.std.proofs.Common.{◌≡◌, ◌∷◌, ◌++◌, ◌∙◌, [], rules, refl, ap, arith}
-use Rattle.ag_value.specs.declared.value.Value.{Num}
 use Rattle.pass_rows.proofs.Recorded.{taken_later, taken_number, taken_place}
 use Rattle.pass_rows.proofs.reading.record.take_number.Goals as goal
 

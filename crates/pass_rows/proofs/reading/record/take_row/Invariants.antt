@@ -1,6 +1,5 @@
-use Rattle.std.proofs.Common.{◌-◌, List, [], drop, length, vec_capacity, vec_len, ◌+◌, ◌≤◌}
-use Rattle.ag_value.specs.declared.value.Value.{Value}
-use Rattle.pass_rows.specs.reading.Reading.{AreTaken, IsNoRow, PrependsTo}
+use Rattle.pass_rows.proofs.Common.{◌-◌, List, [], drop, length, ◌+◌, ◌≤◌, Value, AreTaken, IsNoRow, PrependsTo}
+use Rattle.std.proofs.Common.{vec_capacity, vec_len}
 use Rattle.pass_rows.proofs.reading.record.take_row.Given as goal
 
 abbrev pub invariant-loop-index : goal.invariant-loop-index

@@ -1,6 +1,5 @@
-use Rattle.std.proofs.Common.{ℕ, ◌≡◌, ◌+◌, ◌-◌, ◌∷◌, List, [], drop, get_or, refl, subst, sym}
-use Rattle.std.proofs.lemmas.Result.{on_ok_weaker}
-use Rattle.pass_rows.specs.reading.Reading.{AreTaken, IsNoRow}
+use Rattle.pass_rows.proofs.Common
+use Common.{ℕ, ◌≡◌, ◌+◌, ◌-◌, ◌∷◌, List, [], drop, get_or, refl, subst, sym, on_ok_weaker, AreTaken, IsNoRow}
 use Rattle.pass_rows.proofs.Recorded.{more_taken, no_passes_from, no_row_left, none_taken, others_no_row, passes_from, occur_on}
 use Rattle.pass_rows.proofs.reading.record.take_values.Goals as goal
 

@@ -1,6 +1,4 @@
-use Rattle.std.proofs.Common.{◌-◌, List, [], drop}
-use Rattle.ag_value.specs.declared.value.Value.{Value}
-use Rattle.pass_rows.specs.reading.Reading.{AreTaken, IsNoRow, PrependsTo}
+use Rattle.pass_rows.proofs.Common.{◌-◌, List, [], drop, Value, AreTaken, IsNoRow, PrependsTo}
 use Rattle.pass_rows.proofs.reading.record.take_values.Given as goal
 
 abbrev pub invariant-loop-pass : goal.invariant-loop-pass

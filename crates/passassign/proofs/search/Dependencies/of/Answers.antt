@@ -1,4 +1,4 @@
-use Rattle.std.proofs.Common.{refl}
+use Rattle.passassign.proofs.Common.{refl}
 use Rattle.passassign.proofs.slots.Linked.{all_in_table}
 use Rattle.passassign.proofs.strikes.ReportedStrikes.{edges_below}
 use Rattle.passassign.proofs.search.Dependencies.of.Goals as goal

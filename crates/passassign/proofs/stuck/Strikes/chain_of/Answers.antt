@@ -1,7 +1,4 @@
-use Rattle.ag_grammar.specs.grammars.Passes.{direction_of}
-use Rattle.passassign.specs.Chains.{AreAwaitedBefore, AreLinked}
-use Rattle.passassign.specs.PassStrikes.{AreStrikesAt, HasPassFrom}
-use Rattle.passassign.specs.Rows.{passes_of}
+use Rattle.passassign.proofs.Common.{direction_of, AreAwaitedBefore, AreLinked, AreStrikesAt, HasPassFrom, passes_of}
 use Rattle.passassign.proofs.making.NoEarlier.{strikes_at}
 use Rattle.passassign.proofs.strikes.Walked.{of_three, walked}
 use Rattle.passassign.proofs.stuck.Strikes.chain_of.Goals as goal

@@ -1,4 +1,4 @@
-use Rattle.passassign.specs.Certificate.{Members, StrikesAll}
+use Rattle.passassign.proofs.Common.{Members, StrikesAll}
 use Rattle.passassign.proofs.making.Rest.{all_for}
 use Rattle.passassign.proofs.strikes.Walked.{of_three, walked}
 use Rattle.passassign.proofs.stuck.Stuck.chain_of.Goals as goal

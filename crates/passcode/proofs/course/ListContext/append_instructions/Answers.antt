@@ -1,7 +1,5 @@
-use Rattle.std.proofs.Common.{◌≡◌, ◌++◌, [], length, refl, ap, ◌∙◌, arith}
-use Rattle.std.specs.List.{flat_map, range_with_len}
-use Rattle.passassign.specs.Rows.{passes_of}
-use Rattle.passcode.specs.Listing.{remaining_for}
+use Rattle.passcode.proofs.Common
+use Common.{◌≡◌, ◌++◌, [], length, refl, ap, ◌∙◌, arith, flat_map, range_with_len, passes_of, remaining_for}
 use Rattle.passcode.proofs.Loops.{pushed_more}
 use Rattle.passcode.proofs.course.ListContext.append_instructions.Goals as goal
 

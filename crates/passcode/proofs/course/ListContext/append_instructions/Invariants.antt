@@ -1,7 +1,4 @@
-use Rattle.std.proofs.Common.{◌≡◌, ◌++◌, []}
-use Rattle.std.specs.List.{flat_map, range_with_len}
-use Rattle.passassign.specs.Rows.{passes_of}
-use Rattle.passcode.specs.Listing.{remaining_for}
+use Rattle.passcode.proofs.Common.{◌≡◌, ◌++◌, [], flat_map, range_with_len, passes_of, remaining_for}
 use Rattle.passcode.proofs.course.ListContext.append_instructions.Given as goal
 
 abbrev pub invariant-loop-attr : goal.invariant-loop-attr

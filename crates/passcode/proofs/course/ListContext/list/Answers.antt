@@ -1,9 +1,4 @@
-use Rattle.std.proofs.Common.{ℕ, suc, ◌≡◌, ◌+◌, [], ap, ◌∙◌, arith}
-use Rattle.ag_grammar.specs.grammars.AttributeGrammar.{item_at}
-use Rattle.ag_grammar.specs.grammars.Passes.{direction_of, nth}
-use Rattle.passassign.specs.Rows.{passes_of}
-use Rattle.passcode.specs.Course.{place_of}
-use Rattle.passcode.specs.Listing.{visit}
+use Rattle.passcode.proofs.Common.{ℕ, suc, ◌≡◌, ◌+◌, [], ap, ◌∙◌, arith, item_at, direction_of, nth, passes_of, place_of, visit}
 use Rattle.passcode.proofs.Loops.{pushed_more}
 use Rattle.passcode.proofs.course.ListContext.list.Goals as goal
 

@@ -1,6 +1,4 @@
-use Rattle.std.proofs.Common.{◌≡◌, []}
-use Rattle.passassign.specs.Rows.{passes_of}
-use Rattle.passcode.specs.Listing.{visits}
+use Rattle.passcode.proofs.Common.{◌≡◌, [], passes_of, visits}
 use Rattle.passcode.proofs.course.ListContext.list.Given as goal
 
 abbrev pub invariant-loop-turn : goal.invariant-loop-turn

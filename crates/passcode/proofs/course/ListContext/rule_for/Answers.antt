@@ -1,5 +1,4 @@
-use Rattle.std.proofs.Common.{◌≤◌, length, subst, sym, ◌∙◌}
-use Rattle.passcode.specs.Listing.{is_same}
+use Rattle.passcode.proofs.Common.{◌≤◌, length, subst, sym, ◌∙◌, is_same}
 use Rattle.passcode.proofs.Loops.{before_more, first_is, none_is}
 use Rattle.passcode.proofs.Slices.{read_at}
 use Rattle.passcode.proofs.course.ListContext.rule_for.Goals as goal

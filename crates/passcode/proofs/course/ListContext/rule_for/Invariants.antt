@@ -1,6 +1,4 @@
-use Rattle.std.proofs.Common.{ℕ, ◌≡◌, ◌<◌, false, Some, slice_get}
-use Rattle.ag_grammar.specs.declared.grammar.Rule.{Rule}
-use Rattle.passcode.specs.Listing.{is_same}
+use Rattle.passcode.proofs.Common.{ℕ, ◌≡◌, ◌<◌, false, Some, slice_get, Rule, is_same}
 use Rattle.passcode.proofs.course.ListContext.rule_for.Given as goal
 
 abbrev pub invariant-loop-number : goal.invariant-loop-number

@@ -1,4 +1,4 @@
-use Rattle.std.proofs.Common.{length}
+use Rattle.passrun.proofs.Common.{length}
 use Rattle.passrun.proofs.passing.copying.+agree.Given as goal
 
 abbrev pub decreases-agree : goal.decreases-agree

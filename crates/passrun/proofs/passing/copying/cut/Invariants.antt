@@ -1,4 +1,4 @@
-use Rattle.std.proofs.Common.{◌≡◌, take, vec_len}
+use Rattle.passrun.proofs.Common.{◌≡◌, take, vec_len}
 use Rattle.passrun.proofs.passing.copying.cut.Given as goal
 
 abbrev pub invariant-loop-values : goal.invariant-loop-values

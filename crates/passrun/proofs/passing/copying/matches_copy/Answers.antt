@@ -1,5 +1,4 @@
-use Rattle.std.proofs.Common.{drop}
-use Rattle.pass_rows.specs.layouts.Contexts.{setting}
+use Rattle.passrun.proofs.Common.{drop, setting}
 use Rattle.passrun.proofs.steps.MachineSteps.{nothing_read}
 use Rattle.passrun.proofs.passing.copying.matches_copy.Goals as goal
 

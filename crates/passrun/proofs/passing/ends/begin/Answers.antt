@@ -1,15 +1,9 @@
-use Rattle.std.proofs.Common.{◌-◌, ◌<◌, arith, List, ℕ, sym, subst}
-use Rattle.std.proofs.lemmas.Result.{err_from_is_err_and}
-use Rattle.backreader.specs.BackState.{IsOver}
-use Rattle.pass_rows.specs.layouts.Contexts.{setting}
-use Rattle.passrun.specs.passing.Ahead.{IsRunFault}
-use Rattle.passrun.specs.Damage.{IsReadable, source}
+use Rattle.passrun.proofs.Common
+use Common.{◌-◌, ◌<◌, arith, List, ℕ, sym, subst, err_from_is_err_and, IsOver, setting, IsRunFault, IsReadable, source, Ok, inr}
+use Common.{refl, frames_begin, none_added, not_begun, RunFault}
 use Rattle.passrun.proofs.Damage.{other_pass, readable, decidable}
 use Rattle.passrun.proofs.Refusing.{not_started, root_unfetched}
 use Rattle.passrun.proofs.course.Ending.{begun_runs}
-use Rattle.std.proofs.Common.{Ok, inr, refl}
-use Rattle.treefile.proofs.framing.Beginning.{frames_begin, none_added, not_begun}
-use Rattle.pass_rows.specs.declared.run_fault.RunFault.{RunFault}
 use Rattle.passrun.proofs.passing.ends.begin.Goals as goal
 
 pub returns-clause-runs : goal.returns-clause-runs

@@ -1,16 +1,9 @@
-use Rattle.std.specs.Option.{option_map}
-use Rattle.std.proofs.Common.{◌≡◌, List, Option, Ok, None, Bor, ℕ, ap, length, sym, subst, ◌∙◌, arith}
-use Rattle.std.proofs.lemmas.Result.{err_from_is_err_and}
-use Rattle.treefile.specs.framing.Backward.{next_before}
-use Rattle.treefile.specs.records.TreeFile.{version_two}
-use Rattle.passrun.specs.Damage.{IsDamaged, source}
-use Rattle.pass_rows.specs.layouts.Contexts.{setting}
+use Rattle.passrun.proofs.Common
+use Common.{option_map, ◌≡◌, List, Option, Ok, None, Bor, ℕ, ap, length, sym, subst, ◌∙◌, arith, err_from_is_err_and, next_before}
+use Common.{version_two, IsDamaged, source, setting, Err, added, none_added, RunFault}
 use Rattle.passrun.proofs.Refusing.{end_come, end_refused, end_unbroken, end_version, left_over, some_lent}
 use Rattle.passrun.proofs.steps.Supposed.{runs_supposed}
 use Rattle.passrun.proofs.course.Ending.{as_many, none_lent, passed, reader_kept, ready_of}
-use Rattle.std.proofs.Common.{Err}
-use Rattle.treefile.proofs.framing.Beginning.{added, none_added}
-use Rattle.pass_rows.specs.declared.run_fault.RunFault.{RunFault}
 use Rattle.pass_rows.specs.declared.run_fault.RunFault.TheVariants as run_fault
 use Rattle.passrun.proofs.passing.ends.finish.Goals as goal
 

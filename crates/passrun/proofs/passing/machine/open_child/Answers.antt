@@ -1,8 +1,5 @@
-use Rattle.std.proofs.Common.{[], ◌∷◌, ◌++◌, ◌∙◌, ap, reverse, subst, sym, arith}
-use Rattle.std.proofs.lemmas.Option.{slice_get_within}
-use Rattle.pass_rows.specs.declared.open_node.OpenNode.{OpenNode}
-use Rattle.pass_rows.specs.layouts.Contexts.{setting}
-use Rattle.passrun.specs.passing.RunInvariant.{ContinuesAs}
+use Rattle.passrun.proofs.Common
+use Common.{[], ◌∷◌, ◌++◌, ◌∙◌, ap, reverse, subst, sym, arith, slice_get_within, OpenNode, setting, ContinuesAs}
 use Rattle.passrun.proofs.steps.Going.{child_of, goes}
 use Rattle.passrun.proofs.passing.machine.open_child.Goals as goal
 

@@ -1,10 +1,6 @@
-use Rattle.std.proofs.Common.{arith}
+use Rattle.passrun.proofs.Common
+use Common.{arith, Err, Ok, inr, err_from_is_err_and, added, frames_begin, RunFault, AddsFrames, LeavesFrames}
 use Rattle.passrun.proofs.course.Metered.{meter_few, on_err, on_ok, on_ok_more}
-use Rattle.std.proofs.Common.{Err, Ok, inr}
-use Rattle.std.proofs.lemmas.Result.{err_from_is_err_and}
-use Rattle.treefile.proofs.framing.Beginning.{added, frames_begin}
-use Rattle.pass_rows.specs.declared.run_fault.RunFault.{RunFault}
-use Rattle.passrun.specs.passing.Putting.{AddsFrames, LeavesFrames}
 use Rattle.passrun.proofs.passing.pass.run_in_context.Goals as goal
 
 pub returns-clause-meter : goal.returns-clause-meter

@@ -1,16 +1,7 @@
-use Rattle.std.proofs.Common.{◌∙◌, ◌-◌, List, sym, subst}
-use Rattle.std.proofs.lemmas.Result.{IfOk-weaker}
-use Rattle.passassign.specs.Rows.{passes_of}
-use Rattle.passcode.specs.Settings.{setting_of}
-use Rattle.pass_rows.specs.declared.layouts.building.ProductionRow.{ProductionRow}
-use Rattle.pass_rows.specs.layouts.Layouts.{IsLayout}
-use Rattle.passrun.specs.declared.passing.ends.Passed.{Passed}
-use Rattle.passrun.specs.Laws.{CountsPass}
-use Rattle.passrun.specs.Passed.{IsPassed}
-use Rattle.treefile.specs.Runs.{RunsPass}
-use Rattle.treefile.specs.records.TreeFile.{version_two}
+use Rattle.passrun.proofs.Common
+use Common.{◌∙◌, ◌-◌, List, sym, subst, IfOk-weaker, passes_of, setting_of, ProductionRow, IsLayout, Passed, CountsPass, IsPassed}
+use Common.{RunsPass, version_two, layouts}
 use Rattle.passrun.proofs.places.Able.{plans_can_run}
-use Rattle.pass_rows.proofs.places.Entries.{layouts}
 use Rattle.passrun.proofs.RecordedPasses.{passes_are_recorded}
 use Rattle.passrun.proofs.passing.pass.run_pass.Goals as goal
 

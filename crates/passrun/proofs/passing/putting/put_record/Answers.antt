@@ -1,8 +1,4 @@
-use Rattle.std.proofs.lemmas.Result.{err_from_is_err_and}
-use Rattle.treefile.specs.records.TreeFile.{body_of, version_two}
-use Rattle.treefile.proofs.framing.Beginning.{one_added, one_refused}
-use Rattle.treefile.proofs.records.Records.{is_body}
-use Rattle.pass_rows.specs.declared.run_fault.RunFault.{RunFault}
+use Rattle.passrun.proofs.Common.{err_from_is_err_and, body_of, version_two, one_added, one_refused, is_body, RunFault}
 use Rattle.passrun.proofs.passing.putting.put_record.Goals as goal
 
 pub returns-in_err-put_carried-clause-left : goal.returns-in_err-put_carried-clause-left

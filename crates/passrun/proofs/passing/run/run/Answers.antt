@@ -1,7 +1,4 @@
-use Rattle.std.proofs.Common.{Err, Ok, ◌∙◌, arith}
-use Rattle.std.proofs.lemmas.Result.{err_from_is_err_and}
-use Rattle.treefile.proofs.framing.Beginning.{added}
-use Rattle.pass_rows.specs.declared.run_fault.RunFault.{RunFault}
+use Rattle.passrun.proofs.Common.{Err, Ok, ◌∙◌, arith, err_from_is_err_and, added, RunFault}
 use Rattle.passrun.proofs.course.Stepping.{persists_on}
 use Rattle.passrun.proofs.passing.run.run.Goals as goal
 

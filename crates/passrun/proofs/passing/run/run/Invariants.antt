@@ -1,8 +1,4 @@
-use Rattle.std.proofs.Common.{◌≡◌, ◌≤◌}
-use Rattle.treefile.specs.devices.Device.{LeavesContent, Persists}
-use Rattle.pass_rows.specs.layouts.Contexts.{setting}
-use Rattle.passrun.specs.passing.Putting.{AddsFrames}
-use Rattle.passrun.specs.passing.Running.{Runs}
+use Rattle.passrun.proofs.Common.{◌≡◌, ◌≤◌, LeavesContent, Persists, setting, AddsFrames, Runs}
 use Rattle.passrun.specs.passing.Working.{measure}
 use Rattle.passrun.proofs.passing.run.run.Given as goal
 

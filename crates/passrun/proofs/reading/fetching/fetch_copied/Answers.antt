@@ -1,7 +1,4 @@
-use Rattle.std.specs.Option.{option_map}
-use Rattle.std.proofs.Common.{List, Bor, ℕ}
-use Rattle.std.proofs.lemmas.Result.{err_from_is_err_and}
-use Rattle.pass_rows.specs.layouts.Contexts.{setting}
+use Rattle.passrun.proofs.Common.{option_map, List, Bor, ℕ, err_from_is_err_and, setting}
 use Rattle.passrun.proofs.course.Ahead.{frame_unfetched}
 use Rattle.passrun.proofs.reading.fetching.fetch_copied.Goals as goal
 

@@ -1,5 +1,4 @@
-use Rattle.std.proofs.Common.{refl}
-use Rattle.passcode.proofs.Slices.{read_at}
+use Rattle.planchecker.proofs.Common.{refl, read_at}
 use Rattle.planchecker.proofs.Loops.{prefix_more, prefix_whole, is_no, is_yes, says_no, says_yes}
 use Rattle.planchecker.proofs.following.NodeState.are_all_done.Goals as goal
 

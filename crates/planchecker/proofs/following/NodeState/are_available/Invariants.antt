@@ -1,7 +1,4 @@
-use Rattle.ag_grammar.specs.declared.grammar.Target.{Target}
-use Rattle.passassign.specs.Rows.{passes_of}
-use Rattle.passcode.specs.Course.{IsAvailable}
-use Rattle.planchecker.specs.Following.{state_of}
+use Rattle.planchecker.proofs.Common.{Target, passes_of, IsAvailable, state_of}
 use Rattle.planchecker.proofs.Loops.{Prefix}
 use Rattle.planchecker.proofs.following.NodeState.are_available.Given as goal
 

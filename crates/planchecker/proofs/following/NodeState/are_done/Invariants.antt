@@ -1,9 +1,4 @@
-use Rattle.std.proofs.Common.{◌≡◌}
-use Rattle.ag_grammar.specs.Lists.{Has}
-use Rattle.ag_grammar.specs.declared.grammar.Rule.{Rule}
-use Rattle.ag_grammar.specs.grammars.Passes.{HasPass}
-use Rattle.passassign.specs.Rows.{passes_of}
-use Rattle.planchecker.specs.Following.{state_of}
+use Rattle.planchecker.proofs.Common.{◌≡◌, Has, Rule, HasPass, passes_of, state_of}
 use Rattle.planchecker.proofs.Loops.{Prefix}
 use Rattle.planchecker.proofs.following.NodeState.are_done.Given as goal
 

@@ -1,4 +1,4 @@
-use Rattle.std.proofs.Common.{ℕ, ◌≡◌, ◌<◌}
+use Rattle.planchecker.proofs.Common.{ℕ, ◌≡◌, ◌<◌}
 use Rattle.passcode.specs.Course.{place_of}
 use Rattle.planchecker.proofs.following.NodeState.is_visited.Given as goal
 

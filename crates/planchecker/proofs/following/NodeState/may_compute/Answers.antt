@@ -1,6 +1,5 @@
-use Rattle.std.proofs.Common.{sym}
+use Rattle.planchecker.proofs.Common.{sym, read_at}
 use Rattle.passcode.proofs.Leaving.{same_target}
-use Rattle.passcode.proofs.Slices.{read_at}
 use Rattle.planchecker.proofs.Completing.{available}
 use Rattle.planchecker.proofs.Loops.{is_no, is_yes}
 use Rattle.planchecker.proofs.following.NodeState.may_compute.Goals as goal

@@ -1,4 +1,4 @@
-use Rattle.std.proofs.Common.{sym, ◌∙◌}
+use Rattle.planchecker.proofs.Common.{sym, ◌∙◌}
 use Rattle.planchecker.proofs.following.NodeState.may_end.Goals as goal
 
 pub returns-then-self : goal.returns-then-self

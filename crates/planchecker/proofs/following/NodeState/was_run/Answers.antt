@@ -1,6 +1,4 @@
-use Rattle.std.proofs.Common.{inl, inr, arith}
-use Rattle.std.proofs.lemmas.Option.{slice_get-get_or}
-use Rattle.passcode.specs.Course.{start}
+use Rattle.planchecker.proofs.Common.{inl, inr, arith, slice_get-get_or, start}
 use Rattle.planchecker.proofs.Completing.{prefix_is_run, leading_run}
 use Rattle.planchecker.proofs.Loops.{prefix_more, is_no, is_yes, says_no, says_yes}
 use Rattle.planchecker.proofs.following.NodeState.was_run.Goals as goal

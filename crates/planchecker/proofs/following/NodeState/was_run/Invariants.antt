@@ -1,4 +1,4 @@
-use Rattle.planchecker.specs.Following.{RunsRule}
+use Rattle.planchecker.proofs.Common.{RunsRule}
 use Rattle.planchecker.proofs.Loops.{Prefix}
 use Rattle.planchecker.proofs.following.NodeState.was_run.Given as goal
 

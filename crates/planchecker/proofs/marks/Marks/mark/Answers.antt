@@ -1,4 +1,4 @@
-use Rattle.std.proofs.Common.{arith}
+use Rattle.planchecker.proofs.Common.{arith}
 use Rattle.planchecker.proofs.Marked.{mark_more}
 use Rattle.planchecker.proofs.marks.Marks.mark.Goals as goal
 

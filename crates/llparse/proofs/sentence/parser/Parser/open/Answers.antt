@@ -1,9 +1,6 @@
-use Rattle.std.proofs.Common.{rules, ◌≡◌, ◌++◌, [], ◌<◌, ◌∷◌, length, reverse, arith}
-use Rattle.std.proofs.lemmas.List.{length-reverse}
-use Rattle.std.proofs.lemmas.Result.{err_from_is_err_and}
-use Rattle.ag_grammar.specs.grammars.Tree.{max_depth, max_nodes}
-use Rattle.llparse.specs.sentence.Parsing.{task_of}
-use Rattle.llparse.specs.sentence.Turns.{output_of}
+use Rattle.llparse.proofs.Common
+use Common.{rules, ◌≡◌, ◌++◌, [], ◌<◌, ◌∷◌, length, reverse, arith, length-reverse, err_from_is_err_and, max_depth, max_nodes}
+use Common.{task_of, output_of}
 use Rattle.llparse.proofs.steps.Prefixes.{on_top}
 use Rattle.llparse.proofs.answers.Refused.{full_node, stuck}
 use Rattle.llparse.proofs.steps.Stacks.{fewer_opened}

@@ -1,13 +1,7 @@
-use Rattle.std.proofs.Common.{◌+◌, ◌<◌, ◌∷◌, ap, length, reverse, arith, ◌∙◌}
-use Rattle.std.proofs.lemmas.List.{length-reverse}
-use Rattle.std.proofs.lemmas.Result.{err_from_is_err_and}
-use Rattle.ag_grammar.specs.grammars.Tree.{max_depth}
+use Rattle.llparse.proofs.Common
+use Common.{◌+◌, ◌<◌, ◌∷◌, ap, length, reverse, arith, ◌∙◌, length-reverse, err_from_is_err_and, max_depth, reader_at, task_of}
+use Common.{none_added, ParseFault, Parser}
 use Rattle.ag_scan.specs.Words.{vocabulary_of}
-use Rattle.ag_scan.specs.TokenReader.{reader_at}
-use Rattle.llparse.specs.sentence.Parsing.{task_of}
-use Rattle.treefile.proofs.framing.Beginning.{none_added}
-use Rattle.llparse.specs.declared.sentence.parse_fault.ParseFault.{ParseFault}
-use Rattle.llparse.specs.declared.sentence.parser.Parser.{Parser}
 use Rattle.llparse.proofs.answers.Refused.{full_leaf, stuck, text_is}
 use Rattle.llparse.proofs.steps.Leaves.{on_class}
 use Rattle.llparse.proofs.steps.Literals.{no_terminal, on_literal}

@@ -1,4 +1,4 @@
-use Rattle.std.proofs.Common.{◌∙◌}
+use Rattle.llparse.proofs.Common.{◌∙◌}
 use Rattle.llparse.proofs.look_ahead.Choices.{skip_chosen, skip_pair}
 use Rattle.llparse.proofs.table.choosing.Column.choose_if.Goals as goal
 

@@ -1,5 +1,4 @@
-use Rattle.std.proofs.Common.{◌≡◌, None}
-use Rattle.llparse.specs.table.Predicted.{choice_at}
+use Rattle.llparse.proofs.Common.{◌≡◌, None, choice_at}
 use Rattle.std.proofs.lemmas.List.{get_or_default}
 use Rattle.llparse.proofs.look_ahead.Choices.{pairs_conflict, put_chosen}
 use Rattle.llparse.proofs.table.choosing.Column.put.Goals as goal

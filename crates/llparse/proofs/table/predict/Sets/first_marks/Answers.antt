@@ -1,7 +1,5 @@
 -- The remaining goals of `Sets::first_marks`.
-use Rattle.std.proofs.Common.{ap}
-use Rattle.closure.specs.Clauses.{Clauses}
-use Rattle.closure.specs.Following.{is_marked}
+use Rattle.llparse.proofs.Common.{ap, Clauses, is_marked}
 use Rattle.llparse.proofs.look_ahead.Edges.{iff_on}
 use Rattle.llparse.proofs.look_ahead.Firsts.{first_iff}
 use Rattle.llparse.proofs.table.predict.Sets.first_marks.Goals as goal

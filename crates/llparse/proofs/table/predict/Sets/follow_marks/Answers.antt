@@ -1,7 +1,5 @@
 -- The remaining goals of `Sets::follow_marks`.
-use Rattle.std.proofs.Common.{ap}
-use Rattle.closure.specs.Clauses.{Clauses}
-use Rattle.closure.specs.Following.{is_marked}
+use Rattle.llparse.proofs.Common.{ap, Clauses, is_marked}
 use Rattle.llparse.proofs.look_ahead.Edges.{iff_on}
 use Rattle.llparse.proofs.look_ahead.Follows.{all_seeds, follow_iff, seeds_below}
 use Rattle.llparse.proofs.table.predict.Sets.follow_marks.Goals as goal

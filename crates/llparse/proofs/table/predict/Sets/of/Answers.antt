@@ -1,5 +1,5 @@
 -- The nullable symbols and the edges of a grammar.
-use Rattle.closure.specs.Following.{is_marked}
+use Rattle.llparse.proofs.Common.{is_marked}
 use Rattle.llparse.proofs.look_ahead.Firsts.{edges_below}
 use Rattle.llparse.proofs.look_ahead.Follows.{follow_edges_below}
 use Rattle.llparse.proofs.table.predict.Sets.of.Goals as goal

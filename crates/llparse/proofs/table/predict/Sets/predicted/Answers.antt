@@ -1,9 +1,6 @@
-use Rattle.std.proofs.Common.{◌↔◌, true, ◌≡◌, ◌<◌, length, arith, ap}
-use Rattle.std.proofs.lemmas.Option.{get_or_from_slice_get, slice_get_within}
-use Rattle.ag_grammar.specs.declared.grammar.Production.{Production}
-use Rattle.ag_grammar.specs.grammars.AttributeGrammar.{IsProduction}
-use Rattle.llparse.specs.Ahead.{Predicts}
-use Rattle.closure.specs.Following.{is_marked}
+use Rattle.llparse.proofs.Common
+use Common.{◌↔◌, true, ◌≡◌, ◌<◌, length, arith, ap, get_or_from_slice_get, slice_get_within, Production, IsProduction, Predicts}
+use Common.{is_marked}
 use Rattle.llparse.proofs.look_ahead.Predictions.{predicted_more, predicts_iff}
 use Rattle.llparse.proofs.table.predict.Sets.predicted.Goals as goal
 

@@ -1,8 +1,4 @@
-use Rattle.std.proofs.Common.{ℕ, ◌≡◌, ◌<◌, ◌↔◌, length, true}
-use Rattle.ag_grammar.specs.declared.grammar.Production.{Production}
-use Rattle.ag_grammar.specs.grammars.AttributeGrammar.{IsProduction}
-use Rattle.llparse.specs.Ahead.{Predicts}
-use Rattle.closure.specs.Following.{is_marked}
+use Rattle.llparse.proofs.Common.{ℕ, ◌≡◌, ◌<◌, ◌↔◌, length, true, Production, IsProduction, Predicts, is_marked}
 use Rattle.llparse.proofs.table.predict.Sets.predicted.Given as goal
 
 abbrev pub invariant-loop-at : goal.invariant-loop-at

@@ -1,6 +1,5 @@
 -- The invariant of the loop of `Numbering::items_of`.
-use Rattle.std.proofs.Common.{◌≡◌, take, map}
-use Rattle.normalform.specs.numbers.Numbers.{item_of, declared_names}
+use Rattle.normalform.proofs.Common.{◌≡◌, take, map, item_of, declared_names}
 use Rattle.normalform.proofs.numbers.numbering.Numbering.items_of.Given as goal
 
 abbrev pub invariant-loop-item : goal.invariant-loop-item

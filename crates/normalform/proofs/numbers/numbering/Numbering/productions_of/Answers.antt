@@ -1,8 +1,5 @@
 -- The remaining goals of `Numbering::productions_of`.
-use Rattle.std.proofs.Common.{◌∙◌}
-use Rattle.std.proofs.lemmas.List.{map_push}
-use Rattle.std.proofs.lemmas.List.Elements.{All-push}
-use Rattle.normalform.specs.faults.Faults.{AreListedIn}
+use Rattle.normalform.proofs.Common.{◌∙◌, map_push, All-push, AreListedIn}
 use Rattle.normalform.specs.numbers.Numbers as spec
 use Rattle.normalform.proofs.numbers.numbering.Numbering.productions_of.Goals as goal
 

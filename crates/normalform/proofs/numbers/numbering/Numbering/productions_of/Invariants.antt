@@ -1,7 +1,5 @@
 -- The invariant of the loop of `Numbering::productions_of`.
-use Rattle.std.proofs.Common.{◌≡◌, map, All}
-use Rattle.normalform.specs.numbers.Numbers.{production_of}
-use Rattle.normalform.specs.faults.Faults.{AreListedIn}
+use Rattle.normalform.proofs.Common.{◌≡◌, map, All, production_of, AreListedIn}
 use Rattle.normalform.proofs.numbers.numbering.Numbering.productions_of.Given as goal
 
 abbrev pub invariant-loop-production : goal.invariant-loop-production

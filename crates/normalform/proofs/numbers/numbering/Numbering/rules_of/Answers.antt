@@ -1,10 +1,6 @@
 -- The remaining goals of `Numbering::rules_of`.
-use Rattle.std.proofs.Common.{map, ◌∙◌}
-use Rattle.std.proofs.lemmas.List.{map_push}
-use Rattle.std.proofs.lemmas.List.Elements.{All-push}
-use Rattle.normalform.specs.faults.Faults.{IsListed}
+use Rattle.normalform.proofs.Common.{map, ◌∙◌, map_push, All-push, IsListed, item_placed}
 use Rattle.normalform.specs.numbers.Numbers as spec
-use Rattle.normalform.specs.faults.PlacedItem.{item_placed}
 use Rattle.normalform.proofs.numbers.numbering.Numbering.rules_of.Goals as goal
 
 pub loop-rule-preserved : goal.loop-rule-preserved

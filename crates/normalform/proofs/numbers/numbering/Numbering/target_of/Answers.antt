@@ -1,6 +1,5 @@
 -- The remaining goals of `Numbering::target_of`.
-use Rattle.std.proofs.Common.{map}
-use Rattle.normalform.specs.faults.PlacedItem.{item_placed}
+use Rattle.normalform.proofs.Common.{map, item_placed}
 use Rattle.normalform.proofs.numbered.Small.{attribute_small}
 use Rattle.normalform.proofs.numbers.numbering.Numbering.target_of.Goals as goal
 

@@ -1,7 +1,5 @@
 -- The invariant of the loop of `Numbering::targets_of`.
-use Rattle.std.proofs.Common.{◌≡◌, take, map}
-use Rattle.normalform.specs.numbers.Numbers.{target_of}
-use Rattle.normalform.specs.faults.PlacedItem.{item_placed}
+use Rattle.normalform.proofs.Common.{◌≡◌, take, map, target_of, item_placed}
 use Rattle.normalform.proofs.numbers.numbering.Numbering.targets_of.Given as goal
 
 abbrev pub invariant-loop-occurrence : goal.invariant-loop-occurrence

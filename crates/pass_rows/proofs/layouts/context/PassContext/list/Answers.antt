@@ -1,4 +1,4 @@
-use Rattle.std.proofs.Common.{◌∙◌}
+use Rattle.pass_rows.proofs.Common.{◌∙◌}
 use Rattle.pass_rows.proofs.places.Entries.{some_at}
 use Rattle.pass_rows.proofs.layouts.context.PassContext.list.Goals as goal
 

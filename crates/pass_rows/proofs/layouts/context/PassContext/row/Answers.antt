@@ -1,6 +1,4 @@
-use Rattle.std.proofs.Common.{refl, subst}
-use Rattle.pass_rows.specs.declared.layouts.building.ProductionRow.{ProductionRow}
-use Rattle.pass_rows.specs.layouts.Contexts.{setting}
+use Rattle.pass_rows.proofs.Common.{refl, subst, ProductionRow, setting}
 use Rattle.pass_rows.specs.layouts.Layouts.{IsRowOf}
 use Rattle.pass_rows.proofs.places.Entries.{row_found, row_less}
 use Rattle.pass_rows.proofs.layouts.context.PassContext.row.Goals as goal

@@ -1,4 +1,4 @@
-use Rattle.std.proofs.Common.{Ok}
+use Rattle.passrun.proofs.Common.{Ok}
 use Rattle.passrun.proofs.steps.MachineSteps.{entered, is_passing}
 use Rattle.passrun.proofs.course.Working.{entered_less}
 use Rattle.passrun.proofs.passing.machine.Machine.enter_child.Goals as goal

@@ -1,12 +1,9 @@
-use Rattle.std.proofs.Common.{◌≡◌, ◌∙◌, Some, ap, refl, drop, length, length-drop, vec_len, arith}
-use Rattle.std.proofs.lemmas.List.Elements.{All-drop, All-same}
-use Rattle.std.proofs.lemmas.Option.{slice_get_within}
-use Rattle.ag_value.specs.Well.{IsWell}
-use Rattle.pass_rows.specs.layouts.Contexts.{setting}
+use Rattle.passrun.proofs.Common
+use Common.{◌≡◌, ◌∙◌, Some, ap, refl, drop, length, length-drop, vec_len, arith, All-drop, All-same, slice_get_within, IsWell}
+use Common.{setting, few_values}
 use Rattle.passrun.proofs.steps.Supposed.{leads_to}
 use Rattle.passrun.proofs.steps.MachineSteps.{ended_leads, waited_within, none_popped, own_of, popped_none, put_room, root_leads}
 use Rattle.passrun.proofs.steps.MachineSteps.{some_is, waited_for, waited_place, whole_of}
-use Rattle.pass_rows.proofs.places.Widths.{few_values}
 use Rattle.passrun.proofs.course.Working.{ended_less}
 use Rattle.passrun.proofs.passing.machine.Machine.finish_node.Goals as goal
 

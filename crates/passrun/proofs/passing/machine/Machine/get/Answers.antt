@@ -1,8 +1,6 @@
-use Rattle.std.proofs.Common.{◌≡◌, ◌+◌, ap, refl, ◌∙◌, sym, subst, take, length, length-append, arith}
-use Rattle.std.proofs.lemmas.List.{take_at}
-use Rattle.std.proofs.lemmas.Result.{err_from_is_err_and}
-use Rattle.passrun.specs.Damage.{IsDamaged, source}
-use Rattle.pass_rows.specs.layouts.Contexts.{setting}
+use Rattle.passrun.proofs.Common
+use Common.{◌≡◌, ◌+◌, ap, refl, ◌∙◌, sym, subst, take, length, length-append, arith, take_at, err_from_is_err_and, IsDamaged}
+use Common.{source, setting}
 use Rattle.passrun.proofs.Refusing.{get_differs, get_refused, read_row}
 use Rattle.passrun.proofs.steps.Supposed.{from_supposed, leads_from}
 use Rattle.passrun.proofs.steps.MachineSteps.{got_place, got_leads, has_agreed, item_within}

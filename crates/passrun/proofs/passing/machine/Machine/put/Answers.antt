@@ -1,6 +1,4 @@
-use Rattle.std.proofs.Common.{ap, refl, ◌+◌, drop, take, length, arith}
-use Rattle.std.proofs.lemmas.List.Elements.{All-drop, All-take, All-same}
-use Rattle.ag_value.specs.Well.{IsWell}
+use Rattle.passrun.proofs.Common.{ap, refl, ◌+◌, drop, take, length, arith, All-drop, All-take, All-same, IsWell}
 use Rattle.passrun.proofs.steps.Supposed.{leads_to}
 use Rattle.passrun.proofs.steps.MachineSteps.{left_leads, row_within, put_room, put_leads, symbol_there, text_within, whole_of}
 use Rattle.passrun.proofs.course.Working.{put_less}

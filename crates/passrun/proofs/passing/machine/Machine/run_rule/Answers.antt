@@ -1,7 +1,4 @@
-use Rattle.std.proofs.Common.{drop, get_or, slice_index, pos, refl, arith}
-use Rattle.ag_grammar.specs.expressions.Evaluation.{value_of}
-use Rattle.ag_value.specs.declared.value.Value.{Num}
-use Rattle.pass_rows.proofs.places.Entries.{slots_less}
+use Rattle.passrun.proofs.Common.{drop, get_or, slice_index, pos, refl, arith, value_of, Num, slots_less}
 use Rattle.passrun.proofs.steps.MachineSteps.{are_slots, rule_leads, giver, meter_of, rule_less, slots_within, well_of}
 use Rattle.passrun.proofs.course.Working.{given_less}
 use Rattle.passrun.proofs.passing.machine.Machine.run_rule.Goals as goal

@@ -1,4 +1,4 @@
-use Rattle.std.proofs.Common.{arith}
+use Rattle.passrun.proofs.Common.{arith}
 use Rattle.passrun.proofs.steps.MachineSteps.{left_leads, row_within}
 use Rattle.passrun.proofs.course.Working.{put_less}
 use Rattle.passrun.proofs.passing.machine.Machine.skip_put.Goals as goal

@@ -1,9 +1,6 @@
-use Rattle.std.proofs.Common.{refl, inl, inr}
-use Rattle.passcode.specs.declared.instr.Instr.TheVariants as instr
-use Rattle.std.proofs.Common.{Err}
-use Rattle.std.proofs.lemmas.Result.{err_from_is_err_and}
-use Rattle.treefile.proofs.framing.Beginning.{none_added}
-use Rattle.pass_rows.specs.declared.run_fault.RunFault.{RunFault}
+use Rattle.passrun.proofs.Common
+use Common.{refl, inl, inr, Err, err_from_is_err_and, none_added, RunFault}
+use Common.instr
 use Rattle.passrun.proofs.passing.machine.Machine.step.Goals as goal
 use Rattle.passrun.proofs.passing.machine.Machine.step.Goals.{in-Set+in_ok-ended-in-Set, in-End}
 
