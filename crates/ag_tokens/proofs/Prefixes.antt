@@ -3,10 +3,10 @@ use Rattle.std.proofs.Common.{◌≡◌, ℕ, suc, ◌+◌, ◌≤◌, Bool, tru
 use Rattle.std.specs.List.{prefix_len, list_all}
 
 pub drop_more : (n c : ℕ) (cs : List ℕ) → drop (1 + n) (c ∷ cs) ≡ drop n cs
-drop_more n c cs = let k : 1 + n ≡ suc n = omega arith in rw k refl
+drop_more n c cs = let k : 1 + n ≡ suc n = omega arith in rw k
 
 pub take_more : (n c : ℕ) (cs : List ℕ) → take (1 + n) (c ∷ cs) ≡ c ∷ take n cs
-take_more n c cs = let k : 1 + n ≡ suc n = omega arith in rw k refl
+take_more n c cs = let k : 1 + n ≡ suc n = omega arith in rw k
 
 -- the characters of the prefix pass the test
 pub prefix_passes : (p : ℕ → Bool) (cs : List ℕ) → list_all p (take (prefix_len p cs) cs) ≡ true

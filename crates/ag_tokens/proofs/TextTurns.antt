@@ -1,18 +1,18 @@
 -- The body of a text literal, read character by character, and the loop that reads it.
 use Rattle.std.specs.Option.{option_and_then}
-use Rattle.std.proofs.Common.{◌≡◌, ℕ, zero, suc, ◌≤◌, ◌<◌, ◌≢◌, true, List, [], ◌∷◌, ◌++◌, length, Option, Some, None, chars}
-use Rattle.std.proofs.Common.{encode_utf8, encode_utf8_all, ◌∙◌, refl, sym, ap, subst, arith, append_assoc, append-nil, take, ◌-◌}
-use Rattle.std.proofs.Common.{IsUtf8, is_some, Bor, MatchOption, lit<}
+use Rattle.std.proofs.Common.{◌≡◌, ℕ, zero, suc, ◌≤◌, ◌<◌, ◌≢◌, List, [], ◌∷◌, ◌++◌, length, Option, Some, None, chars, sym}
+use Rattle.std.proofs.Common.{encode_utf8, encode_utf8_all, refl, arith, append_assoc, append-nil, take, ◌-◌, IsUtf8}
+use Rattle.std.proofs.Common.{Bor, MatchOption}
 use Rattle.std.specs.Str.{IsCharBoundary}
-use Rattle.std.proofs.lemmas.Str.{encode_ascii, encodes-append, chars_from_encodes, IsUtf8-take}
+use Rattle.std.proofs.lemmas.Str.{encodes-append, chars_from_encodes, IsUtf8-take}
 use Rattle.std.proofs.lemmas.Bool.{ne_eqb}
+use Rattle.std.proofs.lemmas.Option.{none-some}
 use Rattle.std.proofs.lemmas.Bool.Decides.{nat_tests}
 use Rattle.ag_tokens.proofs.Spans.{seam, prefix_bytes}
 use Rattle.ag_tokens.specs.GrammarToken.{GrammarToken}
 use Rattle.ag_tokens.specs.GrammarToken as token
 use Rattle.ag_tokens.specs.Tokens.{IsBody, empty, plain, escape, escaped}
-use Rattle.ag_tokens.specs.Lexing.{piece_from, character_from, escape_from, text_from, after_quote, unescaped, IsPast}
-use Rattle.ag_tokens.specs.Lexing.{IsAfterEscape}
+use Rattle.ag_tokens.specs.Lexing.{piece_from, character_from, text_from, after_quote, unescaped, IsPast, IsAfterEscape}
 
 -- The characters in `taken` have been read and denote the bytes in `prefix`; `rest` is left, and reading it to
 -- its end gives `total`.
@@ -29,104 +29,82 @@ pub starts : (text : List ℕ) → Within text text (text_from (length (chars te
 starts text =
     record { taken = []; prefix = []; is = empty; split = refl; turns = length (chars text); enough = omega arith; same = refl }
 
-joined : {xs bytes : List ℕ} → IsBody xs bytes → (ys more : List ℕ) → IsBody ys more → IsBody (xs ++ ys) (bytes ++ more)
-joined empty ys more is = is
-joined (plain c body bytes quote slash so_far) ys more is =
-    subst (IsBody (c ∷ (body ++ ys))) (sym (append_assoc (encode_utf8 c) bytes more))
-    (plain c (body ++ ys) (bytes ++ more) quote slash (joined so_far ys more is))
-joined (escape c d body bytes same so_far) ys more is =
-    subst (IsBody (92 ∷ c ∷ (body ++ ys))) (sym (append_assoc (encode_utf8 d) bytes more))
-    (escape c d (body ++ ys) (bytes ++ more) same (joined so_far ys more is))
+joined : {xs bytes ys more : List ℕ} → IsBody xs bytes → IsBody ys more → IsBody (xs ++ ys) (bytes ++ more)
+joined empty is = is
+joined (plain c body bytes quote slash so_far) is = rw append_assoc (plain c _ _ quote slash (joined so_far is))
+joined (escape c d body bytes same so_far) is = rw append_assoc (escape c d _ _ same (joined so_far is))
 
--- the characters after an escape are fewer
-shorter_escape : (cs rest : List ℕ) (c : ℕ) → escape_from cs ≡ Some (c, rest) → length rest < length cs
-shorter_escape cs rest c e = grind arith
-
+-- the characters after a character or an escape are fewer
 shorter : (cs rest : List ℕ) (c : ℕ) → character_from cs ≡ Some (c, rest) → length rest < length cs
-shorter cs rest c e = grind (arith, shorter_escape)
+shorter cs rest c e = grind arith
 
-pub goes_on : (text rest after : List ℕ) (total : Option (GrammarToken × List ℕ)) → IsPast rest after → Within text rest total
+pub goes_on : {text rest after : List ℕ} {total : Option (GrammarToken × List ℕ)} → IsPast rest after → Within text rest total
     → Within text after total
 unfolding text_from
-goes_on text rest after total past so_far = go so_far.turns so_far.enough so_far.same
+goes_on {text} {rest} {after} {total} past so_far = go so_far.turns so_far.enough so_far.same
   where
-    whole : text ≡ encode_utf8_all (so_far.taken ++ past.piece) ++ after
-    whole =
-        so_far.split ∙ ap (λ x. encode_utf8_all so_far.taken ++ x) past.split
-        ∙ sym (append_assoc (encode_utf8_all so_far.taken) (encode_utf8_all past.piece) after)
-        ∙ ap (λ x. x ++ after) (sym (encodes-append so_far.taken past.piece))
+    less : length (chars after) < length (chars rest)
+    less = shorter (chars rest) (chars after) past.character past.cut
 
     go : (n : ℕ) → length (chars rest) ≤ n → text_from n so_far.prefix (chars rest) ≡ total → Within text after total
-    go zero enough same = let less = shorter (chars rest) (chars after) past.character past.cut in let bad : ⊥ = omega arith in
-        absurd bad
-    go (suc n) enough same =
-        let less = shorter (chars rest) (chars after) past.character past.cut in
-        record {
-          taken = so_far.taken ++ past.piece;
-          prefix = so_far.prefix ++ encode_utf8 past.character;
-          is =
-              subst (λ x. IsBody (so_far.taken ++ past.piece) (so_far.prefix ++ x)) (append-nil (encode_utf8 past.character))
-              (joined so_far.is past.piece (encode_utf8 past.character ++ []) past.is);
-          split = whole;
-          turns = n;
-          enough = omega arith;
-          same = sym (rw past.cut refl) ∙ same;
-        }
-
-none_unquoted : (cs : List ℕ) → length cs ≤ 0 → after_quote cs ≡ None
-none_unquoted cs h = grind arith
-
-pub stopped : (text rest : List ℕ) (total : Option (GrammarToken × List ℕ)) → character_from (chars rest) ≡ None
-    → (so_far : Within text rest total)
-    → total ≡ option_and_then (λ following. Some (token.Text so_far.prefix, following)) (after_quote (chars rest))
-unfolding text_from
-stopped text rest total is so_far = go so_far.turns so_far.enough so_far.same
-  where
-    go : (n : ℕ) → length (chars rest) ≤ n → text_from n so_far.prefix (chars rest) ≡ total
-        → total ≡ option_and_then (λ following. Some (token.Text so_far.prefix, following)) (after_quote (chars rest))
-    go zero enough same = rw (none_unquoted (chars rest) enough) (sym same)
-    go (suc n) enough same = sym same ∙ rw is refl
+    go zero enough same = absurd (omega (arith, less))
+    go (suc n) enough same = record {
+      taken = so_far.taken ++ past.piece;
+      prefix = so_far.prefix ++ encode_utf8 past.character;
+      is = rw (append-nil (encode_utf8 past.character)) at (joined so_far.is past.is);
+      split =
+          cc (
+            append_assoc (encode_utf8_all so_far.taken) (encode_utf8_all past.piece) after,
+            encodes-append so_far.taken past.piece,
+            so_far.split,
+            past.split,
+          );
+      turns = n;
+      enough = omega (arith, less);
+      same = rw past.cut at same;
+    }
 
 unescapes : {body bytes : List ℕ} → IsBody body bytes → unescaped body ≡ bytes
 unescapes empty = refl
-unescapes (plain c body bytes quote slash is) = rw (ne_eqb c 92 slash) (ap (λ x. encode_utf8 c ++ x) (unescapes is))
-unescapes (escape c d body bytes same is) = rw same (ap (λ x. encode_utf8 d ++ x) (unescapes is))
+unescapes (plain c body bytes quote slash is) = rw (ne_eqb c 92 slash, unescapes is)
+unescapes (escape c d body bytes same is) = rw (same, unescapes is)
 
 -- the body that has been read is the text before `rest`: it ends at a character boundary, and denotes `prefix`
-module _ (text rest : List ℕ) (total : Option (GrammarToken × List ℕ)) (so_far : Within text rest total) where
+module _ {text rest : List ℕ} {total : Option (GrammarToken × List ℕ)} (so_far : Within text rest total) where
+  pub stopped : character_from (chars rest) ≡ None
+      → total ≡ option_and_then (λ following. Some (token.Text so_far.prefix, following)) (after_quote (chars rest))
+  unfolding text_from
+  stopped is = go so_far.turns so_far.enough so_far.same
+    where
+      go : (n : ℕ) → length (chars rest) ≤ n → text_from n so_far.prefix (chars rest) ≡ total
+          → total ≡ option_and_then (λ following. Some (token.Text so_far.prefix, following)) (after_quote (chars rest))
+      go zero enough same = let none : after_quote (chars rest) ≡ None = grind arith in rw none (sym same)
+      go (suc n) enough same = sym (rw is at same)
+
   pub boundary : IsUtf8 rest → IsCharBoundary text (length text - length rest)
   boundary = seam text rest so_far.taken so_far.split
 
   pub body_is : IsUtf8 text → IsUtf8 rest → unescaped (chars (take (length text - length rest) text)) ≡ so_far.prefix
   body_is utf8 utf8' =
-      let bytes = prefix_bytes text rest so_far.taken so_far.split in
-      let characters : chars (encode_utf8_all so_far.taken) ≡ so_far.taken =
-      sym
-      (chars_from_encodes so_far.taken (encode_utf8_all so_far.taken)
-      (subst IsUtf8 bytes (IsUtf8-take text (length text - length rest) utf8 (boundary utf8'))) refl) in
-      ap (λ x. unescaped (chars x)) bytes ∙ ap unescaped characters ∙ unescapes so_far.is
-
-some_escape : (c : ℕ) → is_some (escaped c) ≡ true → (d : ℕ) × (escaped c ≡ Some d)
-some_escape c h = grind arith
-
-encoded_escape : (c : ℕ) (rest : List ℕ) → 92 ∷ (encode_utf8 c ++ rest) ≡ encode_utf8_all (92 ∷ c ∷ []) ++ rest
-encoded_escape c rest = rw (encode_ascii 92 (lit< tt), append-nil (encode_utf8 c)) refl
+      let front = take (length text - length rest) text in
+      let taken_is : so_far.taken ≡ chars front =
+      chars_from_encodes so_far.taken front (IsUtf8-take text (length text - length rest) utf8 (boundary utf8'))
+      (sym (prefix_bytes text rest so_far.taken so_far.split)) in
+      rw (← taken_is) (unescapes so_far.is)
 
 -- the text after an escape, whose backslash has been read
 pub past_escape : (text following : List ℕ) (passed : Option (Bor (List ℕ))) → chars text ≡ 92 ∷ chars following
     → text ≡ encode_utf8 92 ++ following → IsAfterEscape following passed
     → MatchOption passed (character_from (chars text) ≡ None) (λ rest. IsPast text rest.now)
-past_escape text following None characters split is = rw (characters, is) refl
+past_escape text following None characters split is = rw (characters, is)
 past_escape text following (Some rest) characters split (c, h, more, after) =
-    let one = some_escape c h in
+    let one : (d : ℕ) × (escaped c ≡ Some d) = grind arith in
     record {
       character = one.0;
       piece = 92 ∷ c ∷ [];
-      cut = rw (characters, more, one.1) refl;
+      cut = rw (characters, more, one.1);
       is = escape c one.0 [] [] one.1 empty;
-      split =
-          split ∙ ap (λ x. encode_utf8 92 ++ x) after ∙ ap (λ x. x ++ (encode_utf8 c ++ rest.now)) (encode_ascii 92 (lit< tt))
-          ∙ encoded_escape c rest.now;
+      split = cc (append_assoc (encode_utf8 92) (encode_utf8 c ++ []) rest.now, append-nil (encode_utf8 c));
     }
 
 -- a character that denotes itself
@@ -135,9 +113,9 @@ pub past_plain : (text rest : List ℕ) (c : ℕ) → c ≢ 34 → c ≢ 92 → 
 past_plain text rest c quote slash characters split = record {
   character = c;
   piece = c ∷ [];
-  cut = rw (characters, ne_eqb c 34 quote, ne_eqb c 92 slash) refl;
+  cut = rw (characters, ne_eqb c 34 quote, ne_eqb c 92 slash);
   is = plain c [] [] quote slash empty;
-  split = split ∙ ap (λ x. x ++ rest) (sym (append-nil (encode_utf8 c)));
+  split = cc (append-nil (encode_utf8 c));
 }
 
 -- the text after one character of a body
@@ -147,9 +125,9 @@ pub ruleset past = (past_escape, past_plain)
 
 pub piece_some : (cs : List ℕ) (c : ℕ) (rest : List ℕ) → Some (c, rest) ≡ piece_from cs
     → (unescaped cs ≡ encode_utf8 c ++ unescaped rest) × (length rest < length cs)
-piece_some [] c rest h = let bad : ⊥ = cc in absurd bad
-piece_some (d ∷ []) c rest h = (grind (arith, nat_tests), grind (arith, nat_tests))
-piece_some (d ∷ e ∷ cs) c rest h = (grind (arith, nat_tests), grind (arith, nat_tests))
+piece_some [] c rest h = absurd (none-some _ (sym h))
+piece_some (d ∷ []) c rest h = grind (arith, nat_tests)
+piece_some (d ∷ e ∷ cs) c rest h = grind (arith, nat_tests)
 
 pub piece_none : (cs : List ℕ) → None ≡ piece_from cs → unescaped cs ≡ []
 piece_none [] h = refl

@@ -1,15 +1,14 @@
 -- The lexer and the definition of tokens agree.
-use Rattle.ag_tokens.proofs.Options.{opened}
-use Rattle.std.proofs.lemmas.Bool.{and_parts}
-use Rattle.std.proofs.lemmas.Option.{none-some, same_Some}
+use Rattle.ag_tokens.proofs.Options.{none_or_some}
+use Rattle.std.proofs.lemmas.Bool.{cases_eq, ne_eqb}
+use Rattle.std.proofs.lemmas.Option.{none-some, option_and_then_some, some_pair_parts}
 use Rattle.std.specs.Option.{option_and_then}
-use Rattle.std.proofs.Common.{◌≡◌, ℕ, zero, suc, pos, ◌<◌, ◌≤◌, ◌≢◌, Bool, true, false, cond, ◌==◌, List, [], ◌∷◌, ◌++◌, length}
-use Rattle.std.proofs.Common.{take, drop, Option, Some, None, refl, ap, sym, ◌∙◌, subst, lit<, arith, append_assoc, encode_utf8}
-use Rattle.std.proofs.Common.{encode_utf8_all}
+use Rattle.std.proofs.Common.{◌≡◌, ℕ, zero, suc, pos, ◌<◌, ◌≤◌, ◌≢◌, Bool, true, false, ◌==◌, List, [], ◌∷◌, ◌++◌, length}
+use Rattle.std.proofs.Common.{inl, inr, take, drop, Option, Some, None, refl, ap, sym, lit<, arith, append_assoc}
+use Rattle.std.proofs.Common.{encode_utf8, encode_utf8_all}
 use Rattle.std.proofs.lemmas.List.{length-append, length-drop, length-take-le, take-append-drop, append-nil}
 use Rattle.std.proofs.Math.Seq.{drop-append_seam, take-append_seam}
 use Rattle.std.proofs.lemmas.List.Sums.{prefix_len-le-length}
-use Rattle.std.proofs.lemmas.Bool.{eqb-true}
 use Rattle.std.proofs.lemmas.Bool.Decides.{nat_tests}
 use Rattle.std.specs.Char.{is_ascii_digit, is_ascii_alphabetic}
 use Rattle.std.specs.List.{prefix_len, list_all}
@@ -21,29 +20,20 @@ use Rattle.ag_tokens.specs.declared.token.Punctuation.TheVariants as punctuation
 use Rattle.ag_tokens.specs.GrammarToken.{GrammarToken}
 use Rattle.ag_tokens.specs.GrammarToken as token
 use Rattle.ag_tokens.specs.Laws.{LongestIsCut, NothingIsCut}
-use Rattle.ag_tokens.specs.Lexing.{match_option}
 use Rattle.ag_tokens.specs.Tokens.{starts_name, is_separator, escaped, IsDigits, IsName, IsBody, empty, plain, escape}
-use Rattle.ag_tokens.specs.Tokens.{punctuation_text, IsToken, IsLongest, BeginsNoToken}
+use Rattle.ag_tokens.specs.Tokens.{punctuation_text, IsToken}
 use Rattle.ag_tokens.specs.Lexing.{digits_from, name_from, single_punctuation, double_mark, punctuation_from, escape_from}
 use Rattle.ag_tokens.specs.Lexing.{character_from, after_quote, after_dot, text_from, occurrence_from, plain_from, token_from}
-use Rattle.ag_tokens.proofs.Prefixes.{prefix_passes, prefix_reaches, prefix_ends}
-
-same_number : (a b : ℕ) → (a == b) ≡ true → a ≡ b
-same_number a b e = eqb-true a b e
-
-other_number : (a b : ℕ) → a ≢ b → (a == b) ≡ false
-other_number a b e = grind (arith, nat_tests)
+use Rattle.ag_tokens.proofs.Prefixes.{prefix_passes, prefix_reaches, prefix_ends, take_more, drop_more}
 
 -- ---- the characters that start a name
 
 pub no_start : (k : ℕ) → k < 128 → is_ascii_alphabetic k ≡ false → (k == 95) ≡ false → starts_name k ≡ false
-no_start k small letter line = rw (is_xid_start-ascii k small, letter, line) refl
+no_start k small letter line = rw (is_xid_start-ascii k small, letter, line)
 
-differs : (c k : ℕ) → starts_name c ≡ true → starts_name k ≡ false → (c == k) ≡ false
-differs c k starts other = grind (arith, nat_tests)
-
-name_no_digit : (c : ℕ) → starts_name c ≡ true → is_ascii_digit c ≡ false
-name_no_digit c starts = grind (arith, nat_tests, no_start)
+-- such a character is not a digit, a quote or a dollar sign
+name_first : (c : ℕ) → starts_name c ≡ true → (is_ascii_digit c ≡ false) × ((c == 34) ≡ false) × ((c == 36) ≡ false)
+name_first c starts = grind (arith, nat_tests, no_start)
 
 goes_on : (c : ℕ) → starts_name c ≡ true → is_xid_continue c ≡ true
 goes_on c starts = let line : is_xid_continue 95 ≡ true = is_xid_continue-ascii 95 (lit< tt) in
@@ -55,256 +45,217 @@ digits_sound : (cs d rest : List ℕ) → digits_from cs ≡ Some (d, rest) → 
 digits_sound cs d rest e = grind (arith, nat_tests, take-append-drop, prefix_passes, prefix_len-le-length, length-take-le)
 
 name_sound : (cs n rest : List ℕ) → name_from cs ≡ Some (n, rest) → (cs ≡ n ++ rest) × IsName n
-name_sound [] n rest e = absurd (none-some _ e)
+name_sound [] n rest e = cc
 name_sound (c ∷ cs) n rest e =
     let starts : starts_name c ≡ true = grind arith in
-    let n_is : (n ≡ take (prefix_len is_xid_continue (c ∷ cs)) (c ∷ cs))
-    × (rest ≡ drop (prefix_len is_xid_continue (c ∷ cs)) (c ∷ cs)) = grind arith in
-    let k : prefix_len is_xid_continue (c ∷ cs) ≡ suc (prefix_len is_xid_continue cs) = rw (goes_on c starts) (omega arith) in
-    rw (n_is.0, n_is.1, k) (
-      ap (λ x. c ∷ x) (sym (take-append-drop (prefix_len is_xid_continue cs) cs)),
-      (starts, prefix_passes is_xid_continue cs),
-    )
+    let same = some_pair_parts _ n _ rest (rw (starts, goes_on c starts, take_more, drop_more) at e) in
+    rw (← same.0, ← same.1)
+    (ap (λ x. c ∷ x) (sym (take-append-drop (prefix_len is_xid_continue cs) cs)), (starts, prefix_passes is_xid_continue cs))
 
--- the characters `cs` are the rest of a text literal and its closing quote, followed by `rest`; `prefix` are the bytes that the
--- part read before denotes, and t is the whole token
-abbrev IsTextOf : List ℕ → List ℕ → GrammarToken → List ℕ → Type 0
-IsTextOf prefix cs t rest =
-    (body : List ℕ) × (bytes : List ℕ) × (cs ≡ body ++ 34 ∷ rest) × IsBody body bytes × (t ≡ token.Text (prefix ++ bytes))
+module _ (t : GrammarToken) (rest : List ℕ) where
+  -- the characters `cs` are the rest of a text literal and its closing quote, followed by `rest`; `prefix` are the bytes that the
+  -- part read before denotes, and t is the whole token
+  abbrev IsTextOf : List ℕ → List ℕ → Type 0
+  IsTextOf prefix cs =
+      (body : List ℕ) × (bytes : List ℕ) × (cs ≡ body ++ 34 ∷ rest) × IsBody body bytes × (t ≡ token.Text (prefix ++ bytes))
 
-text_ends : (prefix cs : List ℕ) (t : GrammarToken) (rest : List ℕ)
-    → option_and_then {U = GrammarToken × List ℕ} (λ us. Some (token.Text prefix, us)) (after_quote cs) ≡ Some (t, rest)
-    → IsTextOf prefix cs t rest
-text_ends prefix [] t rest e = absurd (none-some _ e)
-text_ends prefix (c ∷ cs) t rest e = let same : (c ≡ 34) × (cs ≡ rest) × (t ≡ token.Text prefix) = grind (arith, nat_tests) in
-    rw same.0 ([], [], ap (λ x. 34 ∷ x) same.1, empty, same.2 ∙ ap token.Text (sym (append-nil prefix)))
+  text_ends : (prefix cs : List ℕ)
+      → option_and_then {U = GrammarToken × List ℕ} (λ us. Some (token.Text prefix, us)) (after_quote cs) ≡ Some (t, rest)
+      → IsTextOf prefix cs
+  text_ends prefix [] e = cc
+  text_ends prefix (c ∷ cs) e = let same : (c ≡ 34) × (cs ≡ rest) × (t ≡ token.Text prefix) = grind (arith, nat_tests) in
+      ([], [], cc, empty, cc (append-nil prefix))
 
-text_escape : (prefix cs : List ℕ) (d : ℕ) (us : List ℕ) (t : GrammarToken) (rest : List ℕ) → escape_from cs ≡ Some (d, us)
-    → IsTextOf (prefix ++ encode_utf8 d) us t rest → IsTextOf prefix (92 ∷ cs) t rest
-text_escape prefix [] d us t rest e more = absurd (none-some _ e)
-text_escape prefix (c ∷ cs) d us t rest e (body, bytes, split, is, same) =
-    let of : (escaped c ≡ Some d) × (cs ≡ us) = grind arith in (
-      92 ∷ c ∷ body,
-      encode_utf8 d ++ bytes,
-      ap (λ x. 92 ∷ c ∷ x) (of.1 ∙ split),
-      escape c d body bytes of.0 is,
-      same ∙ ap token.Text (append_assoc prefix (encode_utf8 d) bytes),
-    )
+  text_escape : (prefix cs us : List ℕ) (d : ℕ) → escape_from cs ≡ Some (d, us) → IsTextOf (prefix ++ encode_utf8 d) us
+      → IsTextOf prefix (92 ∷ cs)
+  text_escape prefix [] us d e more = cc
+  text_escape prefix (c ∷ cs) us d e (body, bytes, split, is, same) =
+      let of : (escaped c ≡ Some d) × (cs ≡ us) = grind arith in
+      (92 ∷ c ∷ body, encode_utf8 d ++ bytes, cc, escape c d body bytes of.0 is, cc (append_assoc prefix (encode_utf8 d) bytes))
 
-text_step : (prefix cs : List ℕ) (d : ℕ) (us : List ℕ) (t : GrammarToken) (rest : List ℕ) → character_from cs ≡ Some (d, us)
-    → IsTextOf (prefix ++ encode_utf8 d) us t rest → IsTextOf prefix cs t rest
-text_step prefix [] d us t rest e more = absurd (none-some _ e)
-text_step prefix (c ∷ cs) d us t rest e more = go (c == 92) refl
-  where
-    go : (b : Bool) → (c == 92) ≡ b → IsTextOf prefix (c ∷ cs) t rest
-    go true q = let at : (c ≡ 92) × (escape_from cs ≡ Some (d, us)) = grind (arith, nat_tests) in
-        rw at.0 (text_escape prefix cs d us t rest at.1 more)
-    go false q =
-        let same : (c ≡ d) × (cs ≡ us) × (c ≢ 34) × (c ≢ 92) = grind (arith, nat_tests) in (
+  text_step : (prefix cs us : List ℕ) (d : ℕ) → character_from cs ≡ Some (d, us) → IsTextOf (prefix ++ encode_utf8 d) us
+      → IsTextOf prefix cs
+  text_step prefix [] us d e more = cc
+  text_step prefix (c ∷ cs) us d e more = elim (cases_eq c 92) [
+    | inl same ↦ rw same (text_escape prefix cs us d (rw same at e) more)
+    | inr other ↦
+        let same : (c ≡ d) × (cs ≡ us) × (c ≢ 34) = grind (arith, nat_tests) in (
           c ∷ more.0,
           encode_utf8 c ++ more.1,
-          ap (λ x. c ∷ x) (same.1 ∙ more.2),
-          plain c more.0 more.1 same.2 same.3 more.3,
-          rw same.0 (more.4 ∙ ap token.Text (append_assoc prefix (encode_utf8 d) more.1)),
+          cc,
+          plain c more.0 more.1 same.2 other more.3,
+          cc (append_assoc prefix (encode_utf8 d) more.1),
         )
+  ]
 
-text_sound : (n : ℕ) (prefix cs : List ℕ) (t : GrammarToken) (rest : List ℕ) → text_from n prefix cs ≡ Some (t, rest)
-    → IsTextOf prefix cs t rest
-unfolding text_from
-text_sound zero prefix cs t rest e = absurd (none-some _ e)
-text_sound (suc n) prefix cs t rest e = go (character_from cs) refl (text_sound n) e
-  where
-    go : (o : Option (ℕ × List ℕ)) → character_from cs ≡ o
-        → ((prefix cs : List ℕ) (t : GrammarToken) (rest : List ℕ) → text_from n prefix cs ≡ Some (t, rest)
-        → IsTextOf prefix cs t rest)
-        → match_option o (option_and_then (λ us. Some (token.Text prefix, us)) (after_quote cs))
-        (λ p. text_from n (prefix ++ encode_utf8 p.0) p.1) ≡ Some (t, rest) → IsTextOf prefix cs t rest
-    go None p more h = text_ends prefix cs t rest h
-    go (Some x) p more h = text_step prefix cs x.0 x.1 t rest p (more (prefix ++ encode_utf8 x.0) x.1 t rest h)
+  text_sound : (n : ℕ) (prefix cs : List ℕ) → text_from n prefix cs ≡ Some (t, rest) → IsTextOf prefix cs
+  unfolding text_from
+  text_sound zero prefix cs e = cc
+  text_sound (suc n) prefix cs e = elim (none_or_some (character_from cs)) [
+    | inl none ↦ text_ends prefix cs (rw none at e)
+    | inr (x, is) ↦ text_step prefix cs x.1 x.0 is (text_sound n (prefix ++ encode_utf8 x.0) x.1 (rw is at e))
+  ]
 
 single_sound : (c : ℕ) (s : Punctuation) → single_punctuation c ≡ Some s → c ∷ [] ≡ punctuation_text s
 single_sound c s e = grind (arith, nat_tests)
 
 doubled_sound : (k : ℕ) (two one : Punctuation) → punctuation_text two ≡ k ∷ k ∷ [] → punctuation_text one ≡ k ∷ []
     → (cs : List ℕ) → k ∷ cs ≡ punctuation_text (double_mark k two one cs).0 ++ (double_mark k two one cs).1
-doubled_sound k two one p q [] = rw q refl
+doubled_sound k two one p q [] = rw q
 doubled_sound k two one p q (c ∷ cs) = grind (arith, nat_tests)
 
 punctuation_sound : (cs : List ℕ) (s : Punctuation) (rest : List ℕ) → punctuation_from cs ≡ Some (s, rest)
     → cs ≡ punctuation_text s ++ rest
-punctuation_sound [] s rest e = absurd (none-some _ e)
+punctuation_sound [] s rest e = cc
 punctuation_sound (c ∷ cs) s rest e = grind (arith, nat_tests, single_sound, doubled_sound)
 
 -- a token was read from the beginning of the characters
-pub record IsCut (cs : List ℕ) (t : GrammarToken) (rest : List ℕ) : Type 0 where
-  pub word : List ℕ
-  pub split : cs ≡ word ++ rest
-  pub token : IsToken word t
+abbrev IsCut : List ℕ → GrammarToken → List ℕ → Type 0
+IsCut cs t rest = (word : List ℕ) × (cs ≡ word ++ rest) × IsToken word t
 
-undotted_sound : (cs rest : List ℕ) → after_dot cs ≡ Some rest → cs ≡ 46 ∷ rest
-undotted_sound cs rest e = grind (arith, nat_tests)
+is_cut : {cs : List ℕ} {t u : GrammarToken} {rest us : List ℕ} (word : List ℕ)
+    → ◌≡◌ {A = Option (GrammarToken × List ℕ)} (Some (u, us)) (Some (t, rest)) → cs ≡ word ++ us → IsToken word u
+    → IsCut cs t rest
+is_cut word same split is = let parts = some_pair_parts _ _ _ _ same in rw (← parts.0, ← parts.1) (word, split, is)
 
 occurrence_sound : (cs : List ℕ) (t : GrammarToken) (rest : List ℕ) → occurrence_from cs ≡ Some (t, rest) → IsCut (36 ∷ cs) t rest
 occurrence_sound cs t rest e =
-    let one = opened (digits_from cs) _ (t, rest) e in
-    let two = opened (after_dot one.0.1) _ (t, rest) one.2 in
-    let three = opened (name_from two.0) _ (t, rest) two.2 in
-    let digits = digits_sound cs one.0.0 one.0.1 one.1 in
-    let dot = undotted_sound one.0.1 two.0 two.1 in
-    let name = name_sound two.0 three.0.0 three.0.1 three.1 in
-    let same : (token.Occurrence (digits_value 10 one.0.0) (encode_utf8_all three.0.0), three.0.1) ≡ (t, rest) =
-    same_Some _ _ three.2 in
-    let split : cs ≡ (one.0.0 ++ 46 ∷ three.0.0) ++ three.0.1 =
-    digits.0 ∙ ap (λ x. one.0.0 ++ x) (dot ∙ ap (λ x. 46 ∷ x) name.0)
-    ∙ sym (append_assoc one.0.0 (46 ∷ three.0.0) three.0.1) in
-    subst (λ (x : GrammarToken × List ℕ). IsCut (36 ∷ cs) x.0 x.1) same
-    (record {
-      word = 36 ∷ (one.0.0 ++ 46 ∷ three.0.0);
-      split = ap (λ x. 36 ∷ x) split;
-      token = (one.0.0, three.0.0, refl, digits.1, name.1, refl, refl);
-    })
+    option_and_then_some _ (digits_from cs) _ e (λ d is_d after.
+    option_and_then_some _ (after_dot d.1) _ after (λ us is_dot after'.
+    option_and_then_some _ (name_from us) _ after' (λ n is_n same.
+    let digits = digits_sound cs d.0 d.1 is_d in
+    let dot : d.1 ≡ 46 ∷ us = grind (arith, nat_tests) in
+    let name = name_sound us n.0 n.1 is_n in
+    is_cut (36 ∷ (d.0 ++ 46 ∷ n.0)) same (cc (append_assoc d.0 (46 ∷ n.0) n.1))
+    (d.0, n.0, refl, digits.1, name.1, refl, refl))))
 
 plain_sound : (cs : List ℕ) (t : GrammarToken) (rest : List ℕ) → plain_from cs ≡ Some (t, rest) → IsCut cs t rest
 plain_sound cs t rest e = by (digits_from cs) (name_from cs) (punctuation_from cs) refl refl refl
   where
     by : (d n : Option (List ℕ × List ℕ)) (s : Option (Punctuation × List ℕ)) → digits_from cs ≡ d → name_from cs ≡ n
         → punctuation_from cs ≡ s → IsCut cs t rest
-    by (Some d) n s is_d is_n is_s =
-        let digits = digits_sound cs d.0 d.1 is_d in
-        let same : (t ≡ token.Number (pos (digits_value 10 d.0))) × (rest ≡ d.1) = grind arith in
-        rw (same.0, same.1) (record { word = d.0; split = digits.0; token = (digits.1, refl) })
-    by None (Some n) s is_d is_n is_s =
-        let name = name_sound cs n.0 n.1 is_n in
-        let same : (t ≡ token.Name (encode_utf8_all n.0)) × (rest ≡ n.1) = grind arith in
-        rw (same.0, same.1) (record { word = n.0; split = name.0; token = (name.1, refl) })
+    by (Some d) n s is_d is_n is_s = let digits = digits_sound cs d.0 d.1 is_d in
+        is_cut d.0 (rw is_d at e) digits.0 (digits.1, refl)
+    by None (Some n) s is_d is_n is_s = let name = name_sound cs n.0 n.1 is_n in
+        is_cut n.0 (rw (is_d, is_n) at e) name.0 (name.1, refl)
     by None None (Some s) is_d is_n is_s =
-        let same : (t ≡ token.Punctuation s.0) × (rest ≡ s.1) = grind arith in
-        rw (same.0, same.1) (record { word = punctuation_text s.0; split = punctuation_sound cs s.0 s.1 is_s; token = refl })
-    by None None None is_d is_n is_s = let bad : ⊥ = grind arith in absurd bad
+        is_cut (punctuation_text s.0) (rw (is_d, is_n, is_s) at e) (punctuation_sound cs s.0 s.1 is_s) refl
+    by None None None is_d is_n is_s = absurd (none-some _ (rw (is_d, is_n, is_s) at e))
 
-text_literal_sound : (cs : List ℕ) (t : GrammarToken) (rest : List ℕ) → text_from (length cs) [] cs ≡ Some (t, rest)
-    → IsCut (34 ∷ cs) t rest
-text_literal_sound cs t rest e =
-    let found = text_sound (length cs) [] cs t rest e in
-    rw found.4
-    (record {
-      word = 34 ∷ (found.0 ++ 34 ∷ []);
-      split = ap (λ x. 34 ∷ x) (found.2 ∙ sym (append_assoc found.0 (34 ∷ []) rest));
-      token = (found.0, refl, found.3);
-    })
-
-pub token_sound : (cs : List ℕ) (t : GrammarToken) (rest : List ℕ) → token_from cs ≡ Some (t, rest) → IsCut cs t rest
+pub token_sound : (cs : List ℕ) {t : GrammarToken} {rest : List ℕ} → token_from cs ≡ Some (t, rest) → IsCut cs t rest
 unfolding token_from
-token_sound [] t rest e = absurd (none-some _ e)
-token_sound (c ∷ cs) t rest e = go (c == 34) (c == 36) refl refl e
-  where
-    go : (a b : Bool) → (c == 34) ≡ a → (c == 36) ≡ b
-        → cond a (text_from (length cs) [] cs) (cond b (occurrence_from cs) (plain_from (c ∷ cs))) ≡ Some (t, rest)
-        → IsCut (c ∷ cs) t rest
-    go true b p q h = subst (λ k. IsCut (k ∷ cs) t rest) (sym (same_number c 34 p)) (text_literal_sound cs t rest h)
-    go false true p q h = subst (λ k. IsCut (k ∷ cs) t rest) (sym (same_number c 36 q)) (occurrence_sound cs t rest h)
-    go false false p q h = plain_sound (c ∷ cs) t rest h
+token_sound [] e = cc
+token_sound (c ∷ cs) {t} {rest} e = elim (cases_eq c 34) [
+  | inl quote ↦
+      let (body, bytes, split, is, same) = text_sound t rest (length cs) [] cs (rw quote at e) in
+      rw (quote, same) (34 ∷ (body ++ 34 ∷ []), cc (append_assoc body (34 ∷ []) rest), (body, refl, is))
+  | inr other ↦ elim (cases_eq c 36) [
+    | inl dollar ↦ rw dollar (occurrence_sound cs t rest (rw dollar at e))
+    | inr different ↦ plain_sound (c ∷ cs) t rest (rw (ne_eqb c 34 other, ne_eqb c 36 different) at e)
+  ]
+]
 
 -- ---- if characters begin with a token, the lexer reads one that is at least as long; if it is as long, it
 -- is that token
 
 -- the lexer reads at least the word before `more`; if it reads exactly this word, the result has the value `a`
-record Reaches {A : Type 0} (a : A) (more : List ℕ) (found : Option (A × List ℕ)) : Type 0 where
-  pub cut : A × List ℕ
-  pub is : found ≡ Some cut
-  pub far : length cut.1 ≤ length more
-  pub same : length cut.1 ≡ length more → cut.0 ≡ a
+pub record Reaches {A : Type 0} (a : A) (more : List ℕ) (found : Option (A × List ℕ)) : Type 0 where
+  pub value : A
+  pub left : List ℕ
+  pub is : found ≡ Some (value, left)
+  pub far : length left ≤ length more
+  pub same : length left ≡ length more → value ≡ a
 
-prefix_reach : (p : ℕ → Bool) (word more : List ℕ) → length word ≤ prefix_len p (word ++ more)
+prefix_reach : (p : ℕ → Bool) (word more : List ℕ) → list_all p word ≡ true
     → Reaches word more
     (Some (take (prefix_len p (word ++ more)) (word ++ more), drop (prefix_len p (word ++ more)) (word ++ more)))
-prefix_reach p word more far = record {
-  cut = _;
-  is = refl;
-  far = omega (arith, length-drop {A = ℕ}, length-append word more);
-  same = λ ends.
-      let within = prefix_len-le-length p (word ++ more) in
-      let k : prefix_len p (word ++ more) ≡ length word = omega (arith, length-drop {A = ℕ}, length-append word more) in
-      rw k (take-append_seam word more);
-}
+prefix_reach p word more all =
+    let reaches = prefix_reaches p word more all in
+    let within = prefix_len-le-length p (word ++ more) in
+    record {
+      value = _;
+      left = _;
+      is = refl;
+      far = omega (arith, length-drop {A = ℕ}, length-append word more);
+      same = λ ends.
+          let k : prefix_len p (word ++ more) ≡ length word = omega (arith, length-drop {A = ℕ}, length-append word more) in
+          rw k (take-append_seam word more);
+    }
 
 digits_reach : (word more : List ℕ) → IsDigits word → Reaches word more (digits_from (word ++ more))
 digits_reach word more (some, all) =
     let far = prefix_reaches is_ascii_digit word more all in
     let some' : (prefix_len is_ascii_digit (word ++ more) == 0) ≡ false = grind (arith, nat_tests) in
-    rw some' (prefix_reach is_ascii_digit word more far)
+    rw some' (prefix_reach is_ascii_digit word more all)
 
 name_reach : (word more : List ℕ) → IsName word → Reaches word more (name_from (word ++ more))
 name_reach [] more is = absurd is
 name_reach (c ∷ word) more (starts, all) =
-    let here = goes_on c starts in
-    let following = prefix_reaches is_xid_continue word more all in
-    let far : length (c ∷ word) ≤ prefix_len is_xid_continue (c ∷ (word ++ more)) = rw here (omega arith) in
-    rw starts (prefix_reach is_xid_continue (c ∷ word) more far)
+    rw starts (prefix_reach is_xid_continue (c ∷ word) more (rw (goes_on c starts, all)))
 
 text_reach : (body bytes : List ℕ) → IsBody body bytes → (n : ℕ) (prefix more : List ℕ) → length body < n
     → text_from n prefix (body ++ 34 ∷ more) ≡ Some (token.Text (prefix ++ bytes), more)
 unfolding text_from
-text_reach body bytes is zero prefix more lt = let bad : ⊥ = omega arith in absurd bad
-text_reach _ _ empty (suc n) prefix more lt = ap (λ y. Some (token.Text y, more)) (sym (append-nil prefix))
+text_reach _ _ empty (suc n) prefix more lt = rw append-nil
 text_reach _ _ (plain c body bytes a b is) (suc n) prefix more lt =
-    let rest = text_reach body bytes is n (prefix ++ encode_utf8 c) more (omega arith) in
-    rw (other_number c 34 a, other_number c 92 b)
-    (rest ∙ ap (λ y. Some (token.Text y, more)) (append_assoc prefix (encode_utf8 c) bytes))
+    rw (
+      ne_eqb c 34 a,
+      ne_eqb c 92 b,
+      text_reach body bytes is n (prefix ++ encode_utf8 c) more (omega arith),
+      append_assoc prefix (encode_utf8 c) bytes,
+    )
 text_reach _ _ (escape c d body bytes a is) (suc n) prefix more lt =
-    let rest = text_reach body bytes is n (prefix ++ encode_utf8 d) more (omega arith) in
-    rw a (rest ∙ ap (λ y. Some (token.Text y, more)) (append_assoc prefix (encode_utf8 d) bytes))
+    rw (a, text_reach body bytes is n (prefix ++ encode_utf8 d) more (omega arith), append_assoc prefix (encode_utf8 d) bytes)
+text_reach _ _ _ zero prefix more lt = absurd (omega arith)
 
 -- `Reaches` for a result that has the value `f x` in place of the value x
-reach_as : {A B : Type 0} (f : A → B) (a : A) (more : List ℕ) (found : Option (A × List ℕ)) (made : Option (B × List ℕ))
-    (x : Reaches a more found) → made ≡ Some (f x.cut.0, x.cut.1) → Reaches (f a) more made
-reach_as f a more found made x is = record { cut = (f x.cut.0, x.cut.1); is = is; far = x.far; same = λ ends. ap f (x.same ends) }
+reach_as : {A B : Type 0} (f : A → B) {a : A} {more : List ℕ} {found : Option (A × List ℕ)} {made : Option (B × List ℕ)}
+    (x : Reaches a more found) → made ≡ Some (f x.value, x.left) → Reaches (f a) more made
+reach_as f x is = record { value = f x.value; left = x.left; is = is; far = x.far; same = λ ends. ap f (x.same ends) }
 
 number_reached : (word more : List ℕ) → IsDigits word
     → Reaches (token.Number (pos (digits_value 10 word))) more (token_from (word ++ more))
 unfolding token_from
-number_reached [] more is = let none = is.0 in let bad : ⊥ = omega arith in absurd bad
+number_reached [] more is = absurd (omega arith)
 number_reached (c ∷ word) more is =
-    let here : is_ascii_digit c ≡ true = (and_parts (is_ascii_digit c) (list_all is_ascii_digit word) is.1).0 in
-    let found = digits_reach (c ∷ word) more is in
     let other : ((c == 34) ≡ false) × ((c == 36) ≡ false) = grind (arith, nat_tests) in
-    reach_as (λ w. token.Number (pos (digits_value 10 w))) (c ∷ word) more _ _ found (rw (other.0, other.1, found.is) refl)
+    let found = digits_reach (c ∷ word) more is in
+    reach_as (λ w. token.Number (pos (digits_value 10 w))) found (rw (other.0, other.1, found.is))
 
 name_reached : (word more : List ℕ) → IsName word → Reaches (token.Name (encode_utf8_all word)) more (token_from (word ++ more))
 unfolding token_from
 name_reached [] more is = absurd is
 name_reached (c ∷ word) more is =
+    let other = name_first c is.0 in
     let found = name_reach (c ∷ word) more is in
-    let quote = differs c 34 is.0 (no_start 34 (lit< tt) refl refl) in
-    let dollar = differs c 36 is.0 (no_start 36 (lit< tt) refl refl) in
-    reach_as (λ w. token.Name (encode_utf8_all w)) (c ∷ word) more _ _ found
-    (rw (quote, dollar, name_no_digit c is.0, found.is) refl)
+    reach_as (λ w. token.Name (encode_utf8_all w)) found (rw (other.1, other.2, other.0, found.is))
 
 text_reached : (body bytes more : List ℕ) → IsBody body bytes
     → Reaches (token.Text bytes) more (token_from (34 ∷ ((body ++ 34 ∷ []) ++ more)))
 unfolding token_from
-text_reached body bytes more is =
-    let far : length body < length (body ++ 34 ∷ more) = omega (arith, length-append body (34 ∷ more)) in
-    record {
-      cut = (token.Text bytes, more);
-      is = rw (append_assoc body (34 ∷ []) more) (text_reach body bytes is (length (body ++ 34 ∷ more)) [] more far);
-      far = omega arith;
-      same = λ ends. refl;
-    }
+text_reached body bytes more is = record {
+  value = token.Text bytes;
+  left = more;
+  is =
+      rw (append_assoc body (34 ∷ []) more)
+      (text_reach body bytes is (length (body ++ 34 ∷ more)) [] more (omega (arith, length-append body (34 ∷ more))));
+  far = omega arith;
+  same = λ ends. refl;
+}
 
 occurrence_reached : (digits name more : List ℕ) → IsDigits digits → IsName name
     → Reaches (token.Occurrence (digits_value 10 digits) (encode_utf8_all name)) more
     (token_from (36 ∷ ((digits ++ 46 ∷ name) ++ more)))
 unfolding token_from
 occurrence_reached digits name more is called =
-    let ends : prefix_len is_ascii_digit (digits ++ 46 ∷ (name ++ more)) ≡ length digits =
-    prefix_ends is_ascii_digit digits (name ++ more) 46 is.1 refl in
-    let some' : (length digits == 0) ≡ false = let some = is.0 in grind (arith, nat_tests) in
-    let cut : digits_from (digits ++ 46 ∷ (name ++ more)) ≡ Some (digits, 46 ∷ (name ++ more)) =
-    rw (ends, some', take-append_seam digits (46 ∷ (name ++ more)), drop-append_seam digits (46 ∷ (name ++ more))) refl in
+    let after = 46 ∷ (name ++ more) in
+    let ends = prefix_ends is_ascii_digit digits (name ++ more) 46 is.1 refl in
+    let some' : (length digits == 0) ≡ false = grind (arith, nat_tests) in
+    let cut : digits_from (digits ++ after) ≡ Some (digits, after) =
+    rw (ends, some', take-append_seam digits after, drop-append_seam digits after) in
     let found = name_reach name more called in
-    reach_as (λ w. token.Occurrence (digits_value 10 digits) (encode_utf8_all w)) name more _ _ found
-    (rw (append_assoc digits (46 ∷ name) more, cut, found.is) refl)
+    reach_as (λ w. token.Occurrence (digits_value 10 digits) (encode_utf8_all w)) found
+    (rw (append_assoc digits (46 ∷ name) more, cut, found.is))
 
 -- the punctuation that the lexer reads at a mark before `more`: the mark, or its doubled form
 abbrev mark_cut : Punctuation → List ℕ → Punctuation × List ℕ
@@ -312,33 +263,19 @@ mark_cut punctuation.Plus more = double_mark 43 punctuation.Join punctuation.Plu
 mark_cut punctuation.Equal more = double_mark 61 punctuation.EqualEqual punctuation.Equal more
 mark_cut s more = (s, more)
 
-pub mark_is : (s : Punctuation) (more : List ℕ)
-    → token_from (punctuation_text s ++ more) ≡ Some (token.Punctuation (mark_cut s more).0, (mark_cut s more).1)
-unfolding token_from
-mark_is s more = grind (arith, nat_tests, no_start)
-
-doubled_short : (k : ℕ) (two one : Punctuation) (cs : List ℕ)
-    → (length (double_mark k two one cs).1 ≤ length cs)
-    × (length (double_mark k two one cs).1 ≡ length cs → (double_mark k two one cs).0 ≡ one)
-doubled_short k two one cs = (grind arith, grind arith)
-
-mark_far : (s : Punctuation) (more : List ℕ)
-    → (length (mark_cut s more).1 ≤ length more) × (length (mark_cut s more).1 ≡ length more → (mark_cut s more).0 ≡ s)
-mark_far punctuation.Plus more = doubled_short 43 punctuation.Join punctuation.Plus more
-mark_far punctuation.Equal more = doubled_short 61 punctuation.EqualEqual punctuation.Equal more
-mark_far s more = (grind arith, grind arith)
-
 punctuation_reached : (s : Punctuation) (more : List ℕ)
     → Reaches (token.Punctuation s) more (token_from (punctuation_text s ++ more))
+unfolding token_from
 punctuation_reached s more =
     record {
-      cut = (token.Punctuation (mark_cut s more).0, (mark_cut s more).1);
-      is = mark_is s more;
-      far = (mark_far s more).0;
-      same = λ ends. ap token.Punctuation ((mark_far s more).1 ends);
+      value = token.Punctuation (mark_cut s more).0;
+      left = (mark_cut s more).1;
+      is = grind (arith, nat_tests, no_start);
+      far = grind arith;
+      same = grind arith;
     }
 
-token_reached : (word more : List ℕ) (t : GrammarToken) → IsToken word t → Reaches t more (token_from (word ++ more))
+pub token_reached : (word more : List ℕ) (t : GrammarToken) → IsToken word t → Reaches t more (token_from (word ++ more))
 token_reached word more (token.Number n) is = rw is.1 (number_reached word more is.0)
 token_reached word more (token.Text bytes) is = rw is.1 (text_reached is.0 bytes more is.2)
 token_reached word more (token.Name bytes) is = rw is.1 (name_reached word more is.0)
@@ -347,56 +284,33 @@ token_reached word more (token.Punctuation s) is = rw is (punctuation_reached s 
 
 -- ---- the lexer reads the longest token, and if it reads none, no token begins there
 
-pub cut_longest : (cs : List ℕ) (t : GrammarToken) (rest word : List ℕ) → token_from cs ≡ Some (t, rest) → cs ≡ word ++ rest
-    → IsLongest word rest
-cut_longest cs t rest word e split longer more u same is =
-    let found = token_reached longer more u is in
-    let two : Some (t, rest) ≡ Some found.cut = sym e ∙ ap token_from (split ∙ same) ∙ found.is in
-    let equal : length rest ≡ length found.cut.1 = ap (λ (x : GrammarToken × List ℕ). length x.1) (same_Some _ _ two) in
-    omega (arith, found.far, ap length same, length-append word rest, length-append longer more)
-
-pub cut_none : (cs : List ℕ) → token_from cs ≡ None → BeginsNoToken cs
-cut_none cs e word more t split is =
-    let found = token_reached word more t is in
-    let both : None ≡ Some found.cut = sym e ∙ ap token_from split ∙ found.is in
-    absurd (none-some _ both)
-
 pub longest_is_cut : LongestIsCut
-longest_is_cut cs rest t e = let cut = token_sound cs t rest e in
-    (cut.word, cut.split, cut.token, cut_longest cs t rest cut.word e cut.split)
+longest_is_cut cs rest t e = let cut = token_sound cs e in (
+  cut.0,
+  cut.1,
+  cut.2,
+  λ longer more u same is.
+      let found = token_reached longer more u is in
+      let equal = some_pair_parts t found.value rest found.left (cc) in
+      omega (arith, ap length equal.1, ap length same, length-append cut.0 rest, length-append longer more),
+)
 
 pub nothing_is_cut : NothingIsCut
-nothing_is_cut = cut_none
+nothing_is_cut cs e word more t split is = let found = token_reached word more t is in cc
 
--- ---- a word spells at most one token, and no token begins with a separator
-
-pub one_token : (word : List ℕ) (t u : GrammarToken) → IsToken word t → IsToken word u → t ≡ u
-one_token word t u is also =
-    let a = token_reached word [] t is in
-    let b = token_reached word [] u also in
-    let both : a.cut ≡ b.cut = same_Some _ _ (sym a.is ∙ b.is) in
-    sym (a.same (omega (arith, a.far))) ∙ ap (λ (x : GrammarToken × List ℕ). x.0) both ∙ b.same (omega (arith, b.far))
+-- ---- no token begins with a separator
 
 -- the word begins with a character that is not a separator
 abbrev pub IsPlainWord : List ℕ → Type 0
 IsPlainWord [] = ⊥
 IsPlainWord (c ∷ cs) = is_separator c ≡ false
 
-digits_plain : (word : List ℕ) → IsDigits word → IsPlainWord word
-digits_plain word is = grind (arith, nat_tests)
-
-name_plain : (word : List ℕ) → IsName word → IsPlainWord word
-name_plain word is = grind (arith, nat_tests, no_start)
-
-punctuation_plain : (s : Punctuation) → IsPlainWord (punctuation_text s)
-punctuation_plain s = grind arith
-
 pub begins_plain : (word : List ℕ) (t : GrammarToken) → IsToken word t → IsPlainWord word
-begins_plain word (token.Number n) is = digits_plain word is.0
-begins_plain word (token.Text bytes) is = rw is.1 refl
-begins_plain word (token.Name bytes) is = name_plain word is.0
-begins_plain word (token.Occurrence place attr) is = rw is.2 refl
-begins_plain word (token.Punctuation s) is = rw is (punctuation_plain s)
+begins_plain word (token.Number n) is = grind (arith, nat_tests)
+begins_plain word (token.Text bytes) is = rw is.1
+begins_plain word (token.Name bytes) is = grind (arith, nat_tests, no_start)
+begins_plain word (token.Occurrence place attr) is = rw is.2
+begins_plain word (token.Punctuation s) is = grind arith
 
 pub word_some : (word : List ℕ) (t : GrammarToken) → IsToken word t → 0 < length word
 word_some word t is = let plain = begins_plain word t is in grind arith
@@ -407,9 +321,5 @@ pub marked_token : (c : ℕ) (cs : List ℕ) (s : Punctuation) (rest : List ℕ)
     → punctuation_from (c ∷ cs) ≡ Some (s, rest) → token_from (c ∷ cs) ≡ Some (token.Punctuation s, rest)
 unfolding token_from
 marked_token c cs s rest digit name mark =
-    let none : digits_from (c ∷ cs) ≡ None = grind arith in
-    let unnamed : name_from (c ∷ cs) ≡ None = grind arith in
-    let plain : plain_from (c ∷ cs) ≡ Some (token.Punctuation s, rest) = rw (none, unnamed, mark) refl in
-    let token : cond (c == 34) (text_from (length cs) [] cs) (cond (c == 36) (occurrence_from cs) (plain_from (c ∷ cs)))
-    ≡ plain_from (c ∷ cs) = grind (arith, nat_tests) in
-    token ∙ plain
+    let other : ((c == 34) ≡ false) × ((c == 36) ≡ false) = grind (arith, nat_tests) in
+    rw (other.0, other.1, digit, name, mark)

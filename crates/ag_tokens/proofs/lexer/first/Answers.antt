@@ -1,4 +1,4 @@
-use Rattle.std.proofs.Common.{◌≡◌, ◌++◌, length, encode_utf8, sym, ap, ◌∙◌}
+use Rattle.std.proofs.Common.{◌≡◌, ◌++◌, encode_utf8}
 use Rattle.std.proofs.lemmas.Str.{chars_past_char}
 use Rattle.ag_tokens.proofs.Spans.{empty_text}
 use Rattle.ag_tokens.proofs.lexer.first.Goals as goal
@@ -6,9 +6,8 @@ use Rattle.ag_tokens.proofs.lexer.first.Goals as goal
 pub returns-in-Some : goal.returns-in-Some
 returns-in-Some c =
     let split : c.args.text.now ≡ encode_utf8 c.in-Some.c ++ c.as_str.result.now =
-    sym c.chars-characters.ensures.rest ∙ c.in-Some.ensures.steps.0
-    ∙ ap (λ t. encode_utf8 c.in-Some.c ++ t) (sym c.as_str.ensures) in
+    cc (c.chars-characters.ensures.rest, c.in-Some.ensures.steps.0, c.as_str.ensures) in
     (chars_past_char _ _ _ c.utf8.text split, split)
 
 pub returns-in-None : goal.returns-in-None
-returns-in-None c = empty_text c.args.text.now (ap length (sym c.chars-characters.ensures.rest) ∙ c.in-None.ensures.steps.0.0)
+returns-in-None c = empty_text c.args.text.now (cc (c.chars-characters.ensures.rest, c.in-None.ensures.steps.0.0))

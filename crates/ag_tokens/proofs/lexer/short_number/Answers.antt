@@ -5,21 +5,18 @@ use Rattle.ag_tokens.proofs.Numerals.{begins, goes_on, value_of, rest_of}
 use Rattle.ag_tokens.proofs.lexer.short_number.Goals as goal
 
 pub loop-c-init : goal.loop-c-init
-loop-c-init c = (c.utf8.text, begins c.args.digit c.args.text.now c.requires)
+loop-c-init c = (c.utf8.text, begins c.requires)
 
 pub loop-c-preserved : goal.loop-c-preserved
-loop-c-preserved c =
-    let so_far = c.loop-c.invariant.1 in (
-      search rules,
-      goes_on _ c.loop-c.number c.loop-c.rest.now c.in-Some.c c.in-Some.following.now c.in-Some.ensures.0 c.in-Some.ensures.1.0
-          c.if-number-gt99999999999999999.false so_far,
-    )
+loop-c-preserved c = (
+  search rules,
+  goes_on c.in-Some.ensures.0 c.in-Some.ensures.1.0 c.if-number-gt99999999999999999.false c.loop-c.invariant.1,
+)
 
 pub returns-clause-value : goal.returns-clause-value
 returns-clause-value c =
-    let so_far = c.loop-c.invariant.1 in
-    let small = so_far.small in
-    to_z_pos w64 c.loop-c.number (omega arith) ∙ ap pos (value_of _ c.loop-c.number c.loop-c.rest.now c.in_default.ensures so_far)
+    let small = c.loop-c.invariant.1.small in
+    to_z_pos w64 c.loop-c.number (omega arith) ∙ ap pos (value_of c.in_default.ensures c.loop-c.invariant.1)
 
 pub returns-clause-rest : goal.returns-clause-rest
-returns-clause-rest c = rest_of _ c.loop-c.number c.loop-c.rest.now c.in_default.ensures c.loop-c.invariant.1
+returns-clause-rest c = rest_of c.in_default.ensures c.loop-c.invariant.1
