@@ -1,9 +1,10 @@
 -- A list that agrees runs, if each rule may use its arguments.
 use Rattle.passcode.proofs.Common
 use Common.{ℕ, zero, suc, ◌≡◌, ◌<◌, ◌≤◌, inl, inr, List, Some, slice_get, length, refl, ap, ◌∙◌, sym, subst, arith, cases_eq}
-use Common.{cases_lt, slice_get_within, Has, Production, Rule, Target, item_at, IsArgument, Passes, HasPass, IsBefore, IsLegalFor}
-use Common.{MayUse, direction_of, Instr, HasPlace, IsAvailableAt, IsChild, ListAgrees, IsRuleAt, OccursOnceIf, set_or_def}
-use Common.{instruction_of, AreDone, Phase, State, Between, Got, Gone, Ended, IsTurnOf, MayCompute, MayRun, Runs, after, arity}
+use Common.{slice_get_within, Has, Production, Rule, Target, IsArgument, Passes, HasPass, IsLegalFor}
+use Common.{MayUse, Instr, IsAvailableAt, IsChild, IsComputation, ListAgrees, IsRuleAt}
+use Common.{Precedes, OccursBefore, OccursOnceIf, set_or_def}
+use Common.{instruction_of, Phase, State, Between, Got, Gone, Ended, IsTurnOf, MayCompute, MayRun, Runs, arity}
 use Common.{place_of, read_count, run_count, start, state_at}
 use Common.item
 use Common.instr
@@ -12,7 +13,7 @@ use Rattle.passcode.proofs.Agreeing.{has_symbol}
 use Rattle.passcode.proofs.Marks.{end_mark, get_mark, go_mark, got_child, put_mark, read_in, read_is, read_within, run_is}
 use Rattle.passcode.proofs.Marks.{rule_mark, run_in}
 use Rattle.passcode.proofs.States.{IsMark, MayRunTo, index_runs, kept, marked, occurs}
-use Rattle.passcode.proofs.Turns.{is_stored_child, place_before, turn_of}
+use Rattle.passcode.proofs.Turns.{IsTurn, in_order, is_stored_child, its_turn}
 
 -- the phase of a node, from the number of children that were read and that of those in which the pass has run
 phase_between : (p : Phase) (t : ℕ) → read_count p t ≤ t → (p ≡ Ended → ⊥) → p ≡ Between
@@ -37,23 +38,13 @@ may_use_most k (suc j) i p (inr (inl h)) = h.1
 may_use_most k (suc j) i p (inr (inr less)) = omega arith
 
 -- if a `Set` or `Def` is the instruction of a target and a rule, its numbers are those of the target and of the rule
-set_parts : (j a r : ℕ) (o : Target) (s : ℕ) → instr.Set j a r ≡ set_or_def o.place o.attr s
-    → (o ≡ record { place = j; attr = a }) × (r ≡ s) × (1 ≤ j)
-set_parts j a r o s = go o.place o.attr
-  where
-    go : (p b : ℕ) → instr.Set j a r ≡ set_or_def p b s → ◌≡◌ {A = Target} (record { place = p; attr = b })
-        (record { place = j; attr = a }) × (r ≡ s) × (1 ≤ j)
-    go zero b e = absurd cc
-    go (suc p) b e = let same : j ≡ suc p = cc in (cc, cc, omega arith)
+set_parts : (j a r p b s : ℕ) → instr.Set j a r ≡ set_or_def p b s → (p ≡ j) × (b ≡ a) × (s ≡ r) × (1 ≤ j)
+set_parts j a r zero b s e = absurd cc
+set_parts j a r (suc p) b s e = let same : suc p ≡ j = cc in (same, cc, cc, omega arith)
 
-def_parts : (a r : ℕ) (o : Target) (s : ℕ) → instr.Def a r ≡ set_or_def o.place o.attr s → (o ≡ record { place = 0; attr = a })
-    × (r ≡ s)
-def_parts a r o s = go o.place o.attr
-  where
-    go : (p b : ℕ) → instr.Def a r ≡ set_or_def p b s → ◌≡◌ {A = Target} (record { place = p; attr = b })
-        (record { place = 0; attr = a }) × (r ≡ s)
-    go zero b e = (cc, cc)
-    go (suc p) b e = absurd cc
+def_parts : (a r p b s : ℕ) → instr.Def a r ≡ set_or_def p b s → (p ≡ 0) × (b ≡ a) × (s ≡ r)
+def_parts a r zero b s e = (refl, cc, cc)
+def_parts a r (suc p) b s e = absurd cc
 
 set_of : (u : Rule) (r j : ℕ) → 1 ≤ j → u.target.place ≡ j → instruction_of u r ≡ instr.Set j u.target.attr r
 set_of u r zero least e = absurd (omega arith)
@@ -63,248 +54,203 @@ not_end : (j a r : ℕ) → set_or_def j a r ≡ instr.End → ⊥
 not_end zero a r e = cc
 not_end (suc j) a r e = cc
 
-at_most : (a b : ℕ) → (b < a → ⊥) → a ≤ b
-at_most a b never = elim (cases_lt b a) [ inl less ↦ absurd (never less) | inr le ↦ le ]
-
-turn_read : (p : Phase) (t : ℕ) → t ≤ read_count p t
-turn_read Between t = omega arith
-turn_read p t = omega arith
+-- The instruction at index n is x, and each before it may come next.
+record At (m : Passes) (q : Production) (k : ℕ) (xs : List Instr) (n : ℕ) (x : Instr) : Type 0 where
+  may : MayRunTo m q k start xs n
+  is : slice_get xs n ≡ Some x
 
 module _ (m : Passes) (q : Production) (k : ℕ) (xs : List Instr) (one : 1 ≤ k) (allowed : IsLegalFor (HasPass m) q)
     (list : ListAgrees m q k xs) where
   abbrev state : ℕ → State
   state n = state_at q start xs n
 
-  -- the instruction at an index, if each before it may come next
-  module _ (n : ℕ) (x : Instr) (is : slice_get xs n ≡ Some x) (may : MayRunTo m q k start xs n) where
+  module _ {n : ℕ} {x : Instr} (h : At m q k xs n x) where
     -- the mark of each earlier instruction holds, and that of this one doesn't yet
-    seen : (A : State → Type 0) (y : Instr) → IsMark m q k A y → (i : ℕ) → i < n → slice_get xs i ≡ Some y
-        → A (state n)
-    seen A y mark i less at = marked m q k xs n may A y mark i n less (omega arith) at
+    was : {A : State → Type 0} {y : Instr} → IsMark m q k A y → Has xs y → Precedes xs y x → A (state n)
+    was mark has first = marked m q k xs n h.may mark has.0 n (first has.0 n has.1 h.is) (omega arith) has.1
 
-    new : (A : State → Type 0) → IsMark m q k A x → (P : Type 0) → OccursOnceIf P xs x → A (state n) → ⊥
-    new A mark P occurs_once a =
-        let before = occurs m q k xs n may A x mark n (omega arith) a in
-        let less = before.1 in
-        let same = occurs_once.once before.0 n before.2 is in
-        omega arith
+    first : {P : Type 0} → OccursOnceIf P xs x → OccursBefore xs n x → ⊥
+    first it before = let same = it.once before.0 n before.2 h.is in omega arith
+
+    new : {A : State → Type 0} {P : Type 0} → IsMark m q k A x → OccursOnceIf P xs x → A (state n) → ⊥
+    new mark it a = first it (occurs m q k xs n h.may mark n (omega arith) a)
 
     going : (state n).phase ≡ Ended → ⊥
     going e =
-        let before = occurs m q k xs n may (λ s. s.phase ≡ Ended) instr.End (end_mark m q k) n (omega arith) e in
-        let less = before.1 in
+        let before = occurs m q k xs n h.may (end_mark m q k) n (omega arith) e in
         let last = list.ends.last before.0 before.2 in
-        let within = slice_get_within xs n x is in
+        let within = slice_get_within xs n x h.is in
         omega arith
 
-    -- if the `Get` of a turn's child is before index n, the child was read; likewise for `Go`, `Put` and rules
-    was : (A : State → Type 0) (y : Instr) → IsMark m q k A y → Has xs y → ((i : ℕ) → slice_get xs i ≡ Some y → i < n)
-        → A (state n)
-    was A y mark has prefix = seen A y mark has.0 (prefix has.0 has.1) has.1
+    -- if the `Get` of a turn's child is before index n, the child was read; likewise for `Put` and rules
+    was_read : {t j : ℕ} → IsTurn q k t j → Precedes xs (instr.Get j) x → t < read_in (state n)
+    was_read {t} {j} turn = was (get_mark m q k turn)
+        ((list.visits.got j).there (rw turn.place (is_stored_child q k t turn.within)))
 
-    was_read : (t j : ℕ) → t < arity q → j ≡ place_of q k t → ((i : ℕ) → slice_get xs i ≡ Some (instr.Get j) → i < n)
-        → t < read_in (state n)
-    was_read t j within place = was (λ s. t < read_in s) (instr.Get j) (get_mark m q k t j within place)
-        ((list.visits.got j).there (subst (HasPlace q) (sym place) (is_stored_child q k t within)))
+    was_put : {t j : ℕ} → IsTurn q k t j → Precedes xs (instr.Put j) x → t < (state n).turn
+    was_put {t} {j} turn = was (put_mark m q k turn)
+        ((list.visits.put j).there (rw turn.place (is_stored_child q k t turn.within)))
 
-    was_run : (t j : ℕ) → t < arity q → j ≡ place_of q k t → IsChild q j → ((i : ℕ) → slice_get xs i ≡ Some (instr.Go j) → i < n)
-        → t < run_in (state n)
-    was_run t j within place child = was (λ s. t < run_in s) (instr.Go j) (go_mark m q k t j within place child)
-        ((list.visits.gone j).there child)
+    was_given : (r : ℕ) (u : Rule) → IsRuleAt q r u → HasPass m q u.target k → Precedes xs (instruction_of u r) x
+        → Has (state n).done r
+    was_given r u at passed = was (rule_mark m q k r at) ((list.computes.computed r u at).there passed)
 
-    was_put : (t j : ℕ) → t < arity q → j ≡ place_of q k t → ((i : ℕ) → slice_get xs i ≡ Some (instr.Put j) → i < n)
-        → t < (state n).turn
-    was_put t j within place = was (λ s. t < s.turn) (instr.Put j) (put_mark m q k t j within place)
-        ((list.visits.put j).there (subst (HasPlace q) (sym place) (is_stored_child q k t within)))
-
-    was_given : (r : ℕ) (u : Rule) → IsRuleAt q r u → HasPass m q u.target k
-        → ((i : ℕ) → slice_get xs i ≡ Some (instruction_of u r) → i < n) → Has (state n).done r
-    was_given r u at passed = was (λ s. Has s.done r) (instruction_of u r) (rule_mark m q k r u at)
-        ((list.computes.computed r u at).there passed)
-
-    turn_here : (p : Phase) (t j : ℕ) → t < arity q → j ≡ place_of q k t → (state n).phase ≡ p → t ≡ (state n).turn
-        → IsTurnOf q k (state n) p j
-    turn_here p t j within place phase same =
-        record { phase_is = phase; within = subst (λ t. t < arity q) same within; place = place ∙ ap (place_of q k) same }
+    turn_here : {t j : ℕ} → IsTurn q k t j → (p : Phase) → (state n).phase ≡ p → t ≡ (state n).turn → IsTurnOf q k (state n) p j
+    turn_here turn p phase same = record { phase_is = phase; within = rw same at turn.within; place = rw same at turn.place }
 
     -- an argument that is available at index n (`IsAvailableAt`) is available in the state before n (`IsAvailable`)
     hand : (r : ℕ) (u : Rule) → IsRuleAt q r u → HasPass m q u.target k → (o : Target) → IsArgument u o
         → IsAvailableAt m q k xs n o → Course.IsAvailable m q k (state n) o
     hand r u at passed o arg (inl own) = let p = allowed u o k (r, at) arg passed in
         (p.0, p.1, may_use_most k u.target.place o.place p.0 p.2, inr (inl own))
-    hand r u at passed o arg (inr (inl h)) = let low = h.2 in (h.0, h.1, omega arith, inl low)
-    hand r u at passed o arg (inr (inr h)) =
-        let go = h.1 in
-        let child = (list.visits.gone o.place).only (go.0, go.2) in
-        let turn = turn_of q k o.place (item.Symbol child.0, child.1) in
-        let mark = go_mark m q k turn.0 o.place turn.1 turn.2 child in
-        let run = seen (λ s. turn.0 < run_in s) (instr.Go o.place) mark go.0 go.1 go.2 in
-        (k, h.0, omega arith, inr (inr (turn.0, run, turn.2)))
+    hand r u at passed o arg (inr (inl (p, has, low))) = (p, has, omega arith, inl low)
+    hand r u at passed o arg (inr (inr (has, (i, less, go)))) =
+        let child = (list.visits.gone o.place).only (i, go) in
+        let turn = its_turn q k o.place (item.Symbol child.0, child.1) in
+        let run = marked m q k xs n h.may (go_mark m q k turn.1 child) i n less (omega arith) go in
+        (k, has, omega arith, inr (inr (turn.0, run, turn.1.place)))
 
-    -- at a rule's own instruction the rule may be run
-    may_compute : (j a r : ℕ) (u : Rule) → IsRuleAt q r u → u.target ≡ record { place = j; attr = a } → x ≡ instruction_of u r
-        → MayCompute m q k (state n) j a r
-    may_compute j a r u at target own = record {
-      rule = u;
-      numbered = at;
-      target = target;
-      passed = passed;
-      available = λ o arg. hand r u at passed o arg (list.arguments r n u o at here arg);
-      fresh = new (λ s. Has s.done r) (subst (IsMark m q k (λ s. Has s.done r)) (sym own) (rule_mark m q k r u at))
-          (HasPass m q u.target k) (subst (OccursOnceIf (HasPass m q u.target k) xs) (sym own) (list.computes.computed r u at));
-    }
-      where
-        here : slice_get xs n ≡ Some (instruction_of u r)
-        here = is ∙ ap Some own
+    -- at the instruction of a rule the rule may be run
+    may_compute : IsComputation x → (r : ℕ) × (u : Rule) × HasPass m q u.target k × (x ≡ instruction_of u r)
+        × MayCompute m q k (state n) u.target.place u.target.attr r
+    may_compute is =
+        let own = list.computes.own x is (n, h.is) in
+        let once = list.computes.computed own.0 own.1 own.2 in
+        let here = h.is ∙ ap Some own.3 in
+        let passed = once.only (n, here) in (
+          own.0,
+          own.1,
+          passed,
+          own.3,
+          record {
+            rule = own.1;
+            numbered = own.2;
+            target = refl;
+            passed = passed;
+            available = λ o arg. hand own.0 own.1 own.2 passed o arg (list.arguments own.0 n own.1 o own.2 here arg);
+            fresh = new (rw (sym own.3) at (rule_mark m q k own.0 own.2)) (rw (sym own.3) at once);
+          },
+        )
 
-        passed : HasPass m q u.target k
-        passed = (list.computes.computed r u at).only (n, here)
+    -- if a child was read and the pass has not run in it, it is the child's turn, in the phase `Got`
+    got_turn : (j : ℕ) → IsChild q j → Precedes xs (instr.Get j) x → (OccursBefore xs n (instr.Go j) → ⊥)
+        → IsTurnOf q k (state n) Got j
+    got_turn j child get go =
+        let turn = its_turn q k j (item.Symbol child.0, child.1) in
+        let never = λ (less : turn.0 < run_in (state n)).
+        go (occurs m q k xs n h.may (go_mark m q k turn.1 child) n (omega arith) less) in
+        let phase = phase_got (state n).phase (state n).turn turn.0 (omega arith) (was_read turn.1 get) in
+        turn_here turn.1 Got phase.0 phase.1
 
-  module _ (n : ℕ) (may : MayRunTo m q k start xs n) where
+  module _ (n : ℕ) where
     abbrev now : State
     now = state n
 
-    -- if a child was read and the pass has not run in it, it is the child's turn, in the phase `Got`
-    got_turn : (x : Instr) → slice_get xs n ≡ Some x → (j : ℕ) → (child : IsChild q j)
-        → ((i : ℕ) → slice_get xs i ≡ Some (instr.Get j) → i < n) → ((i : ℕ) → i < n → slice_get xs i ≡ Some (instr.Go j) → ⊥)
-        → IsTurnOf q k (state n) Got j
-    got_turn x is j child get go = turn_here n x is may Got turn.0 j turn.1 turn.2 phase.0 phase.1
+    step : (x : Instr) → At m q k xs n x → MayRun m q k now x
+    step (instr.Get j) h =
+        let a = low in
+        let b = high in
+        let phase = phase_between now.phase now.turn (omega arith) (going h) in
+        let count = read_is now phase in
+        turn_here h turn.1 Between phase (omega arith)
       where
-        turn : (t : ℕ) × (t < arity q) × (j ≡ place_of q k t)
-        turn = turn_of q k j (item.Symbol child.0, child.1)
+        turn : (t : ℕ) × IsTurn q k t j
+        turn = its_turn q k j ((list.visits.got j).only (n, h.is))
 
-        low : run_in now ≤ turn.0
-        low = at_most (run_in now) turn.0 (λ less. (
-            let before = occurs m q k xs n may (λ s. turn.0 < run_in s) (instr.Go j)
-            (go_mark m q k turn.0 j turn.1 turn.2 child) n (omega arith) less in
-            go before.0 before.1 before.2))
+        low : turn.0 < read_in now → ⊥
+        low = new h (get_mark m q k turn.1) (list.visits.got j)
 
-        phase : (now.phase ≡ Got) × (turn.0 ≡ now.turn)
-        phase = phase_got now.phase now.turn turn.0 low (was_read n x is may turn.0 j turn.1 turn.2 get)
-
-    step : (x : Instr) → slice_get xs n ≡ Some x → MayRun m q k (state n) x
-    step (instr.Get j) is = turn_here n (instr.Get j) is may Between turn.0 j turn.1 turn.2 phase
-        (let a = low in let b = high in let e = read_is now Between phase in omega arith)
-      where
-        turn : (t : ℕ) × (t < arity q) × (j ≡ place_of q k t)
-        turn = turn_of q k j ((list.visits.got j).only (n, is))
-
-        low : read_in now ≤ turn.0
-        low = at_most (read_in now) turn.0 (new n (instr.Get j) is may (λ s. turn.0 < read_in s)
-            (get_mark m q k turn.0 j turn.1 turn.2) (HasPlace q j) (list.visits.got j))
-
-        high : turn.0 ≤ now.turn
-        high = at_most turn.0 now.turn (λ less. (
-            let within : now.turn < arity q = (let w = turn.1 in omega arith) in
-            let earlier = subst (IsBefore (direction_of k) (place_of q k now.turn)) (sym turn.2)
-            (place_before q k now.turn turn.0 less turn.1) in
-            let put = was_put n (instr.Get j) is may now.turn (place_of q k now.turn) within refl
-            (λ i e. list.visits.in_direction (place_of q k now.turn) j earlier i n e is) in
-            omega arith))
-
-        phase : now.phase ≡ Between
-        phase = phase_between now.phase now.turn (let a = low in let b = high in omega arith) (going n (instr.Get j) is may)
-    step (instr.Set j a r) is = (
-      got_turn (instr.Set j a r) is j child (λ i e. list.computes.after_get j a r i n e is)
-          (λ i less e. let after = list.computes.before_go j a r n i is e in omega arith),
-      subst (MayCompute m q k (state n) j a) (sym parts.1)
-          (may_compute n (instr.Set j a r) is may j a own.0 own.1 own.2 parts.0 own.3),
-    )
-      where
-        own : (r' : ℕ) × (u : Rule) × IsRuleAt q r' u × (instr.Set j a r ≡ instruction_of u r')
-        own = list.computes.own (instr.Set j a r) (j, a, r, inl refl) (n, is)
-
-        parts : (own.1.target ≡ record { place = j; attr = a }) × (r ≡ own.0) × (1 ≤ j)
-        parts = set_parts j a r own.1.target own.0 own.3
-
-        symbol : (s : ℕ) × (item_at q own.1.target.place ≡ Some (item.Symbol s))
-        symbol = has_symbol m q own.1.target k one ((list.computes.computed own.0 own.1 own.2).only (n, is ∙ ap Some own.3))
-
-        child : IsChild q j
-        child = (symbol.0, (parts.2, ap (λ (o : Target). item_at q o.place) (sym parts.0) ∙ symbol.1))
-    step (instr.Def a r) is = (
-      going n (instr.Def a r) is may,
-      subst (MayCompute m q k (state n) 0 a) (sym parts.1)
-          (may_compute n (instr.Def a r) is may 0 a own.0 own.1 own.2 parts.0 own.3),
-    )
-      where
-        own : (r' : ℕ) × (u : Rule) × IsRuleAt q r' u × (instr.Def a r ≡ instruction_of u r')
-        own = list.computes.own (instr.Def a r) (0, a, r, inr refl) (n, is)
-
-        parts : (own.1.target ≡ record { place = 0; attr = a }) × (r ≡ own.0)
-        parts = def_parts a r own.1.target own.0 own.3
-    step (instr.Go j) is = (
-      got_turn (instr.Go j) is j child (λ i e. list.visits.go_after_get j i n e is)
-          (λ i less e. let same = (list.visits.gone j).once i n e is in omega arith),
-      λ r u at here passed. was_given n (instr.Go j) is may r u at passed
-          (λ i e. list.computes.before_go j u.target.attr r i n (e ∙ ap Some (set_of u r j child.1.0 here)) is),
+        high : now.turn < turn.0 → ⊥
+        high less =
+            let within = turn.1.within in
+            let here : IsTurn q k now.turn (place_of q k now.turn) = record { within = omega arith; place = refl } in
+            let put = was_put h here (list.visits.in_direction (place_of q k now.turn) j
+            (rw turn.1.place ((in_order q k now.turn turn.0 here.within within).0 less))) in
+            omega arith
+    step (instr.Set j a r) h =
+        let own = may_compute h (j, a, r, inl refl) in
+        let parts = set_parts j a r own.1.target.place own.1.target.attr own.0 own.3 in
+        let symbol = rw parts.0 at (has_symbol m q own.1.target k one own.2) in
+        let go = λ (go : OccursBefore xs n (instr.Go j)).
+        (let after = list.computes.before_go j a r n go.0 h.is go.2 in let bad : ⊥ = omega arith in bad) in (
+          got_turn h j (symbol.0, (parts.3, symbol.1)) (list.computes.after_get j a r) go,
+          rw (parts.0, parts.1, parts.2) at own.4,
+        )
+    step (instr.Def a r) h =
+        let own = may_compute h (0, a, r, inr refl) in
+        let parts = def_parts a r own.1.target.place own.1.target.attr own.0 own.3 in
+        (going h, rw (parts.0, parts.1, parts.2) at own.4)
+    step (instr.Go j) h = (
+      got_turn h j child (list.visits.go_after_get j)
+          (first h (list.visits.gone j)),
+      λ r u at here passed. was_given h r u at passed
+          (rw (set_of u r j child.1.0 here) (list.computes.before_go j u.target.attr r)),
     )
       where
         child : IsChild q j
-        child = (list.visits.gone j).only (n, is)
-    step (instr.Put j) is = turn_here n (instr.Put j) is may Gone turn.0 j turn.1 turn.2 phase.0 phase.1
+        child = (list.visits.gone j).only (n, h.is)
+    step (instr.Put j) h =
+        let phase = phase_gone now.phase now.turn turn.0 (let a = low in omega arith) read not_got in
+        turn_here h turn.1 Gone phase.0 phase.1
       where
-        turn : (t : ℕ) × (t < arity q) × (j ≡ place_of q k t)
-        turn = turn_of q k j ((list.visits.put j).only (n, is))
+        turn : (t : ℕ) × IsTurn q k t j
+        turn = its_turn q k j ((list.visits.put j).only (n, h.is))
 
-        low : now.turn ≤ turn.0
-        low = at_most now.turn turn.0 (new n (instr.Put j) is may (λ s. turn.0 < s.turn)
-            (put_mark m q k turn.0 j turn.1 turn.2) (HasPlace q j) (list.visits.put j))
+        low : turn.0 < now.turn → ⊥
+        low = new h (put_mark m q k turn.1) (list.visits.put j)
 
         read : turn.0 < read_in now
-        read = was_read n (instr.Put j) is may turn.0 j turn.1 turn.2 (λ i e. list.visits.put_after_get j i n e is)
+        read = was_read h turn.1 (list.visits.put_after_get j)
 
         -- the phase is not `Got`: the child is a symbol's node, and the pass has run in it
         not_got : now.phase ≡ Got → ⊥
         not_got e =
-            let count = read_is now Got e in
+            let count = read_is now e in
             let less = read in
             let least = low in
-            let same : turn.0 ≡ now.turn = omega arith in
-            let here = kept m q k xs n may (λ s. s.phase ≡ Got → IsChild q (place_of q k s.turn)) (got_child m q k) 0 n
+            let same : now.turn ≡ turn.0 = omega arith in
+            let here = kept m q k xs n h.may (λ s. s.phase ≡ Got → IsChild q (place_of q k s.turn)) (got_child m q k) 0 n
             (omega arith) (omega arith) (λ e. absurd cc) e in
-            let child = subst (IsChild q) (ap (place_of q k) (sym same) ∙ sym turn.2) here in
-            let run = was_run n (instr.Put j) is may turn.0 j turn.1 turn.2 child (λ i e. list.visits.put_after_go j i n e is) in
-            let none = run_is now Got e in
+            let child = subst (IsChild q) (ap (place_of q k) same ∙ sym turn.1.place) here in
+            let run =
+            was h (go_mark m q k turn.1 child) ((list.visits.gone j).there child) (list.visits.put_after_go j) in
+            let none = run_is now e in
             omega arith
-
-        phase : (now.phase ≡ Gone) × (turn.0 ≡ now.turn)
-        phase = phase_gone now.phase now.turn turn.0 low read not_got
-    step instr.End is = (
-      phase_between now.phase now.turn (let a = all_put in let b = most in omega arith) (going n instr.End is may),
-      (let a = all_put in let b = most in let c = turn_read now.phase now.turn in omega arith),
-      computed,
-    )
+    step instr.End h =
+        let most = kept m q k xs n h.may (λ s. read_in s ≤ arity q) (read_within m q k) 0 n (omega arith) (omega arith)
+        (omega arith) in
+        let put = all_put in
+        let phase = phase_between now.phase now.turn (omega arith) (going h) in
+        let count = read_is now phase in (
+          phase,
+          omega arith,
+          λ j r u at here passed. was_given h r u at passed
+              (prefix (instruction_of u r) (not_end u.target.place u.target.attr r)),
+        )
       where
         -- every other instruction of the list is before `End`
-        prefix : (x : Instr) → (x ≡ instr.End → ⊥) → (i : ℕ) → slice_get xs i ≡ Some x → i < n
-        prefix x other i e = elim (cases_eq i n) [
-          | inl same ↦ absurd (other (let both : Some x ≡ Some instr.End = sym e ∙ ap (slice_get xs) same ∙ is in cc))
-          | inr apart ↦ (let last = list.ends.last n is in let within = slice_get_within xs i x e in omega arith)
+        prefix : (x : Instr) → (x ≡ instr.End → ⊥) → Precedes xs x instr.End
+        prefix x other i l e end = elim (cases_eq i l) [
+          | inl same ↦ absurd (other (let here = rw same at e in cc))
+          | inr apart ↦ (let last = list.ends.last l end in let within = slice_get_within xs i x e in omega arith)
         ]
 
-        all_put : arity q ≤ now.turn
-        all_put = at_most (arity q) now.turn (λ less. (
-            let put = was_put n instr.End is may now.turn (place_of q k now.turn) less refl
+        all_put : now.turn < arity q → ⊥
+        all_put less =
+            let put = was_put h (record { within = less; place = refl })
             (prefix (instr.Put (place_of q k now.turn)) (λ e. cc)) in
-            omega arith))
-
-        most : read_in now ≤ arity q
-        most = kept m q k xs n may (λ s. read_in s ≤ arity q) (read_within m q k) 0 n (omega arith) (omega arith) (omega arith)
-
-        computed : (j : ℕ) → AreDone m q k now j
-        computed j r u at here passed = was_given n instr.End is may r u at passed
-            (prefix (instruction_of u r) (not_end u.target.place u.target.attr r))
+            omega arith
 
   may_to : (n : ℕ) → MayRunTo m q k start xs n
   may_to zero i x less is = absurd (omega arith)
   may_to (suc n) i x less is = elim (cases_eq i n) [
-    | inl same ↦ subst (λ i. MayRun m q k (state i) x) (sym same)
-        (step n (may_to n) x (ap (slice_get xs) (sym same) ∙ is))
+    | inl same ↦ rw same (step n x (record { may = may_to n; is = rw same at is }))
     | inr other ↦ may_to n i x (omega arith) is
   ]
 
   pub follows : Runs m q k start xs
-  follows = index_runs m q k start xs (may_to (length xs))
-      (marked m q k xs (length xs) (may_to (length xs)) (λ s. s.phase ≡ Ended) instr.End (end_mark m q k) list.ends.there.0
-      (length xs) (slice_get_within xs list.ends.there.0 instr.End list.ends.there.1) (omega arith) list.ends.there.1)
+  follows =
+      let end = list.ends.there in
+      let all = may_to (length xs) in
+      index_runs m q k start xs all (marked m q k xs (length xs) all (end_mark m q k) end.0 (length xs)
+      (slice_get_within xs end.0 instr.End end.1) (omega arith) end.1)

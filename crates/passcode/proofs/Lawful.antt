@@ -1,13 +1,13 @@
 -- What follows from an accepted grammar and a legal assignment for a production, and so for its lists.
 use Rattle.passcode.proofs.Common
-use Common.{ℕ, ◌≡◌, ◌≤◌, map, Option, Some, None, slice_get, length, refl, sym, subst, arith, length-append, Item, Production}
-use Common.{Literal, Class, Grammar, item_at, Passes, IsLegal, item_passes, ListAgrees, IsPlanned, AreGeneratedLists}
+use Common.{ℕ, ◌≡◌, ◌≤◌, Option, Some, None, slice_get, length, refl, arith, length-append, Item, Production}
+use Common.{Literal, Class, Grammar, item_at, Passes, IsLegal, item_passes, IsPlanned, AreGeneratedLists}
 use Common.{generated_list, Lists}
 use Common.item
 use Rattle.std.proofs.lemmas.List.{length-map}
 use Rattle.ag_grammar.specs.declared.grammar.Symbol.{Symbol}
 use Rattle.ag_grammar.specs.grammars.Accepted.{IsAccepted, max_attributes}
-use Rattle.ag_grammar.specs.grammars.AttributeGrammar.{IsProduction, Synthesized, Inherited, attribute_names}
+use Rattle.ag_grammar.specs.grammars.AttributeGrammar.{IsProduction, attribute_names}
 use Rattle.ag_grammar.specs.grammars.AttributeGrammar.{symbol_kinds}
 use Rattle.passassign.proofs.slots.Few.{few_rules}
 use Rattle.passcode.specs.Agreement.{Agrees}
@@ -20,18 +20,12 @@ module _ (g : Grammar) (m : Passes) (accepted : IsAccepted g) (legal : IsLegal g
   few_kinds : (s : Option Symbol) → ((x : Symbol) → s ≡ Some x → length (attribute_names x) ≤ max_attributes)
       → length (symbol_kinds s) ≤ max_attributes
   few_kinds None few = omega arith
-  few_kinds (Some x) few =
-      let n = few x refl in
-      let a = length-append x.syn x.inh in
-      let b = length-append (map (λ n. Synthesized) x.syn) (map (λ n. Inherited) x.inh) in
-      let c = length-map x.syn (λ n. Synthesized) in
-      let d = length-map x.inh (λ n. Inherited) in
-      omega arith
+  few_kinds (Some x) few = simp (length-append, length-map) (simp length-append at (few x refl))
 
   few_attributes : (o : Option Item) → length (item_passes m o) ≤ max_attributes
   few_attributes None = omega arith
-  few_attributes (Some (item.Symbol s)) = let same = legal.whole s in let few =
-      few_kinds (slice_get g.symbols s) (λ x e. accepted.limits.attribute_count s x e) in omega arith
+  few_attributes (Some (item.Symbol s)) =
+      omega (arith, legal.whole s, few_kinds (slice_get g.symbols s) (accepted.limits.attribute_count s))
   few_attributes (Some (item.Terminal (Class c))) = omega arith
   few_attributes (Some (item.Terminal (Literal l))) = omega arith
 
@@ -47,12 +41,12 @@ module _ (g : Grammar) (m : Passes) (accepted : IsAccepted g) (legal : IsLegal g
   pub lists_agree : (code : Lists) → AreGeneratedLists g m code → Agrees g m code
   lists_agree code are p k q xs is at =
       let known = planned p q is in
-      subst (ListAgrees m q k) (sym (are p k q xs is at))
+      rw (are p k q xs is at)
       (agrees m q k (generated_list m q k) at.0 (list_runs m q k at.0 known.single known.allowed))
 
 pub lists_run : ListsRun
 lists_run g m p k q xs accepted legal is one =
     let known = planned g m accepted legal p q is in (
-      (λ list. follows m q k xs one known.allowed list),
-      λ runs. agrees m q k xs one runs,
+      follows m q k xs one known.allowed,
+      agrees m q k xs one,
     )

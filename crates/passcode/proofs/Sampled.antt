@@ -1,7 +1,7 @@
 -- The sample lists.
 use Rattle.passcode.proofs.Common
-use Common.{ℕ, zero, suc, ◌≡◌, ◌<◌, inl, inr, List, [], ◌∷◌, Some, slice_get, refl, ap, sym, subst, arith, Has, Rule, Target}
-use Common.{IsArgument, HasPass, IsLegal, ListAgrees, IsRuleAt, OccursOnceIf, instruction_of, AreDone, IsAvailable, IsVisited}
+use Common.{ℕ, zero, suc, ◌≡◌, ◌<◌, inl, inr, List, [], ◌∷◌, Some, slice_get, refl, ap, sym, arith, Rule, Target}
+use Common.{IsArgument, HasPass, IsLegal, ListAgrees, IsRuleAt, OccursOnceIf, instruction_of, AreDone, IsVisited}
 use Common.{Runs, start, IsPlanned}
 use Rattle.ag_grammar.specs.grammars.Sample.{attribute, sample, sample_passes, rule_out}
 use Rattle.ag_grammar.proofs.grammars.samples.NumberSample.{accepted}
@@ -10,7 +10,7 @@ use Rattle.passcode.specs.Sample.{hasty_list, hasty_passes, hasty_production, ha
 use Rattle.passcode.proofs.Agreeing.{agrees}
 use Rattle.passcode.proofs.Following.{follows}
 use Rattle.passcode.proofs.Lawful.{planned}
-use Rattle.passcode.proofs.Leaving.{list_runs}
+use Rattle.passcode.proofs.Leaving.{lacks_number, list_runs}
 
 pub sample_visited : IsVisited sample_production 1 1 2
 sample_visited = (0, omega arith, refl)
@@ -38,12 +38,7 @@ late_refused h = let bad : 6 < 5 = h.computes.before_go 1 1 1 6 5 refl refl in o
 pub undefined_refused : IsLegal sample sample_passes → ListAgrees sample_passes sample_production 1 undefined_list → ⊥
 undefined_refused legal h = let k = known legal in let runs =
     follows sample_passes sample_production 1 undefined_list (omega arith) k.allowed h in
-    none (runs.1.1.1.1.1.1.1.1.0.2 0 0 rule_out refl refl refl)
-  where
-    none : Has {A = ℕ} (1 ∷ 2 ∷ []) 0 → ⊥
-    none (zero, e) = cc
-    none (suc zero, e) = cc
-    none (suc (suc n), e) = cc
+    lacks_number (1 ∷ 2 ∷ []) 0 refl (runs.1.1.1.1.1.1.1.1.0.2 0 0 rule_out refl refl refl)
 
 -- the only rule of `hasty_production`
 only_rule : (r : ℕ) (u : Rule) → IsRuleAt hasty_production r u → (hasty_rule ≡ u) × (0 ≡ r)
@@ -67,8 +62,7 @@ calm_runs = (
       numbered = refl;
       target = refl;
       passed = refl;
-      available = λ o arg. subst (IsAvailable calm_passes hasty_production 1 start) (own_attribute o arg)
-          (1, refl, omega arith, inr (inl refl));
+      available = λ o arg. rw (sym (own_attribute o arg)) (1, refl, omega arith, inr (inl refl));
       fresh = λ h. (let e : slice_get {X = ℕ} [] h.0 ≡ Some 0 = h.1 in cc);
     },
   ),
@@ -89,8 +83,7 @@ hasty_agrees = record {
     before_go = calm.computes.before_go;
   };
   arguments = λ r n u o at occurs arg. inl
-      (ap (λ (o : Target). o.place)
-      (sym (own_attribute o (subst (λ (w : Rule). IsArgument w o) (sym (only_rule r u at).0) arg))));
+      (rw (sym (own_attribute o (rw (sym (only_rule r u at).0) at arg))));
   ends = calm.ends;
 }
   where
@@ -103,8 +96,8 @@ hasty_agrees = record {
         let was = calm.computes.computed r u at in
         let is = only_rule r u at in
         record {
-          there = λ has. was.there (subst (λ (w : Rule). HasPass calm_passes hasty_production w.target 1) is.0 refl);
-          only = λ h. subst (λ (w : Rule). HasPass hasty_passes hasty_production w.target 1) is.0 refl;
+          there = λ has. was.there (rw (sym is.0));
+          only = λ h. rw (sym is.0);
           once = was.once;
         }
 
@@ -112,7 +105,7 @@ pub hasty_stops : Runs hasty_passes hasty_production 1 start hasty_list → ⊥
 hasty_stops h =
     let run_rule = h.0.1 in
     let is = only_rule 0 run_rule.rule run_rule.numbered in
-    let hand = run_rule.available (attribute 0 1) (subst (λ (w : Rule). IsArgument w (attribute 0 1)) is.0 (0, refl)) in
+    let hand = run_rule.available (attribute 0 1) (rw (sym is.0) (0, refl)) in
     let passed : Some 2 ≡ Some hand.0 = hand.1 in
     let second : 2 ≡ hand.0 = cc in
     let most = hand.2 in

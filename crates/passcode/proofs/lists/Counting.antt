@@ -1,10 +1,10 @@
 -- A list that agrees has one instruction for each rule of its production and pass.
 use Rattle.passcode.proofs.Common
 use Common.{◌≡◌, ℕ, zero, suc, ◌+◌, ◌<◌, ◌≤◌, inl, inr, Bool, true, false, cond, List, [], ◌∷◌, length, Some, slice_get, refl, ap}
-use Common.{sym, subst, ◌∙◌, arith, nat_eq, count_by, cases_lt, eq-eqb, eqb-true, ne_eqb, slice_get_within, Production, Rule}
+use Common.{sym, ◌∙◌, arith, nat_eq, count_by, cases_lt, eq-eqb, eqb-true, ne_eqb, slice_get_within, Production, Rule}
 use Common.{Passes, HasPass, Instr, IsComputation, ListAgrees, IsRuleAt, OccursOnceIf, set_or_def, instruction_of}
 use Common.instr
-use Rattle.ag_grammar.specs.grammars.Counts.{is_of_pass, is_pass, pass_at, pass_rule_count}
+use Rattle.ag_grammar.specs.grammars.Counts.{is_of_pass, is_pass, pass_at}
 use Rattle.ag_grammar.proofs.grammars.Counting.{count_more}
 use Rattle.passcode.specs.Counts.{is_computation}
 use Rattle.passcode.specs.Laws.{ListsEvaluateRules}
@@ -12,12 +12,9 @@ use Rattle.passcode.proofs.Leaving.{is_the_pass}
 
 -- whether an instruction evaluates rule n
 abbrev evaluates : ℕ → Instr → Bool
-evaluates n (instr.Get j) = false
 evaluates n (instr.Set j a r) = nat_eq r n
-evaluates n (instr.Go j) = false
-evaluates n (instr.Put j) = false
 evaluates n (instr.Def a r) = nat_eq r n
-evaluates n instr.End = false
+evaluates n i = false
 
 -- the number of instructions of a list that evaluate one of some rules, which are numbered from n
 abbrev evaluated : ℕ → List Rule → List Instr → ℕ
@@ -57,10 +54,8 @@ abbrev IsNumberBelow : ℕ → Instr → Type 0
 IsNumberBelow n i = (r : ℕ) → ((k : ℕ) → evaluates k i ≡ nat_eq r k) → r < n
 
 by_instr : (us : List Rule) (i : Instr) → IsNumberBelow (length us) i → evaluated_by 0 us i ≡ cond (is_computation i) 1 0
-by_instr us (instr.Set j a r) is = by_one 0 r us (instr.Set j a r) (λ k. refl) (omega arith)
-    (let less = is r (λ k. refl) in omega arith)
-by_instr us (instr.Def a r) is = by_one 0 r us (instr.Def a r) (λ k. refl) (omega arith)
-    (let less = is r (λ k. refl) in omega arith)
+by_instr us (instr.Set j a r) is = by_one 0 r us (instr.Set j a r) (λ k. refl) (omega arith) (omega (arith, is r (λ k. refl)))
+by_instr us (instr.Def a r) is = by_one 0 r us (instr.Def a r) (λ k. refl) (omega arith) (omega (arith, is r (λ k. refl)))
 by_instr us i is = by_none 0 us i (λ k le. refl)
 
 all_evaluated : (us : List Rule) (xs : List Instr) → ((n : ℕ) (i : Instr) → slice_get xs n ≡ Some i → IsNumberBelow (length us) i)
@@ -71,14 +66,14 @@ all_evaluated us (i ∷ xs) is = omega (
   count_more is_computation i xs,
   evaluated_more 0 us i xs,
   by_instr us i (is 0 i refl),
-  all_evaluated us xs (λ n j e. is (suc n) j e),
+  all_evaluated us xs (λ n. is (suc n)),
 )
 
 count_none : (f : Instr → Bool) (xs : List Instr) → ((n : ℕ) (i : Instr) → slice_get xs n ≡ Some i → f i ≡ false)
     → count_by f xs ≡ 0
 count_none f [] never = refl
 count_none f (i ∷ xs) never =
-    grind (arith, count_more f i xs, never 0 i refl, count_none f xs (λ n j e. never (suc n) j e))
+    grind (arith, count_more f i xs, never 0 i refl, count_none f xs (λ n. never (suc n)))
 
 count_one : (f : Instr → Bool) (xs : List Instr) (at : ℕ) (x : Instr) → slice_get xs at ≡ Some x → f x ≡ true
     → ((n : ℕ) (i : Instr) → slice_get xs n ≡ Some i → (n ≡ at → ⊥) → f i ≡ false) → count_by f xs ≡ 1
@@ -113,17 +108,15 @@ module _ (m : Passes) (q : Production) (k : ℕ) (xs : List Instr) (is : ListAgr
       × (i ≡ instruction_of u r)
   own_rule n r i occurs e =
       let o = is.computes.own i (is_given i r e) (n, occurs) in
-      subst (λ r. (u : Rule) × IsRuleAt q r u × (i ≡ instruction_of u r))
-      (eqb-true o.0 r (sym (own_number o.1.target.place o.1.target.attr o.0 r) ∙ ap (evaluates r) (sym o.3) ∙ e))
-      (o.1, o.2, o.3)
+      let same = eqb-true o.0 r (rw (o.3, own_number o.1.target.place o.1.target.attr o.0 r) at e) in
+      (o.1, rw same at o.2, rw same at o.3)
 
   own : (n r : ℕ) (u : Rule) (i : Instr) → IsRuleAt q r u → slice_get xs n ≡ Some i → evaluates r i ≡ true
-      → i ≡ instruction_of u r
+      → slice_get xs n ≡ Some (instruction_of u r)
   own n r u i at occurs e =
       let o = own_rule n r i occurs e in
-      let both : Some o.0 ≡ Some u = sym o.1 ∙ at in
-      let same : o.0 ≡ u = cc in
-      o.2 ∙ ap (λ (w : Rule). instruction_of w r) same
+      let same : o.0 ≡ u = (let found = o.1 in cc) in
+      occurs ∙ ap Some (rw same at o.2)
 
   one_rule : (r : ℕ) (u : Rule) → IsRuleAt q r u → count_by (evaluates r) xs ≡ cond (is_of_pass m k q u) 1 0
   one_rule r u at = go (is_pass k (pass_at m q u.target)) refl
@@ -138,27 +131,25 @@ module _ (m : Passes) (q : Production) (k : ℕ) (xs : List Instr) (is : ListAgr
       go true e =
           let occurs = once.there ((is_the_pass k (pass_at m q u.target)).0 e) in
           count_one (evaluates r) xs occurs.0 (instruction_of u r) occurs.1 here
-          (λ n i e ne. by_bool (evaluates r i) (λ t. ne (once.once n occurs.0 (e ∙ ap Some (own n r u i at e t)) occurs.1)))
+          (λ n i e ne. by_bool (evaluates r i) (λ t. ne (once.once n occurs.0 (own n r u i at e t) occurs.1)))
       go false other = count_none (evaluates r) xs (λ n i e. by_bool (evaluates r i)
-          (λ t. (is_the_pass k (pass_at m q u.target)).1 other (once.only (n, e ∙ ap Some (own n r u i at e t)))))
+          (λ t. (is_the_pass k (pass_at m q u.target)).1 other (once.only (n, own n r u i at e t))))
 
   -- the instructions that evaluate one of some rules, numbered from n, are as many as the rules whose targets have the pass
-  each_rule : (n : ℕ) (us : List Rule) → ((i : ℕ) (u : Rule) → slice_get us i ≡ Some u → IsRuleAt q (n + i) u)
+  each_rule : (n : ℕ) (us : List Rule) → ((i j : ℕ) (u : Rule) → j ≡ n + i → slice_get us i ≡ Some u → IsRuleAt q j u)
       → evaluated n us xs ≡ count_by (is_of_pass m k q) us
   each_rule n [] at = refl
   each_rule n (u ∷ us) at =
-      let first : IsRuleAt q n u = subst (λ i. IsRuleAt q i u) (let z : n + 0 ≡ n = omega arith in z) (at 0 u refl) in
-      let others = each_rule (suc n) us
-      (λ i w e. subst (λ j. IsRuleAt q j w) (let z : n + suc i ≡ suc n + i = omega arith in z) (at (suc i) w e)) in
-      omega (arith, count_more (is_of_pass m k q) u us, one_rule n u first, others)
+      omega (
+        arith,
+        count_more (is_of_pass m k q) u us,
+        one_rule n u (at 0 n u (omega arith) refl),
+        each_rule (suc n) us (λ i j w is e. at (suc i) j w (omega arith) e),
+      )
 
-  numbered : (n : ℕ) (i : Instr) → slice_get xs n ≡ Some i → (r : ℕ) → ((k : ℕ) → evaluates k i ≡ nat_eq r k) → r < length q.rules
+  numbered : (n : ℕ) (i : Instr) → slice_get xs n ≡ Some i → IsNumberBelow (length q.rules) i
   numbered n i occurs r e = let o = own_rule n r i occurs (e r ∙ eq-eqb r r refl) in slice_get_within q.rules r o.0 o.1
 
-  counted : count_by is_computation xs ≡ pass_rule_count m k (Some q)
-  counted =
-      all_evaluated q.rules xs numbered ∙ each_rule 0 q.rules
-      (λ i u e. subst (λ j. IsRuleAt q j u) (let z : i ≡ 0 + i = omega arith in z) e)
-
 pub lists_evaluate_rules : ListsEvaluateRules
-lists_evaluate_rules m q k xs is = counted m q k xs is
+lists_evaluate_rules m q k xs is = all_evaluated q.rules xs (numbered m q k xs is)
+    ∙ each_rule m q k xs is 0 q.rules (λ i j u at e. let same : j ≡ i = omega arith in rw same e)

@@ -1,5 +1,6 @@
-use Rattle.passcode.proofs.Common.{◌≡◌, length, sym, subst, arith, passes_of, HasLists}
-use Rattle.passcode.proofs.lists.Collected.{AreCollected, all_rows, collected_lists, rows_more}
+use Rattle.std.proofs.lemmas.List.{length-map}
+use Rattle.passcode.proofs.Common.{◌≡◌, length, ap, ◌∙◌, sym, arith, HasLists}
+use Rattle.passcode.proofs.lists.Collected.{collected_lists, rows_more}
 use Rattle.passcode.proofs.Lawful.{lists_agree, planned}
 use Rattle.passcode.proofs.Slices.{read_at, length_pushed}
 use Rattle.passcode.proofs.generating.generate.Goals as goal
@@ -20,10 +21,9 @@ loop-production-preserved c = record {
 pub returns : goal.returns
 returns c =
     let end : c.loop-production.production-index ≡ length c.productions-production-items.result.now = omega arith in
-    let many = all_rows c.args.grammar.now _ _ _ _ c.productions-production-items.ensures.lent c.loop-production.invariant.len end
-    c.of_rows.ensures in
-    let all = subst (AreCollected (passes_of c.args.assignment.now) c.passes-passes.result c.args.grammar.now.productions)
-    (sym c.of_rows.ensures) c.loop-production.invariant.collected in
+    let many : length c.of_rows.result ≡ length c.args.grammar.now.productions = ap length c.of_rows.ensures ∙ length-map _ _
+    ∙ c.loop-production.invariant.len ∙ end ∙ ap length c.productions-production-items.ensures.lent in
+    let all = rw (sym c.of_rows.ensures) at c.loop-production.invariant.collected in
     let exact = collected_lists c.args.grammar.now _ _ _ many all in
     let lists : HasLists c.args.grammar.now c.args.assignment.now c.of_rows.result =
     record { pass_count = c.passes-passes.result; greatest = c.passes-passes.ensures; productions = many; lists = all.lengths } in
