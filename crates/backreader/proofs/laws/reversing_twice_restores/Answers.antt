@@ -1,41 +1,42 @@
 use Rattle.backreader.proofs.Common
-use Common.{◌≡◌, ℕ, List, ◌∷◌, ◌++◌, [], length, Option, All, ap, sym, refl, ◌∙◌, All-append, All-cons, All-head, All-nil}
-use Common.{All-tail, Direction, LeftToRight, RightToLeft, other, IsBody, BodyForest, BodyTree, MatchesArity, branch, joined}
-use Common.{more, none, postfix, postfix_all, prefix, file, version_two, reads_same, one_tree, one_tree_at_end, IsFileOf}
+use Common.{◌≡◌, ℕ, List, ◌∷◌, ◌++◌, [], length, Option, All, refl, All-append, Direction, LeftToRight, RightToLeft, other}
+use Common.{IsBody, BodyForest, BodyTree, MatchesArity, branch, joined, more, none, postfix, postfix_all}
+use Common.{version_two, one_tree_at_end, IsFileOf}
+use Rattle.std.proofs.lemmas.List.Elements.{All-drop, All-take}
+use Rattle.std.proofs.Math.Seq.{drop-append_seam, take-append_seam}
 use Rattle.backreader.proofs.turnings.Mirror.{mirror, other-other, postfix-mirror, arities-mirror}
-use Rattle.backreader.proofs.turnings.Whole.{tree_back}
+use Rattle.backreader.proofs.turnings.Whole.{same_tree}
 use Rattle.backreader.proofs.laws.reversing_twice_restores.Goals as goal
 
 -- If the postfix lists of t and u, each in some direction, are equal, so are their lists in the opposite directions. For t and u
 -- are one tree if both directions are equal, and mirror images of each other otherwise.
 twice : (arity : List ℕ → Option ℕ) (d e : Direction) (t u : BodyTree) → MatchesArity arity t → MatchesArity arity u
     → postfix (other d) t ≡ postfix e u → postfix (other e) u ≡ postfix d t
-twice arity LeftToRight RightToLeft t u r s same =
-    ap (postfix LeftToRight) (sym (one_tree_at_end arity RightToLeft t u [] [] r s same).0)
-twice arity RightToLeft LeftToRight t u r s same =
-    ap (postfix RightToLeft) (sym (one_tree_at_end arity LeftToRight t u [] [] r s same).0)
+twice arity LeftToRight RightToLeft t u r s same = cc (one_tree_at_end arity RightToLeft t u [] [] r s same).0
+twice arity RightToLeft LeftToRight t u r s same = cc (one_tree_at_end arity LeftToRight t u [] [] r s same).0
 twice arity LeftToRight LeftToRight t u r s same =
-    ap (postfix RightToLeft)
-    (sym
-    (one_tree_at_end arity LeftToRight (mirror t) u [] [] (arities-mirror arity t r) s
-    (postfix-mirror LeftToRight t ∙ same)).0) ∙ postfix-mirror RightToLeft t
+    let mirrored =
+    one_tree_at_end arity LeftToRight (mirror t) u [] [] (arities-mirror arity t r) s (cc (postfix-mirror LeftToRight t)) in
+    cc (mirrored.0, postfix-mirror RightToLeft t)
 twice arity RightToLeft RightToLeft t u r s same =
-    ap (postfix LeftToRight)
-    (sym
-    (one_tree_at_end arity RightToLeft (mirror t) u [] [] (arities-mirror arity t r) s
-    (postfix-mirror RightToLeft t ∙ same)).0) ∙ postfix-mirror LeftToRight t
+    let mirrored =
+    one_tree_at_end arity RightToLeft (mirror t) u [] [] (arities-mirror arity t r) s (cc (postfix-mirror RightToLeft t)) in
+    cc (mirrored.0, postfix-mirror LeftToRight t)
 
 pub returns-clause-bodies : goal.returns-clause-bodies
 returns-clause-bodies c arity d e bodies turned again first second =
-    second.to ∙ twice arity d e first.tree second.tree first.arities second.arities (sym first.to ∙ second.from) ∙ sym first.from
+    cc (
+      first.from,
+      second.to,
+      twice arity d e first.tree second.tree first.arities second.arities (cc (first.to, second.from)),
+    )
 
 -- if each body of a tree's list in one direction has a property, so has each body of its list in another direction
 module _ (P : List ℕ → Type 0) where
   both_all : (xs ys : List (List ℕ)) → All P (xs ++ ys) → All P xs × All P ys
-  both_all [] ys all = (All-nil P, all)
-  both_all (x ∷ xs) ys all =
-      let rest = both_all xs ys (All-tail P x (xs ++ ys) all) in
-      (All-cons P x xs (All-head P x (xs ++ ys) all) rest.0, rest.1)
+  both_all xs ys all =
+      let first = rw take-append_seam at (All-take P (length xs) (xs ++ ys) all) in
+      (first, rw drop-append_seam at (All-drop P (length xs) (xs ++ ys) all))
 
   joined_all : (d : Direction) (xs ys : List (List ℕ)) → All P xs → All P ys → All P (joined d xs ys)
   joined_all LeftToRight xs ys first second = All-append P xs ys first second
@@ -61,19 +62,11 @@ module _ (P : List ℕ → Type 0) where
 
 pub returns-clause-files : goal.returns-clause-files
 returns-clause-files c arity pass d content turned again count another first second =
-    let t = first.tree in
-    let u = second.tree in
-    let is : IsFileOf arity (other d) t turned = record {
+    let is : IsFileOf arity (other d) first.tree turned = record {
       arities = first.from.arities;
-      bodies = other_all (IsBody version_two) d (other d) t first.from.bodies;
+      bodies = other_all (IsBody version_two) d (other d) first.tree first.from.bodies;
       pass = pass;
       occurs = first.to refl;
     } in
-    let read : prefix (other (other d)) u ≡ prefix (other (other d)) t =
-    reads_same version_two turned (prefix (other (other d)) u) (prefix (other (other d)) t) (length turned)
-    (tree_back arity turned (other d) u second.from) (tree_back arity turned (other d) t is) in
-    let same : u ≡ t =
-    (one_tree arity (other (other d)) u t [] [] second.from.arities first.from.arities
-    (ap (λ (bodies : List (List ℕ)). bodies ++ []) read)).0 in
-    second.to refl ∙ ap (λ (v : BodyTree). file version_two first.from.pass (postfix (other (other d)) v)) same
-    ∙ ap (λ (e : Direction). file version_two first.from.pass (postfix e t)) (other-other d) ∙ sym first.from.occurs
+    let same = same_tree second.from is in
+    cc (first.from.occurs, second.to refl, same, other-other d)

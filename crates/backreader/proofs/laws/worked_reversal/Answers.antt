@@ -1,7 +1,6 @@
 use Rattle.backreader.proofs.Common
-use Common.{ℕ, List, [], ◌∷◌, None, All, map, refl, lit≤, All-cons, All-nil, IsBody, BodyTree, branch, more, none, header}
+use Common.{ℕ, List, [], ◌∷◌, None, All, map, refl, lit≤, All-cons, All-nil, IsBody, BodyTree, branch, more, none}
 use Common.{version_two}
-use Rattle.backreader.specs.turning.Worked.{arity_in_fractions}
 use Rattle.treefile.specs.framing.Backward.{next_before}
 use Rattle.treefile.specs.framing.Ending.{is_tree_file}
 use Rattle.backreader.proofs.turnings.Whole.{missing}
@@ -43,4 +42,4 @@ returns-clause-one c =
 
 pub returns-clause-header : goal.returns-clause-header
 unfolding next_before is_tree_file
-returns-clause-header c = missing arity_in_fractions (header version_two 0) refl [] 6 0 None refl refl refl tt
+returns-clause-header c = missing {bodies = []} {left = 0} None (record { begins = refl; read = refl; exact = refl }) refl tt
