@@ -4,7 +4,4 @@ use Rattle.pass_rows.proofs.layouts.rows.known_width.Goals as goal
 
 pub returns-clause-room : goal.returns-clause-room
 returns-clause-room c = λ small.
-    let few = copied_few (pass_setting c.args.setting.now) c.args.item small in
-    let same = ap length c.copied_passes.ensures in
-    let room = c.row_length.ensures.room in
-    omega arith
+    omega (arith, copied_few (pass_setting c.args.setting.now) c.args.item small, ap length c.copied_passes.ensures)

@@ -1,6 +1,4 @@
-use Rattle.pass_rows.proofs.Common
-use Common.{◌-◌, ◌∙◌, List, ℕ, [], ap, length, subst, arith, slice_get_within, err_from_is_err_and, pass_setting, row_passes}
-use Common.{AreTaken, IsNoRow}
+use Rattle.pass_rows.proofs.Common.{◌∙◌, ap, length, arith, slice_get_within, err_from_is_err_and, pass_setting, row_passes}
 use Rattle.pass_rows.proofs.Recorded.{no_node, no_node_read, node_read, production_is, same_err}
 use Rattle.pass_rows.proofs.reading.record.read_node.Goals as goal
 
@@ -12,9 +10,11 @@ returns-in_default-clause-none c =
 pub bounds-productions-number : goal.bounds-productions-number
 bounds-productions-number c =
     let b = c.in-Some.ensures.some in
-    let n = ap length c.productions.ensures.lent in
-    let less = slice_get_within c.args.setting.now.grammar.now.productions c.in-Some.number b.production b.there in
-    omega arith
+    omega (
+      arith,
+      ap length c.productions.ensures.lent,
+      slice_get_within c.args.setting.now.grammar.now.productions c.in-Some.number b.production b.there,
+    )
 
 pub returns-in_err-take_row-clause-none : goal.returns-in_err-take_row-clause-none
 returns-in_err-take_row-clause-none c =
@@ -25,21 +25,15 @@ returns-in_err-take_row-clause-none c =
     production_is c.args.setting.now.grammar.now.productions c.productions.result.now c.in-Some.number b.production
     c.index-productions-number.result _ c.productions.ensures.lent c.index-productions-number.is b.there in
     rw (p.1, p.2)
-    (λ is. no_node_read context c.args.symbol c.in-Some.number c.args.body.now c.in-Some.spellings.now c.in-Some.ensures.few b
-    (subst (λ (ps : List ℕ). IsNoRow (c.args.setting.now.pass - 1) ps c.in-Some.spellings.now)
+    (λ is. no_node_read context c.in-Some.ensures.few b
     (c.as_slice.ensures ∙ c.in-Ok.ensures ∙ ap (row_passes context) one)
-    (c.in_err-take_row.ensures.none (same_err _ _ is))))
+    (c.in_err-take_row.ensures.none (same_err _ _ is)))
 
 pub returns-clause-read : goal.returns-clause-read
 returns-clause-read c =
     let b = c.in-Some.ensures.some in
-    let context = pass_setting c.args.setting.now in
     let one =
     production_is c.args.setting.now.grammar.now.productions c.productions.result.now c.in-Some.number b.production
     c.index-productions-number.result _ c.productions.ensures.lent c.index-productions-number.is b.there in
-    node_read context c.args.symbol c.in-Some.number c.args.body.now c.in-Some.spellings.now c.args.values.now.items
-    c.take_row.new.values.items b
-    (subst
-    (λ (ps : List ℕ). AreTaken (c.args.setting.now.pass - 1) c.args.setting.now.pass ps c.in-Some.spellings.now
-    [] c.args.values.now.items c.take_row.new.values.items)
-    (c.as_slice.ensures ∙ c.in-Ok.ensures ∙ ap (row_passes context) one) c.in_ok-take_row.ensures.taken)
+    node_read b (c.as_slice.ensures ∙ c.in-Ok.ensures ∙ ap (row_passes (pass_setting c.args.setting.now)) one)
+    c.in_ok-take_row.ensures.taken

@@ -1,6 +1,5 @@
-use Rattle.pass_rows.proofs.Common.{◌≡◌, ◌∷◌, ◌++◌, ◌∙◌, [], rules, refl, ap, arith, Num}
-use Rattle.std.specs.Int.{cast_signed, cast_unsigned, w64}
-use Rattle.pass_rows.proofs.Recorded.{taken_later, taken_number, taken_place}
+use Rattle.pass_rows.proofs.Common.{◌≡◌, ◌∷◌, ◌++◌, [], rules, arith, Num, cast_signed, cast_unsigned, w64}
+use Rattle.pass_rows.proofs.Recorded.{taken_later, taken_place, taken_value}
 use Rattle.pass_rows.proofs.reading.record.take_number.Goals as goal
 
 pub returns-then-pass-k-clause-taken : goal.returns-then-pass-k-clause-taken
@@ -9,16 +8,11 @@ returns-then-pass-k-clause-taken c =
     let same : cast_signed w64 (cast_unsigned w64 number) ≡ number = search rules in
     let pushed : c.push_reserved.new.self.items ≡ c.args.values.now.items ++ Num (cast_signed w64 (cast_unsigned w64 number))
     ∷ [] = search rules in
-    taken_number c.args.k c.args.pass c.args.bytes.now c.in-Some.rest.now number c.args.values.now.items
-    c.push_reserved.new.self.items c.if-pass-k.true c.in-Some.ensures.well c.in-Some.ensures.spelled
-    (pushed ∙ ap (λ z. c.args.values.now.items ++ Num z ∷ []) same)
+    taken_value c.if-pass-k.true c.in-Some.ensures.well c.in-Some.ensures.spelled (rw same at pushed)
 
 pub returns-then-pass-k-2-clause-taken : goal.returns-then-pass-k-2-clause-taken
 returns-then-pass-k-2-clause-taken c =
-    taken_place c.args.k c.args.pass c.args.bytes.now c.args.values.now.items c.push_reserved-then-pass-k-2.new.self.items
-    c.requires.writes (omega (arith, c.if-pass-k-2.true)) (search rules)
+    taken_place c.requires.writes (omega (arith, c.if-pass-k-2.true)) (search rules)
 
 pub returns-clause-taken : goal.returns-clause-taken
-returns-clause-taken c =
-    taken_later c.args.k c.args.pass c.args.bytes.now c.args.values.now.items c.args.values.now.items c.requires.writes
-    (omega (arith, c.if-pass-k.false, c.if-pass-k-2.false)) refl
+returns-clause-taken c = taken_later c.requires.writes (omega (arith, c.if-pass-k.false, c.if-pass-k-2.false))
