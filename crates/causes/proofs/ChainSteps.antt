@@ -1,73 +1,62 @@
 -- The steps of a walk along a chain.
 use Rattle.causes.proofs.Common
-use Common.{◌≡◌, ◌+◌, ◌<◌, List, length, get_or, ℕ, suc, true, ◌&&◌, Some, slice_get, ap, subst, sym, ◌∙◌, arith, IfSome, Result}
-use Common.{Ok, Err, nat_eq, OkIff, result_ok, slice_get-get_or, Rule, Target, Grammar, TreeIndex, Follows, IsCause, IsChain}
-use Common.{IsNumberFor, IsPassedFrom, longer, in_file}
-use Common.rule_does
+use Common.{◌≡◌, ◌+◌, ◌<◌, inr, Stops, StopsAfter, List, length, get_or, ℕ, true, ◌&&◌, Some, slice_get, sym, ◌∙◌, add-one}
+use Common.{IfSome, Result, Ok, Err, nat_eq, OkIff, result_ok, slice_get-get_or, Rule, Target, Grammar, TreeIndex, Follows}
+use Common.{IsCause, IsChain, IsNumberFor, IsPassedFrom, longer, in_file}
 use Rattle.std.proofs.lemmas.Bool.{and_parts, eqb-true}
+use Rattle.passassign.proofs.slots.Linked.{same_parts}
 use Rattle.causes.specs.declared.chain.Step.TheVariants as step
 
--- two targets with the same numbers
-target_same : (a b : Target) → a.place ≡ b.place → a.attr ≡ b.attr → a ≡ b
-target_same a b place attr =
-    let made : ℕ → ℕ → Target = λ p n. record { place = p; attr = n } in
-    ap (λ (p : ℕ). made p a.attr) place ∙ ap (made b.place) attr
-
 -- if the conversion of the number of a rule for the target to two bytes succeeds, the result is the number of such a rule
-pub number_found : {E : Type 0} (rules : List Rule) (target : Target) (number : ℕ) (rule : Rule) (converted : Result ℕ E)
+pub number_found : {E : Type 0} (rules : List Rule) (target : Target) (number : ℕ) {rule : Rule} (converted : Result ℕ E)
     → slice_get rules number ≡ Some rule → (nat_eq rule.target.place target.place && nat_eq rule.target.attr target.attr) ≡ true
     → OkIff converted (number < 65536) number → IfSome (result_ok converted) (IsNumberFor rules target)
-number_found rules target number rule (Err e) there same is = tt
-number_found rules target number rule (Ok n) there same is =
-    let parts = and_parts (nat_eq rule.target.place target.place) (nat_eq rule.target.attr target.attr) same in
+number_found rules target number (Err e) there same is = tt
+number_found rules target number {rule} (Ok n) there same is =
+    let o = rule.target in
+    let parts = and_parts (nat_eq o.place target.place) (nat_eq o.attr target.attr) same in
     record {
       rule = rule;
-      there = ap (slice_get rules) is.1 ∙ there;
-      gives = target_same rule.target target (eqb-true rule.target.place target.place parts.0)
-          (eqb-true rule.target.attr target.attr parts.1);
+      there = rw is.1 there;
+      gives = same_parts o target (eqb-true o.place target.place parts.0) (eqb-true o.attr target.attr parts.1);
     }
 
 -- the rule that is read at a number for the target is the one with this number, and its target is that target
-pub rule_there : (rules list : List Rule) (at number : ℕ) (target : Target) (rule : Rule) → list ≡ rules → at ≡ number
+pub rule_there : {rules list : List Rule} {at number : ℕ} {target : Target} {rule : Rule} → list ≡ rules → at ≡ number
     → at < length list → rule ≡ get_or list at rule → IsNumberFor list target number → (slice_get rules number ≡ Some rule)
     × (rule.target ≡ target)
-rule_there rules list at number target rule same same_number within is found =
-    let there : slice_get list number ≡ Some rule = ap (slice_get list) (sym same_number) ∙ slice_get-get_or list at rule within
-    ∙ ap Some (sym is) in
-    let both : Some found.rule ≡ Some rule = sym found.there ∙ there in
-    let one : found.rule ≡ rule = cc in
-    (ap (λ (xs : List Rule). slice_get xs number) (sym same) ∙ there, ap (λ (r : Rule). r.target) (sym one) ∙ found.gives)
+rule_there {rules} {list} {at} {number} {rule = rule} same same_number within is found =
+    let there : slice_get rules number ≡ Some rule = cc (slice_get-get_or list at rule within) in
+    let one : rule ≡ found.rule = cc in
+    (there, rw one found.gives)
 
--- A chain that is read in a file goes on by one rule. (The grammar has two names, g and h; so have the index and the content.)
-pub reads_on : (g h : Grammar) (i j : TreeIndex) (old new : List ℕ) → g ≡ h → i ≡ j → old ≡ new
-    → (places : List ℕ) (target : Target) (there : List ℕ) (from : Target) (n : ℕ) (beyond : List ℕ) (origin : Target)
-    → IsChain (in_file h j new) places target there from n → IsPassedFrom (in_file g i old) there from beyond origin
-    → IsChain (in_file h j new) places target beyond origin (n + 1)
-reads_on g h i j old new same_grammar same_index same_content places target there from n beyond origin chain link =
-    let with_content : IsPassedFrom (in_file g i new) there from beyond origin = subst
-    (λ (b : List ℕ). IsPassedFrom (in_file g i b) there from beyond origin) same_content link in
-    let with_index : IsPassedFrom (in_file g j new) there from beyond origin = subst
-    (λ (b : TreeIndex). IsPassedFrom (in_file g b new) there from beyond origin) same_index with_content in
-    let with_both : IsPassedFrom (in_file h j new) there from beyond origin = subst
-    (λ (x : Grammar). IsPassedFrom (in_file x j new) there from beyond origin) same_grammar with_index in
-    let one_more : suc n ≡ n + 1 = omega arith in
-    subst (IsChain (in_file h j new) places target beyond origin) one_more (longer there from n beyond origin chain with_both)
+-- The grammar of a chain has two names, g and h. So have the index and the content.
+module _ {g h : Grammar} {i j : TreeIndex} {old new : List ℕ} (same_grammar : g ≡ h) (same_index : i ≡ j)
+    (same_content : old ≡ new) {places : List ℕ} {target : Target} {there : List ℕ} {from : Target} {n : ℕ}
+    (chain : IsChain (in_file h j new) places target there from n) where
+  -- A chain that is read in a file goes on by one rule.
+  pub reads_on : {beyond : List ℕ} {origin : Target} → IsPassedFrom (in_file g i old) there from beyond origin
+      → IsChain (in_file h j new) places target beyond origin (n + 1)
+  reads_on {beyond} {origin} link =
+      rw add-one (longer there from n beyond origin chain (rw (same_grammar, same_index, same_content) at link))
 
--- A chain that is read in a file ends in the rule in which the error arises. (The same things have two names.)
-pub arises_in : (g h : Grammar) (i j : TreeIndex) (old new : List ℕ) → g ≡ h → i ≡ j → old ≡ new
-    → (places : List ℕ) (target : Target) (there : List ℕ) (from : Target) (n : ℕ) (beyond at : List ℕ) (number : ℕ) → at ≡ beyond
-    → IsChain (in_file h j new) places target there from n → Follows (in_file g i old) there from beyond (step.Arises number)
-    → IsCause (in_file h j new) places target at number n
-arises_in g h i j old new same_grammar same_index same_content places target there from n beyond at number ends chain follows =
-    let with_content : in_file g i new there from (rule_does.Arises number) = subst
-    (λ (b : List ℕ). in_file g i b there from (rule_does.Arises number)) same_content follows.1 in
-    let with_index : in_file g j new there from (rule_does.Arises number) = subst
-    (λ (b : TreeIndex). in_file g b new there from (rule_does.Arises number)) same_index with_content in
-    let with_both : in_file h j new there from (rule_does.Arises number) = subst
-    (λ (x : Grammar). in_file x j new there from (rule_does.Arises number)) same_grammar with_index in
-    let one : there ≡ at = sym (ends ∙ follows.0) in
-    record {
-      from = from;
-      chain = subst (λ (z : List ℕ). IsChain (in_file h j new) places target z from n) one chain;
-      arises = subst (λ (z : List ℕ). in_file h j new z from (rule_does.Arises number)) one with_both;
-    }
+  -- A chain that is read in a file ends in the rule in which the error arises.
+  pub arises_in : {beyond at : List ℕ} {number : ℕ} → at ≡ beyond
+      → Follows (in_file g i old) there from beyond (step.Arises number) → IsCause (in_file h j new) places target at number n
+  arises_in {at = at} ends follows =
+      let one : there ≡ at = sym (ends ∙ follows.0) in
+      record {
+        from = from;
+        chain = rw one at chain;
+        arises = rw (one, same_grammar, same_index, same_content) at follows.1;
+      }
+
+  -- A chain that is read in a file stops.
+  pub stops_after : {limit : ℕ} → Stops g i old there from → StopsAfter h j new places target limit
+  stops_after stops = record {
+    there = there;
+    from = from;
+    rules = n;
+    chain = chain;
+    stops = inr (rw (same_grammar, same_index, same_content) at stops);
+  }

@@ -7,5 +7,6 @@ pub mod Found
 pub mod InIndex
 pub mod InTree
 pub mod Instances
+pub mod Paths
 pub mod Relations
 pub mod Stops
