@@ -2,10 +2,12 @@
 -- true of the content, and a content shows at most one fault.
 use Rattle.passrun.proofs.Common
 use Common.{flat_map, ℕ, suc, ◌≡◌, ◌≢◌, ◌+◌, ◌^◌, ◌<◌, ◌≤◌, ◌⊎◌, inl, inr, Bool, true, false, if◌then◌else◌, List, [], ◌∷◌, ◌++◌}
-use Common.{Some, Ok, Err, length, refl, ◌∙◌, sym, subst, arith, Direction, direction_of, other, FrameFault, Breaks, Child}
-use Common.{ReadSoFar, IsRecordOf, Pending, before_others, pending_root, ReadsTo, before_frame, next_before, pass_in, pass_of}
-use Common.{IsUsable, is_tree_file, version_two_usable, postfix, FitsVersion, bodies_of, frame, fits_version_two, numbered}
-use Common.{Setting, IsSound, RunFault, ArrivesAt, ExceedsDepth, ExceedsNodes, IsDamaged, IsReadable, source}
+use Common.{nat_le, le-leb, Some, Ok, Err, length, refl, ◌∙◌, sym, subst, arith, Direction, direction_of, other, FrameFault}
+use Common.{Breaks, Child, ReadSoFar, IsRecordOf, Pending, before_others, pending_root, ReadsTo, before_frame, next_before}
+use Common.{pass_in, pass_of, IsUsable, is_tree_file, version_two_usable, postfix, FitsVersion, bodies_of, frame}
+use Common.{fits_version_two, numbered, Setting, IsSound, RunFault, ArrivesAt, ExceedsDepth, ExceedsNodes, IsDamaged, IsReadable}
+use Common.{source}
+use Rattle.std.proofs.lemmas.Bool.{lt-leb}
 use Common.frame_fault
 use Common.fault
 use Rattle.treefile.specs.records.OneTree.{IsNumbered}
@@ -22,7 +24,7 @@ pub leaves_on : (s : Source) (d : Direction) (bodies : List (List ℕ)) (body : 
     → IsRecordOf s.version s.grammar s.passes s.pass x body ys
     → Leaves s d todo (bodies ++ body ∷ []) (before_others d (suc level) ys left)
 leaves_on s d [] body level x ys todo left h le is =
-    subst (λ (t : Pending). Leaves s d t (body ∷ []) (before_others d (suc level) ys left)) (sym h) (ys, le, is, refl)
+    rw h (ys, le, is, refl)
 leaves_on s d (first ∷ bodies) body level x ys [] left h le is = elim h [ ]
 leaves_on s d (first ∷ bodies) body level x ys (y ∷ todo) left h le is =
     (h.0, h.1, h.2, leaves_on s d bodies body level x ys (before_others d (suc y.0) h.0 todo) left h.3 le is)
@@ -38,7 +40,7 @@ module _ (s : Source) (content : List ℕ) (few : IsNumbered s.grammar) {start :
       → HasReadFar s content start (count + length bodies) left
   continues_on [] at count todo arrival read h =
       let same : count + 0 ≡ count = omega arith in
-      rw same (subst (HasReadFar s content start count) h (subst (λ a. HasReadFar s content a count todo) read arrival))
+      rw same (rw (read, h) at arrival)
   continues_on (body ∷ bodies) at count [] arrival read h = elim h [ ]
   continues_on (body ∷ bodies) at count ((level, x) ∷ todo) arrival read h =
       let on =
@@ -48,92 +50,57 @@ module _ (s : Source) (content : List ℕ) (few : IsNumbered s.grammar) {start :
       (continues_on bodies (before_frame at body) (suc count)
       (before_others (other (direction_of s.pass)) (suc level) h.0 todo) on read.1 h.3)
 
+-- The fault for which reading can stop at the offset `at`, after `count` bodies, with the children `todo` still to be read: a
+-- limit that is exceeded, or damage there.
+abbrev fault_at : Source → (at count : ℕ) → Pending → RunFault
+fault_at s at count [] = fault.Damaged at
+fault_at s at count (x ∷ xs) =
+    if nat_le x.0 s.depth then (if nat_le s.nodes count then fault.TooManyNodes else fault.Damaged at) else fault.TooDeep
+
+within : (s : Source) (at count : ℕ) (todo : Pending) → IsWithin s todo count → fault.Damaged at ≡ fault_at s at count todo
+within s at count [] h = refl
+within s at count (x ∷ xs) h = cc (le-leb x.0 s.depth h.0, lt-leb s.nodes count h.1)
+
 -- Reading stops for a fault (the last argument) at the offset `at`, after `count` bodies, with the children `todo` still to be
 -- read: it finds damage there, or a limit is exceeded.
 abbrev Stops : Source → List ℕ → (at count : ℕ) → Pending → RunFault → Type 0
-Stops s content at count todo (fault.Damaged there) =
-    (there ≡ at) × IsWithin s todo count × Breaks s.version s.grammar s.passes s.pass todo (next_before s.version content at)
-Stops s content at count [] fault.TooDeep = ⊥
-Stops s content at count (x ∷ xs) fault.TooDeep = s.depth < x.0
-Stops s content at count [] fault.TooManyNodes = ⊥
-Stops s content at count (x ∷ xs) fault.TooManyNodes = (x.0 ≤ s.depth) × (s.nodes ≤ count)
-Stops s content at count todo fault.Device = ⊥
-Stops s content at count todo fault.NoMemory = ⊥
-
--- Reading stops at one offset for at most one fault.
-same_stop : (s : Source) (content : List ℕ) (at count : ℕ) (todo : Pending) (e f : RunFault) → Stops s content at count todo e
-    → Stops s content at count todo f → e ≡ f
-same_stop s content at count todo (fault.Damaged a) (fault.Damaged b) p q = cc
-same_stop s content at count [] (fault.Damaged a) fault.TooDeep p q = absurd q
-same_stop s content at count (x ∷ xs) (fault.Damaged a) fault.TooDeep p q = let le = p.1.0 in absurd (omega arith)
-same_stop s content at count [] (fault.Damaged a) fault.TooManyNodes p q = absurd q
-same_stop s content at count (x ∷ xs) (fault.Damaged a) fault.TooManyNodes p q = let less = p.1.1 in let many = q.1 in
-    absurd (omega arith)
-same_stop s content at count [] fault.TooDeep f p q = absurd p
-same_stop s content at count (x ∷ xs) fault.TooDeep (fault.Damaged b) p q = let le = q.1.0 in absurd (omega arith)
-same_stop s content at count (x ∷ xs) fault.TooDeep fault.TooDeep p q = refl
-same_stop s content at count (x ∷ xs) fault.TooDeep fault.TooManyNodes p q = let le = q.0 in absurd (omega arith)
-same_stop s content at count [] fault.TooManyNodes f p q = absurd p
-same_stop s content at count (x ∷ xs) fault.TooManyNodes (fault.Damaged b) p q = let less = q.1.1 in let many = p.1 in
-    absurd (omega arith)
-same_stop s content at count (x ∷ xs) fault.TooManyNodes fault.TooDeep p q = let le = p.0 in absurd (omega arith)
-same_stop s content at count (x ∷ xs) fault.TooManyNodes fault.TooManyNodes p q = refl
-same_stop s content at count todo fault.Device f p q = absurd p
-same_stop s content at count todo fault.NoMemory f p q = absurd p
-same_stop s content at count todo e fault.Device p q = absurd q
-same_stop s content at count todo e fault.NoMemory p q = absurd q
+Stops s content at count todo f =
+    (f ≡ fault_at s at count todo)
+    × (f ≡ fault.Damaged at → Breaks s.version s.grammar s.passes s.pass todo (next_before s.version content at))
 
 -- If reading continues within the limits, it does not stop.
 never_stops : (s : Source) (content body : List ℕ) (at count level : ℕ) (x : Child) (ys : List Child) (todo : Pending)
     (f : RunFault) → level ≤ s.depth → count < s.nodes → next_before s.version content at ≡ Ok (Some body)
     → IsRecordOf s.version s.grammar s.passes s.pass x body ys → Stops s content at count ((level, x) ∷ todo) f → ⊥
-never_stops s content body at count level x ys todo (fault.Damaged there) le less found is stops =
-    let so : Breaks s.version s.grammar s.passes s.pass ((level, x) ∷ todo) (Ok (Some body)) =
-    subst (Breaks s.version s.grammar s.passes s.pass ((level, x) ∷ todo)) found stops.2 in
-    so ys is
-never_stops s content body at count level x ys todo fault.TooDeep le less found is stops = omega arith
-never_stops s content body at count level x ys todo fault.TooManyNodes le less found is stops = let many = stops.1 in omega arith
-never_stops s content body at count level x ys todo fault.Device le less found is stops = stops
-never_stops s content body at count level x ys todo fault.NoMemory le less found is stops = stops
+never_stops s content body at count level x ys todo f le less found is stops =
+    subst (Breaks s.version s.grammar s.passes s.pass ((level, x) ∷ todo)) found
+    (stops.1 (cc (stops.0, within s at count ((level, x) ∷ todo) (le, less)))) ys is
 
 -- Reading from one offset stops for at most one fault, wherever it stops.
-module _ (s : Source) (content : List ℕ) (few : IsNumbered s.grammar) (at there : ℕ) (left rest : Pending) {e f : RunFault} where
-  one_stop : (bodies others : List (List ℕ)) (from count : ℕ) (todo : Pending) → ReadsTo s.version content from bodies at
-      → ReadsTo s.version content from others there
-      → Leaves s (other (direction_of s.pass)) todo bodies left → Leaves s (other (direction_of s.pass)) todo others rest
-      → count + length bodies ≤ s.nodes → count + length others ≤ s.nodes
-      → Stops s content at (count + length bodies) left e → Stops s content there (count + length others) rest f → e ≡ f
-  one_stop [] [] from count todo read read' h h' most most' stops stops' =
-      same_stop s content at (count + 0) left e f stops
-      (subst (λ n. Stops s content n (count + 0) left f) (sym read' ∙ read)
-      (subst (λ (t : Pending). Stops s content there (count + 0) t f) (cc) stops'))
-  one_stop (body ∷ bodies) others from count [] read read' h h' most most' stops stops' = elim h [ ]
-  one_stop [] (another ∷ others) from count [] read read' h h' most most' stops stops' = elim h' [ ]
-  one_stop [] (another ∷ others) from count ((level, x) ∷ todo) read read' h h' most most' stops stops' =
-      let here : Stops s content from (count + 0) ((level, x) ∷ todo) e =
-      subst (λ n. Stops s content n (count + 0) ((level, x) ∷ todo) e) (sym read)
-      (subst (λ (t : Pending). Stops s content at (count + 0) t e) (sym h) stops) in
-      absurd (never_stops s content another from (count + 0) level x h'.0 todo e h'.1 (omega arith) read'.0 h'.2 here)
-  one_stop (body ∷ bodies) [] from count ((level, x) ∷ todo) read read' h h' most most' stops stops' =
-      let here : Stops s content from (count + 0) ((level, x) ∷ todo) f =
-      subst (λ n. Stops s content n (count + 0) ((level, x) ∷ todo) f) (sym read')
-      (subst (λ (t : Pending). Stops s content there (count + 0) t f) (sym h') stops') in
-      absurd (never_stops s content body from (count + 0) level x h.0 todo f h.1 (omega arith) read.0 h.2 here)
-  one_stop (body ∷ bodies) (another ∷ others) from count ((level, x) ∷ todo) read read' h h' most most' stops stops' =
-      let found : Ok (Some another) ≡ Ok (Some body) = sym read'.0 ∙ read.0 in
-      let same : another ≡ body = cc in
-      let items : h'.0 ≡ h.0 =
-      one_record s.version s.grammar s.passes s.pass x body h'.0 h.0 few
-      (subst (λ (b : List ℕ). IsRecordOf s.version s.grammar s.passes s.pass x b h'.0) same h'.2) h.2 in
-      let sum : count + suc (length bodies) ≡ suc count + length bodies = omega arith in
-      let sum' : count + suc (length others) ≡ suc count + length others = omega arith in
-      one_stop bodies others (before_frame from body) (suc count)
-      (before_others (other (direction_of s.pass)) (suc level) h.0 todo) read.1
-      (subst (λ (b : List ℕ). ReadsTo s.version content (before_frame from b) others there) same read'.1) h.3
-      (subst
-      (λ (ys : List Child). Leaves s (other (direction_of s.pass))
-      (before_others (other (direction_of s.pass)) (suc level) ys todo) others rest) items h'.3) (omega arith)
-      (omega arith) (subst (λ n. Stops s content at n left e) sum stops) (subst (λ n. Stops s content there n rest f) sum' stops')
+module _ (s : Source) (content : List ℕ) (few : IsNumbered s.grammar) (at there n m : ℕ) (left rest : Pending) {e f : RunFault}
+    (stops : Stops s content at n left e) (stops' : Stops s content there m rest f) (most : n ≤ s.nodes) (most' : m ≤ s.nodes)
+  where
+    one_stop : (bodies others : List (List ℕ)) (from count : ℕ) (todo : Pending) → ReadsTo s.version content from bodies at
+        → ReadsTo s.version content from others there
+        → Leaves s (other (direction_of s.pass)) todo bodies left → Leaves s (other (direction_of s.pass)) todo others rest
+        → n ≡ count + length bodies → m ≡ count + length others → e ≡ f
+    one_stop [] [] from count todo read read' h h' long long' = cc (stops.0, stops'.0)
+    one_stop (body ∷ bodies) others from count [] read read' h h' long long' = elim h [ ]
+    one_stop [] (another ∷ others) from count [] read read' h h' long long' = elim h' [ ]
+    one_stop [] (another ∷ others) from count ((level, x) ∷ todo) read read' h h' long long' =
+        absurd
+        (never_stops s content another from n level x h'.0 todo e h'.1 (omega arith) read'.0 h'.2 (rw (← read, ← h) at stops))
+    one_stop (body ∷ bodies) [] from count ((level, x) ∷ todo) read read' h h' long long' =
+        absurd
+        (never_stops s content body from m level x h.0 todo f h.1 (omega arith) read.0 h.2 (rw (← read', ← h') at stops'))
+    one_stop (body ∷ bodies) (another ∷ others) from count ((level, x) ∷ todo) read read' h h' long long' =
+        let found : Ok (Some another) ≡ Ok (Some body) = sym read'.0 ∙ read.0 in
+        let same : another ≡ body = cc in
+        let items : h'.0 ≡ h.0 =
+        one_record s.version s.grammar s.passes s.pass x body h'.0 h.0 few (rw same at h'.2) h.2 in
+        one_stop bodies others (before_frame from body) (suc count)
+        (before_others (other (direction_of s.pass)) (suc level) h.0 todo)
+        read.1 (rw same at read'.1) h.3 (rw items at h'.3) (omega arith) (omega arith)
 
 -- If reading the header fails, the content does not begin as a tree file.
 no_file : (is : Bool) (pass : ℕ) (f : FrameFault) → (if is then Ok pass else Err frame_fault.NotATreeFile) ≡ Err f
@@ -246,10 +213,15 @@ ShowsSomewhere s content f =
 somewhere : (s : Source) (content : List ℕ) (f : RunFault) → Shows s content f → ShowsSomewhere s content f
 somewhere s content (fault.Damaged at) (inl a) = inl (a.0, cc)
 somewhere s content (fault.Damaged at) (inr (inl a)) = inr (inl (a.0, a.1, cc))
-somewhere s content (fault.Damaged at) (inr (inr a)) = inr (inr (a.0, (a.1.0, at, a.1.1, (refl, a.1.2, a.1.3))))
-somewhere s content fault.TooDeep h = inr (inr (h.readable, ((h.level, h.next) ∷ h.others, h.at, h.arrival, h.deep)))
-somewhere s content fault.TooManyNodes h = let full = h.full in
-    inr (inr (h.readable, ((h.level, h.next) ∷ h.others, h.at, h.arrival, (h.within, omega arith))))
+somewhere s content (fault.Damaged at) (inr (inr (readable, (todo, arrival, few, breaks)))) =
+    inr (inr (readable, (todo, at, arrival, (within s at (length arrival.bodies) todo few, λ is. breaks))))
+somewhere s content fault.TooDeep h =
+    inr (inr (h.readable, ((h.level, h.next) ∷ h.others, h.at, h.arrival, (cc (lt-leb h.level s.depth h.deep), λ is. absurd cc))))
+somewhere s content fault.TooManyNodes h =
+    let many = le-leb s.nodes (length h.arrival.bodies) (omega (arith, h.full)) in
+    let here : fault.TooManyNodes ≡ fault_at s h.at (length h.arrival.bodies) ((h.level, h.next) ∷ h.others) =
+    cc (le-leb h.level s.depth h.within, many) in
+    inr (inr (h.readable, ((h.level, h.next) ∷ h.others, h.at, h.arrival, (here, λ is. absurd cc))))
 somewhere s content fault.Device h = absurd h
 somewhere s content fault.NoMemory h = absurd h
 
@@ -258,21 +230,14 @@ shows_once s content e f accepted one another = go (somewhere s content e one) (
   where
     go : ShowsSomewhere s content e → ShowsSomewhere s content f → e ≡ f
     go (inl a) (inl b) = cc
+    go (inr (inl a)) (inr (inl b)) = cc
+    go (inr (inl a)) (inr (inr b)) = absurd (a.1 b.0.number)
+    go (inr (inr a)) (inr (inl b)) = absurd (b.1 a.0.number)
+    go (inr (inr (begun, (left, at, first, stops)))) (inr (inr (begun', (rest, there, second, stops')))) =
+        one_stop s content (numbered s.grammar accepted) at there (length first.bodies) (length second.bodies) left rest
+        stops stops' first.few second.few first.bodies second.bodies (length content) 0 (pending_root s.grammar)
+        first.read second.read first.records second.records (omega arith) (omega arith)
     go (inl a) (inr (inl b)) = absurd (let z : false ≡ true = cc in cc)
     go (inl a) (inr (inr b)) = absurd (let z : false ≡ true = cc in cc)
     go (inr (inl a)) (inl b) = absurd (let z : false ≡ true = cc in cc)
-    go (inr (inl a)) (inr (inl b)) = cc
-    go (inr (inl a)) (inr (inr b)) = absurd (a.1 b.0.number)
     go (inr (inr a)) (inl b) = absurd (let z : false ≡ true = cc in cc)
-    go (inr (inr a)) (inr (inl b)) = absurd (b.1 a.0.number)
-    go (inr (inr a)) (inr (inr b)) =
-        let first = a.1.2 in
-        let second = b.1.2 in
-        let most = first.few in
-        let most' = second.few in
-        let sum : length first.bodies ≡ 0 + length first.bodies = omega arith in
-        let sum' : length second.bodies ≡ 0 + length second.bodies = omega arith in
-        one_stop s content (numbered s.grammar accepted) a.1.1 b.1.1 a.1.0 b.1.0 first.bodies second.bodies (length content) 0
-        (pending_root s.grammar)
-        first.read second.read first.records second.records (omega arith) (omega arith)
-        (subst (λ n. Stops s content a.1.1 n a.1.0 e) sum a.1.3) (subst (λ n. Stops s content b.1.1 n b.1.0 f) sum' b.1.3)

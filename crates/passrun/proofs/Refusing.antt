@@ -1,15 +1,14 @@
 -- Why the faults R1, P2 and P3 of a pass are true of the content that it reads.
 use Rattle.passrun.proofs.Common
 use Common.{option_map, IsTrue, ℕ, suc, ◌≡◌, ◌+◌, ◌-◌, Bool, true, List, [], ◌∷◌, ◌++◌, Option, Some, None, Ok, Err, is_some, Bor}
-use Common.{length, drop, reverse, refl, ap, ◌∙◌, sym, subst, arith, length-reverse, Item, Literal, Class, stored_items, Value}
-use Common.{Text, FrameFault, next_before, pass_in, WhenHonest, ReadsAs, version_two, Breaks, Pending, values_up_to}
-use Common.{damage_is_there, never_no_file, BackState, Setting, IsSound, PlaceRow, Machine, OpenNode, RunFault, IsRunFault}
-use Common.{AreRecords, ArrivesAt, IsDamaged, IsReadable, source, RunsBetween, run_fault_of_frame, HasFetched, IsUnfetched}
-use Common.{copied_passes, copies, Agrees, IsRead, read_values, RunsFrom}
+use Common.{length, drop, reverse, refl, sym, arith, length-reverse, Value, FrameFault, next_before, pass_in, WhenHonest, ReadsAs}
+use Common.{version_two, Pending, values_up_to, damage_is_there, never_no_file, BackState, Setting, IsSound, PlaceRow, Machine}
+use Common.{OpenNode, RunFault, IsRunFault, ArrivesAt, IsDamaged, IsReadable, source, RunsBetween, run_fault_of_frame, HasFetched}
+use Common.{IsUnfetched, copied_passes, Agrees, read_values, RunsFrom}
 use Common.item
 use Common.frame_fault
 use Common.instr
-use Rattle.passrun.proofs.course.Ahead.{disagreed, unfetched}
+use Rattle.passrun.proofs.course.Ahead.{disagreed, fetched_row, unfetched}
 use Rattle.passrun.proofs.Damage.{broken, decidable, unstarted}
 use Rattle.passrun.proofs.steps.Steps.{IsNext, get_first}
 use Rattle.passrun.proofs.steps.MachineSteps.{Answers, begins_so, got_place}
@@ -32,17 +31,6 @@ record FirstCome (c : Setting) (content : List ℕ) (m : Machine) (x : OpenNode)
   found : (more : List Value) → (rest : List Value)
       × (drop (x.base + row.start) (m.values.items ++ more) ≡ values_up_to c.write (copied_passes c row.item) values ++ rest)
 
-abbrev before_it : ℕ → Item → List Value → Pending → Pending
-before_it n x copy left = (n, (x, Some copy)) ∷ left
-
--- The values that were read come after the other values.
-pub read_row : (c : Setting) (x : Item) (p : ℕ) (body : List ℕ) (old new : List Value) → IsRead c x p body old new
-    → (row : List Value) × (new ≡ old ++ row)
-read_row c (item.Symbol s) p body old new h =
-    (values_up_to c.write (c.passes s) h.values ++ copies c c.write (stored_items h.production.items) h.table, h.row)
-read_row c (item.Terminal (Class d)) p body old new h = (Text h.1.text ∷ [], h.1.row)
-read_row c (item.Terminal (Literal l)) p body old new h = elim h [ ]
-
 module _ {c : Setting} (sound : IsSound c) where
   -- At a `Get`, the child is the first to be read (`FirstCome`).
   first_come : {honest : Bool} {content : List ℕ} {m : Machine} {x : OpenNode} {j : ℕ} {row : PlaceRow}
@@ -62,9 +50,7 @@ module _ {c : Setting} (sound : IsSound c) where
           bodies = r.running.transcript.read;
           read = r.running.read w;
           records =
-              subst (AreRecords (source c) r.running.transcript.read)
-              (first.2 ∙ ap (λ n. before_it n row.item (values_up_to c.read (copied_passes c row.item) first.0) first.1)
-              level) r.running.ahead;
+              rw (first.2, level) at r.running.ahead;
           few = r.running.few;
         };
         count = r.running.records;
@@ -79,7 +65,7 @@ module _ {c : Setting} (sound : IsSound c) where
       let z = first_come runs at is w in
       unfetched sound (Some (values_up_to c.read (copied_passes c row.item) z.values))
       (length m.waiting.items + 1) m.back z.left f z.readable z.here z.count
-      (subst (λ n. IsUnfetched c row.item n content m.back f) count (h w))
+      (rw count at (h w))
 
   -- If the record of a child does not agree with the child's copy, the content is damaged.
   pub get_differs : {honest : Bool} {content : List ℕ} {m : Machine} {x : OpenNode} {j p n : ℕ} {row : PlaceRow}
@@ -94,14 +80,13 @@ module _ {c : Setting} (sound : IsSound c) where
       theirs_are from_is start_is w =
       let z = first_come runs at is w in
       let back_row = begins_so c row.item p h.body m.values.items read h.taken in
-      let more = read_row c row.item p h.body m.values.items read h.taken in
+      let more = fetched_row h in
       let found = z.found more.0 in
-      let prefix = ours_are ∙ ap (λ n. drop n read) from_is ∙ ap (drop (x.base + row.start)) more.1 ∙ found.1 in
       let deep = h.deep in
       let few = h.few in
       let count = z.count in
       let other =
-      agrees z.values (read_values c row.item p h.body m.values.items read h.taken) found.0 back_row.0 prefix
+      agrees z.values (read_values c row.item p h.body m.values.items read h.taken) found.0 back_row.0 (cc (more.1, found.1))
       (cc) in
       disagreed sound p m.values.items read
       h.taken z.values (λ same. not_true (other.1 same)) z.readable z.here (omega arith) (omega arith) (h.found w)
@@ -122,23 +107,22 @@ module _ {c : Setting} (sound : IsSound c) where
   root_unfetched {start} {content} state f is readable end fresh h =
       let here : ArrivesAt (source c) content state.progress.at ((1, (item.Symbol c.grammar.start, None)) ∷ []) =
       record { bodies = []; read = sym end; records = refl; few = omega arith } in
-      unfetched sound None 0 state [] f readable here fresh (subst (λ s. IsUnfetched c (item.Symbol s) 0 content state f) is h)
+      unfetched sound None 0 state [] f readable here fresh (rw is at h)
 
   -- If no child is to be read and a frame is left, the content is damaged.
   pub left_over : {content : List ℕ} {at : ℕ} {body : List ℕ} → IsReadable (source c) content → ArrivesAt (source c) content at []
       → next_before version_two content at ≡ Ok (Some body) → IsDamaged (source c) content at
   left_over {content} {at} readable here found =
       broken (source c) (decidable sound) content at readable
-      ([], here, tt, subst (Breaks version_two c.grammar c.passes c.read []) (sym found) tt)
+      ([], here, tt, rw found tt)
 
   pub end_refused : (content : List ℕ) (at : ℕ) (view : Option (Bor (List ℕ)) → Option (List ℕ)) (f : FrameFault)
       → IsReadable (source c) content → ArrivesAt (source c) content at []
       → ReadsAs view (Err f) (next_before version_two content at) → IsRunFault c content (run_fault_of_frame f)
   end_refused content at view frame_fault.NotATreeFile readable here exact = absurd (never_no_file version_two content at exact)
   end_refused content at view (frame_fault.Damaged b) readable here exact =
-      subst (IsDamaged (source c) content) (sym (damage_is_there version_two content at b exact))
-      (broken (source c) (decidable sound) content at readable
-      ([], here, tt, subst (Breaks version_two c.grammar c.passes c.read []) (sym exact) tt))
+      rw (damage_is_there version_two content at b exact)
+      (broken (source c) (decidable sound) content at readable ([], here, tt, rw exact tt))
   end_refused content at view frame_fault.Device readable here exact = tt
   end_refused content at view frame_fault.NoMemory readable here exact = tt
 
@@ -151,7 +135,7 @@ module _ {c : Setting} (sound : IsSound c) where
     record {
       bodies = r.running.transcript.read;
       read = r.running.read w;
-      records = subst (AreRecords (source c) r.running.transcript.read) r.running.invariant.nothing r.running.ahead;
+      records = rw r.running.invariant.nothing at r.running.ahead;
       few = r.running.few;
     },
   )

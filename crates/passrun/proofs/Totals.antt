@@ -1,7 +1,7 @@
 -- The results of all passes together.
 use Rattle.passrun.proofs.Common
-use Common.{◌≡◌, ℕ, zero, suc, ◌-◌, ◌≤◌, List, [], ◌∷◌, Some, None, refl, subst, arith, Each, IsAccepted, Grammar, IsLegal}
-use Common.{Passes, passes_have_all_rules, AreAtMost, passes_of, Last, Passed}
+use Common.{◌≡◌, ℕ, zero, suc, ◌-◌, ◌≤◌, List, [], ◌∷◌, Some, None, refl, arith, Each, IsAccepted, Grammar, IsLegal, Passes}
+use Common.{passes_have_all_rules, AreAtMost, passes_of, Last, Passed}
 use Rattle.ag_grammar.specs.grammars.Running.{IsLastPass}
 use Rattle.ag_grammar.proofs.grammars.Running.{run_is_the_solution}
 use Rattle.passrun.specs.Laws.{AllRulesAreRun, GreatestIsLast, ValuesAreTheSolution}
@@ -23,9 +23,7 @@ pub solutions_left : {g : Grammar} {m : Passes} {k last : ℕ} {start : List ℕ
     → IsAccepted g → IsLegal g m → IsLastPass last m → k ≡ 0 → HasRunAll g m k last start which a b evals sum
     → LeavesSolutions g m last start (last_content which a b) (other_content which a b)
 solutions_left {g} {m} {last} {start} {which} {a} {b} {evals} {sum} accepted legal is first ran t u tree file =
-    let all : HasRunAll g m 0 last start which a b evals sum =
-    subst (λ n. HasRunAll g m n last start which a b evals sum) first ran in
-    let run = all.runs t u tree file in (
+    let run = (rw first at ran).runs t u tree file in (
       run.values,
       record {
         solution = run_is_the_solution g m t u run.values last accepted legal is tree run.ran;

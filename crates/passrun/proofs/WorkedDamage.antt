@@ -1,8 +1,7 @@
 -- Files of binary fractions that are damaged, as worked examples.
 use Rattle.passrun.proofs.Common
-use Common.{◌≡◌, ℕ, inl, inr, true, pos, List, [], ◌∷◌, Some, None, Ok, refl, sym, subst, arith, All-nil, same_Some, Value, Num}
-use Common.{IsWell, Breaks, IsNoRecord, IsNodeRecord, pending_root, file, header, version_two, same_node, ExceedsDepth}
-use Common.{ExceedsNodes}
+use Common.{◌≡◌, ℕ, inl, inr, true, pos, List, [], ◌∷◌, Some, None, Ok, refl, arith, All-nil, same_Some, Value, Num, IsWell}
+use Common.{IsNoRecord, IsNodeRecord, pending_root, file, header, version_two, same_node, ExceedsDepth, ExceedsNodes}
 use Common.item
 use Rattle.treefile.specs.framing.Backward.{next_before}
 use Rattle.treefile.specs.framing.Ending.{body_before, fits_before, is_tree_file}
@@ -38,7 +37,7 @@ header_alone =
         pending_root binary,
         record { bodies = []; read = refl; records = refl; few = omega arith },
         (omega arith, omega arith),
-        subst (Breaks version_two binary binary_passes 0 (pending_root binary)) (sym before_header) tt,
+        rw before_header tt,
       ),
     ))
 
@@ -114,6 +113,6 @@ q_alone =
         pending_root binary,
         record { bodies = []; read = refl; records = refl; few = omega arith },
         (omega arith, omega arith),
-        subst (Breaks version_two binary binary_passes 0 (pending_root binary)) (sym q_at_end) q_is_none,
+        rw q_at_end q_is_none,
       ),
     ))

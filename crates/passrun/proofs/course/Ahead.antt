@@ -1,12 +1,13 @@
 -- The children still to be read at each step.
 use Rattle.passrun.proofs.Common
-use Common.{ℕ, suc, ◌≡◌, ◌<◌, ◌≤◌, true, List, [], ◌∷◌, Option, Some, None, Result, Ok, Err, Bor, slice_get, length, refl, sym}
-use Common.{subst, arith, Value, Item, Literal, Class, Production, IsProduction, item_at, stored_items, direction_of, other, nth}
-use Common.{max_depth, max_nodes, left_passes, FrameFault, next_before, ReadsAs, values_up_to, version_two, Child, MatchesCopy}
-use Common.{IsNodeRecord, IsRecordOf, Pending, before_others, children_with_copies, damage_is_there, never_no_file}
+use Common.{HasFetched, Bool, ℕ, suc, ◌≡◌, ◌<◌, ◌≤◌, true, List, [], ◌∷◌, Option, Some, None, Result, Ok, Err, Bor, slice_get}
+use Common.{length, refl, sym, arith, Value, Item, Literal, Class, Production, IsProduction, item_at, stored_items, direction_of}
+use Common.{other, nth, max_depth, max_nodes, left_passes, FrameFault, next_before, ReadsAs, values_up_to, version_two, Child}
+use Common.{MatchesCopy, IsNodeRecord, IsRecordOf, Pending, before_others, children_with_copies, damage_is_there, never_no_file}
 use Common.{fits_version_two, one_token, same_node, BackState, Setting, pass_direction, IsSound, RunFault, IsRunFault, following}
 use Common.{children_of, pending_of_child, ArrivesAt, IsDamaged, IsReadable, source, run_fault_of_frame, IsMissing, IsUnfetched}
 use Common.{Table, copied_passes, copies, in_children, AgreeAt, IsRead, read_values, copies_counted, copies_well, mended, tabled}
+use Common.{◌++◌, Ended, IsNodeRead, Phase, Text, pending}
 use Common.item
 use Common.frame_fault
 use Common.fault
@@ -29,31 +30,41 @@ children_read c (item.Symbol s) p body old new h =
 children_read c (item.Terminal (Class d)) p body old new h = []
 children_read c (item.Terminal (Literal l)) p body old new h = []
 
+-- The values that were read come after the other values.
+pub read_row : (c : Setting) (x : Item) (p : ℕ) (body : List ℕ) (old new : List Value) → IsRead c x p body old new
+    → (row : List Value) × (new ≡ old ++ row)
+read_row c (item.Symbol s) p body old new h =
+    (values_up_to c.write (c.passes s) h.values ++ copies c c.write (stored_items h.production.items) h.table, h.row)
+read_row c (item.Terminal (Class d)) p body old new h = (Text h.1.text ∷ [], h.1.row)
+read_row c (item.Terminal (Literal l)) p body old new h = elim h [ ]
+
+pub fetched_row : {c : Setting} {x : Item} {p n : ℕ} {honest : Bool} {content : List ℕ} {state state' : BackState}
+    {old new : List Value} → HasFetched c x p n honest content state state' old new → (row : List Value) × (new ≡ old ++ row)
+fetched_row {c} {x} {p} {old = old} {new} h = read_row c x p h.body old new h.taken
+
+-- The record of a node that was read.
+abbrev node_read : (c : Setting) {s p : ℕ} {body : List ℕ} {old new : List Value} (h : IsNodeRead c s p body old new)
+    → IsNodeRecord version_two c.grammar c.passes c.read s body p h.production h.values
+node_read c h = record {
+  production = h.there;
+  left = h.left;
+  well = λ a n is le. h.well a;
+  copies = copies c c.read (stored_items h.production.items) h.table;
+  are_copies = (
+    copies_counted c c.read (stored_items h.production.items) h.table,
+    copies_well c c.read (stored_items h.production.items) h.table h.table_well,
+  );
+  occurs = h.same;
+}
+
 -- A record that was read for an item is a record of this item. With a copy of the item's values: if the values that were read
 -- match the copy, the record is one of the item with this copy.
 pub is_record : (c : Setting) (x : Item) (p : ℕ) (body : List ℕ) (old new : List Value) (h : IsRead c x p body old new)
     (copy : Option (List Value)) → MatchesCopy copy (values_up_to c.read (copied_passes c x) (read_values c x p body old new h))
     → IsRecordOf version_two c.grammar c.passes c.read (x, copy) body (children_read c x p body old new h)
-is_record c (item.Symbol s) p body old new h copy matching = (
-  p,
-  h.production,
-  h.values,
-  record {
-    production = h.there;
-    left = h.left;
-    well = λ a n is le. h.well a;
-    copies = copies c c.read (stored_items h.production.items) h.table;
-    are_copies = (
-      copies_counted c c.read (stored_items h.production.items) h.table,
-      copies_well c c.read (stored_items h.production.items) h.table h.table_well,
-    );
-    occurs = h.same;
-  },
-  refl,
-  matching,
-)
+is_record c (item.Symbol s) p body old new h copy matching = (p, h.production, h.values, node_read c h, refl, matching)
 is_record c (item.Terminal (Class d)) p body old new h copy matching =
-    (h.1.text, h.1.fits, h.1.same, refl, subst (MatchesCopy copy) (text_row c.read h.1.text) matching)
+    (h.1.text, h.1.fits, h.1.same, refl, rw (text_row c.read h.1.text) at matching)
 is_record c (item.Terminal (Literal l)) p body old new h copy matching = elim h [ ]
 
 -- A body that is not a record with well values is not a record.
@@ -79,7 +90,7 @@ after_next c q e i level others {x} within occurs =
     let copy = values_up_to c.read (copied_passes c x) (e (place_of q c.write i)) in
     let child = copies_at c c.read (stored_items q.items) (in_children e) (nth (pass_direction c) (arity q) i) x occurs in
     next_pending (pass_direction c) level i (children_of c q e) (x, Some copy) others (omega arith)
-    (subst (λ n. slice_get (children_of c q e) (nth (pass_direction c) n i) ≡ Some (x, Some copy)) (sym long) child)
+    (rw long child)
 
 pub after_last : (c : Setting) (q : Production) (e : Table) (i level : ℕ) (others : Pending) → i ≡ arity q
     → following c q e i level others ≡ others
@@ -88,10 +99,11 @@ after_last c q e i level others full =
     cc ((all_pending (pass_direction c) level (children_of c q e) others).1)
 
 -- The children still to be read are the same for two tables with the same copies of earlier passes.
-pub after_same : (c : Setting) (q : Production) (e h : Table) (i level : ℕ) (others : Pending)
+pub pending_same : (c : Setting) (q : Production) (ph : Phase) (i child : ℕ) (e h of_child : Table) (level : ℕ) (others : Pending)
     → copies c c.read (stored_items q.items) (in_children e) ≡ copies c c.read (stored_items q.items) (in_children h)
-    → following c q e i level others ≡ following c q h i level others
-after_same c q e h i level others same = cc
+    → pending c q ph i child e of_child level others ≡ pending c q ph i child h of_child level others
+pending_same c q Ended i child e h of_child level others same = refl
+pending_same c q _ i child e h of_child level others same = cc
 
 module _ {c : Setting} (sound : IsSound c) where
   dir : pass_direction c ≡ other (direction_of c.read)
@@ -108,27 +120,15 @@ module _ {c : Setting} (sound : IsSound c) where
       → (AgreeAt c x f (read_values c x p body old new h) → ⊥)
       → expected.IsNoRecord version_two c.grammar c.passes c.read (x, Some (values_up_to c.read (copied_passes c x) f)) body
   differs (item.Symbol s) p body old new h f apart ys (r, w, e, is, same, matching) =
-      let cs = copies c c.read (stored_items h.production.items) h.table in
-      let own : IsNodeRecord version_two c.grammar c.passes c.read s body p h.production h.values = record {
-        production = h.there;
-        left = h.left;
-        well = λ a n is le. h.well a;
-        copies = cs;
-        are_copies = (
-          copies_counted c c.read (stored_items h.production.items) h.table,
-          copies_well c c.read (stored_items h.production.items) h.table h.table_well,
-        );
-        occurs = h.same;
-      } in
       let one =
       same_node version_two c.grammar c.passes c.read s s p r body h.production w h.values e
-      (fits_version_two c.grammar c.passes sound.accepted sound.legal).0 own is in
+      (fits_version_two c.grammar c.passes sound.accepted sound.legal).0 (node_read c h) is in
       apart
       (cc (same_values c.read (copied_passes c (item.Symbol s)) e h.values
       (λ a n at le. sym (one.1 a n (copied_is c (item.Symbol s) a n at) le))))
   differs (item.Terminal (Class d)) p body old new h f apart ys (text, fits, is, same, matching) =
       let t = h.1 in
-      let well = well_text text fits.utf8 (let short = fits.short in omega arith) in
+      let well = well_text text fits.utf8 (omega (arith, fits.short)) in
       let one = one_token d text t.text well t.well (cc) in
       apart (cc (text_row c.read t.text))
   differs (item.Terminal (Literal l)) p body old new h f apart ys bad = elim bad [ ]
@@ -146,7 +146,7 @@ module _ {c : Setting} (sound : IsSound c) where
       → state.progress.records ≡ length h.bodies
       → IsUnfetched c x open_count content state f → IsRunFault c content f
   unfetched {x} copy n {content} state todo (fault.Damaged at) readable h count (same, missing, deep, few) =
-      subst (IsDamaged (source c) content) (sym same)
+      rw same
       (broken (source c) (decidable sound) content state.progress.at readable (
         (suc n, (x, copy)) ∷ todo,
         h,
@@ -193,8 +193,7 @@ module _ {c : Setting} (sound : IsSound c) where
         first,
         here,
         (deep, few),
-        subst (expected.Breaks version_two c.grammar c.passes c.read first) (sym found)
-            (differs x p body old new h f apart),
+        rw found (differs x p body old new h f apart),
       )
 
 -- If reading a frame fails within the limits, its fault is the reason why no record was read.
@@ -205,6 +204,6 @@ pub frame_unfetched : (c : Setting) (x : Item) (open_count : ℕ) (content : Lis
 frame_unfetched c x n content state view frame_fault.NotATreeFile deep few exact =
     absurd (never_no_file version_two content state.progress.at exact)
 frame_unfetched c x n content state view (frame_fault.Damaged at) deep few exact =
-    (damage_is_there version_two content state.progress.at at exact, subst (IsMissing c x) (sym exact) tt, deep, few)
+    (damage_is_there version_two content state.progress.at at exact, rw exact tt, deep, few)
 frame_unfetched c x n content state view frame_fault.Device deep few exact = tt
 frame_unfetched c x n content state view frame_fault.NoMemory deep few exact = tt

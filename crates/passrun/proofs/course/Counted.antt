@@ -42,16 +42,12 @@ module _ {c : Setting} (sound : IsSound c) where
     pub rules_bound : (t : Tree) → rules_of_pass c.passes c.write c.grammar t ≤ 65536 * node_count t
     rules_bound (leaf d x) = omega arith
     rules_bound (node p ts) =
-        let a = few_of p (slice_get c.grammar.productions p) refl in
-        let b = rules_bound_all ts in
-        omega arith
+        omega (arith, few_of p (slice_get c.grammar.productions p) refl, rules_bound_all ts)
 
     rules_bound_all : (ts : Forest) → totals (pass_rule_count c.passes c.write) c.grammar ts ≤ 65536 * node_counts ts
     rules_bound_all none = omega arith
     rules_bound_all (more t ts) =
-        let a = rules_bound t in
-        let b = rules_bound_all ts in
-        omega arith
+        omega (arith, rules_bound t, rules_bound_all ts)
 
   -- The counts after the visited children of a node whose record was read.
   stays_counted : {s : ℕ} {f : ℕ → Value} {level p : ℕ} {q : Production} {state : State} {e : Table} {ts : Forest}
@@ -127,7 +123,7 @@ module _ {c : Setting} (sound : IsSound c) where
       put_few : (t : Tree) (w : Valuation)
           → length (put_of (pass_direction c) t (bodies_of version_two c.grammar c.passes c.write t w)) ≤ node_count t
       put_few (leaf d text) w = omega arith
-      put_few (node p ts) w = let n = post_of (pass_direction c) c.grammar c.passes c.write (node p ts) w in omega arith
+      put_few (node p ts) w = omega (arith, post_of (pass_direction c) c.grammar c.passes c.write (node p ts) w)
 
   -- While nodes are open, fewer bodies were written than read, and no more rules were run than the bodies
   -- that were read allow.
@@ -148,8 +144,10 @@ module _ {c : Setting} (sound : IsSound c) where
   pub ready_counted : {root : ℕ} {values : List Value} {t : Transcript} {now : ℕ} {todo : Pending}
       → IsRootReady c root values t now todo → suc (length t.put) ≡ length t.read
   ready_counted h =
-      let a = ap length h.ready.read in
-      let b = count_of (pass_direction c) c.grammar c.passes c.read h.tree h.valuation in
-      let d = ap length h.ready.put in
-      let e = below_count (pass_direction c) c.grammar c.passes c.write h.tree h.valuation in
-      omega arith
+      omega (
+        arith,
+        ap length h.ready.read,
+        count_of (pass_direction c) c.grammar c.passes c.read h.tree h.valuation,
+        ap length h.ready.put,
+        below_count (pass_direction c) c.grammar c.passes c.write h.tree h.valuation,
+      )

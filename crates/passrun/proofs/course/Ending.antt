@@ -1,19 +1,18 @@
 -- The beginning and the end of a pass.
 use Rattle.passrun.proofs.Common
 use Common.{Vec, option_map, ℕ, ◌≡◌, ◌+◌, ◌-◌, ◌^◌, ◌<◌, ◌≤◌, Bool, true, false, List, [], ◌∷◌, ◌++◌, Option, Some, None, Result}
-use Common.{Ok, All, length, reverse, is_some, Bor, refl, ap, ◌∙◌, sym, subst, arith, append-nil, Value, IsWell, All-append}
-use Common.{stored_items, direction_of, other, following, children_of, pending_of_child, max_nodes, FrameFault, ReadsTo}
-use Common.{next_before, LeavesContent, WhenHonest, values_up_to, Node, before_others, body_of, header, version_two}
-use Common.{none_at_header, values_well, HasRead, BackState, IsOver, lent_body, Between, Setting, IsSound, Machine, OpenNode}
-use Common.{IsReadable, source, RunsBetween, first_at, copies, stored, HasFetched, IsPassed, IsRunning, RunInvariant, Transcript}
-use Common.{after_reading, HasPut, Runs, copies_well, first_row}
+use Common.{Ok, All, length, is_some, Bor, refl, ap, ◌∙◌, sym, subst, arith, append-nil, Value, IsWell, stored_items}
+use Common.{direction_of, other, following, children_of, pending_of_child, max_nodes, FrameFault, next_before, LeavesContent}
+use Common.{WhenHonest, Node, before_others, body_of, header, version_two, none_at_header, HasRead, BackState, IsOver, lent_body}
+use Common.{Between, Setting, IsSound, Machine, OpenNode, IsReadable, source, RunsBetween, first_at, copies, stored, HasFetched}
+use Common.{IsPassed, RunInvariant, Transcript, after_reading, HasPut, Runs, first_row, All-nil}
 use Common.item
 use Common.writing
 use Rattle.backreader.proofs.EndingAt.{all_bytes}
 use Rattle.passrun.proofs.course.Ahead.{is_record, of_node_is}
 use Rattle.passrun.proofs.course.Counted.{ready_counted}
 use Rattle.passrun.proofs.course.Finish.{finished}
-use Rattle.passrun.proofs.steps.Running.{put_more}
+use Rattle.passrun.proofs.steps.Running.{put_more, row_well}
 use Rattle.passrun.proofs.steps.Steps.{opened}
 
 abbrev empty : Transcript
@@ -42,8 +41,8 @@ module _ {c : Setting} (sound : IsSound c) where
       → WhenHonest to_honest (to ≡ header version_two c.write) → out ≡ record { written = 0; is_broken = false } → meter ≤ 2 ^ 63
       → Runs c honest' content' to_honest to meter
       (record { back = back; writer = out; values = values; waiting = waiting; root = p; begun = began }) (Some (first_at p 0))
-  begun_runs {p} {meter} {began} {honest} {honest'} {to_honest} {content} {content'} {to} {state} {back} {out} old {values} none
-      single_value is_start is_meter h' same leaves readable over end fresh version unbroken head begun low =
+  begun_runs {p} {meter} {began} {honest} {honest'} {to_honest} {content} {content'} {to} {state} {back} {out} old {values}
+      is_empty single_value is_start is_meter h' same leaves readable over end fresh version unbroken head begun low =
       let h = subst (λ s. HasFetched c (item.Symbol s) p 0 honest content state back old.items values.items) is_start h' in
       let t = h.taken in
       let f = t.values in
@@ -51,8 +50,6 @@ module _ {c : Setting} (sound : IsSound c) where
       let q = t.production in
       let e = first_row f t.table in
       let cs = copies c c.read (stored_items q.items) t.table in
-      let own = values_up_to c.write (c.passes start) f in
-      let kept = copies c c.write (stored_items q.items) t.table in
       let row : values.items ≡ stored c q f e = cc in
       let todo = following c q e 0 2 [] in
       let node = opened sound p f e 1 [] empty 0 [] t.there t.left (omega arith) refl in
@@ -65,41 +62,31 @@ module _ {c : Setting} (sound : IsSound c) where
       let children = children_of c q e in
       let come : todo ≡ before_others (other (direction_of c.read)) 2 children [] =
       ap (λ o. pending_of_child c o e 2 []) (sym t.there) ∙ of_node_is sound p q e 2 [] t.there in
-      let zero' : 0 ≡ meter - began = omega arith in
+      let none : meter - began ≡ 0 = omega arith in
       let at = ap (λ g. g.at) h.progress in
       let records = ap (λ g. g.records) h.progress in
       record {
         running =
-            subst
-            (λ xs. IsRunning c p honest' content' to_honest to back out values.items (first_at p 0 ∷ reverse xs)
-            (meter - began)) (sym single_value)
-            (subst (λ n. IsRunning c p honest' content' to_honest to back out values.items (first_at p 0 ∷ []) n)
-            zero' (record {
+            rw (single_value, none) (record {
               transcript = record { read = [] ++ h.body ∷ []; put = [] };
               todo = todo;
               invariant = passing';
-              over = λ z. let w = sym same ∙ z in subst (λ bytes. IsOver bytes back) (sym (leaves w)) (h.over w);
+              over = λ z. let w = sym same ∙ z in rw (leaves w) (h.over w);
               read = λ z.
                   let w = sym same ∙ z in
-                  subst (λ bytes. ReadsTo version_two bytes (length bytes) (h.body ∷ []) back.progress.at) (sym (leaves w)) (
-                    ap (next_before version_two content) (sym (end w)) ∙ h.found w,
-                    cc (end w),
-                  );
-              records = records ∙ ap (λ n. n + 1) fresh;
+                  rw (leaves w) (ap (next_before version_two content) (sym (end w)) ∙ h.found w, cc (end w));
+              records = omega arith;
               few = omega arith;
-              put = λ z. head z ∙ sym (append-nil (header version_two c.write));
+              put = λ z. cc (head z, append-nil (header version_two c.write));
               written = cc;
               version = ap (λ g. g.version) h.progress ∙ version;
               unbroken = ap (λ g. g.fault) h.progress ∙ unbroken;
               whole = cc;
-              well =
-                  subst (All IsWell) (sym (cc))
-                  (All-append IsWell own kept (values_well c.write (c.passes start) f (λ a p is le. t.well a))
-                  (copies_well c c.write (stored_items q.items) t.table t.table_well));
-              readable = λ z. let w = sym same ∙ z in subst (IsReadable (source c)) (sym (leaves w)) (readable w);
+              well = row_well t (rw is_empty (All-nil IsWell));
+              readable = λ z. let w = sym same ∙ z in rw (leaves w) (readable w);
               ahead =
                   (children, omega arith, is_record c (item.Symbol start) p h.body old.items values.items t None tt, cc);
-            }));
+            });
         begun = omega arith;
         low = omega arith;
       }
@@ -135,7 +122,7 @@ module _ {c : Setting} (sound : IsSound c) where
   passed {content} {to_honest} {to} {to'} {m} {out} {values} {meter} {count} r is to_is vs put end counted =
       let run = r.running in
       let h = run.invariant in
-      let put' = subst (λ vs. HasPut Node m.root vs to_honest to to' m.writer out) vs put in
+      let put' = rw vs at put in
       let bytes = put_more c run.transcript.put put' refl run.put to_is in
       let file = run.readable is in
       let bytes' = all_bytes content m.back (run.over is) (none_at_header version_two content m.back.progress.at end) in

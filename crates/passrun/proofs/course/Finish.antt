@@ -49,7 +49,7 @@ finished c sound root content to values transcript place count evals body todo r
             (λ p q r production rule bad. absurd bad) t w ready.ready.evaluated.solved;
         well =
             each_map (WellAt (λ p. p ≤ c.write)) (WellAt (λ p. p ≤ c.read)) c.grammar c.passes
-            (λ ps d e r a p is le. r a p is (let s = sound.next in omega arith)) t w w ready.ready.evaluated.well;
+            (λ ps d e r a p is le. r a p is (omega (arith, sound.next))) t w w ready.ready.evaluated.well;
       };
       written = record {
         occurs = cc (whole (pass_direction c) (bodies_of version_two c.grammar c.passes c.write t w));

@@ -1,11 +1,12 @@
 -- The trees of the visited children, extended by one tree at a time.
 use Rattle.passrun.proofs.Common
-use Common.{ℕ, zero, suc, ◌≡◌, ◌+◌, ◌-◌, ◌<◌, ◌≤◌, List, [], ◌∷◌, ◌++◌, Some, slice_get, length, take, drop, get_or, refl, ap}
-use Common.{◌∙◌, sym, subst, arith, append_assoc, append-nil, length-take, inl, inr, take_more, take_all, drop_all}
-use Common.{get_or_from_slice_get, cases_lt, Value, Item, Production, Rule, Direction, LeftToRight, RightToLeft, Grammar, Passes}
-use Common.{nth, Valuation, rest, Solves, SolvesAll, AtEachNode, AtEachNodeOf, Tree, Forest, none, more, Fits, FitsAll, depth_of}
-use Common.{deepest, pass_rule_count, rules_of_pass, totals, prefix, prefix_all, postfix, postfix_all, bodies_of, bodies_of_all}
+use Common.{ℕ, zero, suc, ◌≡◌, ◌+◌, ◌-◌, ◌<◌, ◌≤◌, List, [], ◌∷◌, ◌++◌, Some, slice_get, length, take, drop, refl, ap, ◌∙◌, sym}
+use Common.{subst, arith, append_assoc, append-nil, length-take, inl, inr, take_more, take_all, drop_all, get_or_from_slice_get}
+use Common.{cases_lt, Value, Item, Production, Rule, Direction, LeftToRight, RightToLeft, Grammar, Passes, nth, Valuation, rest}
+use Common.{Solves, SolvesAll, AtEachNode, AtEachNodeOf, Tree, Forest, none, more, Fits, FitsAll, depth_of, deepest}
+use Common.{pass_rule_count, rules_of_pass, totals, prefix, prefix_all, postfix, postfix_all, bodies_of, bodies_of_all}
 use Common.{version_two, Setting, Table, visited, Roots}
+use Rattle.std.proofs.Common.{drop-cons}
 
 -- A forest with one more tree at the end.
 abbrev pub snoc : Forest → Tree → Forest
@@ -36,11 +37,6 @@ fits_snoc g [] none x t f h = (h, tt)
 fits_snoc g (y ∷ xs) none x t f h = elim f [ ]
 fits_snoc g [] (more s ts) x t f h = elim f [ ]
 fits_snoc g (y ∷ xs) (more s ts) x t f h = (f.0, fits_snoc g xs ts x t f.1 h)
-
-drop_less : {X : Type 0} (xs : List X) (i : ℕ) (d : X) → i < length xs → drop i xs ≡ get_or xs i d ∷ drop (suc i) xs
-drop_less [] i d h = absurd (omega arith)
-drop_less (x ∷ xs) zero d h = refl
-drop_less (x ∷ xs) (suc i) d h = drop_less xs i d (omega arith)
 
 pub prefix_add : (d : Direction) (g : Grammar) (m : Passes) (k : ℕ) (ts : Forest) (ws : ℕ → Valuation) (t : Tree) (w : Valuation)
     → prefix_all d (bodies_of_all version_two g m k (add_tree d ts t) (add_values d ts ws w)) ≡ prefix_all d
@@ -80,7 +76,7 @@ fits_add LeftToRight g xs i ts x t at h f one =
 fits_add RightToLeft g xs i ts x t at h f one =
     let n : suc (length xs - suc i) ≡ length xs - i = omega arith in
     let e = get_or_from_slice_get xs (length xs - suc i) x x at in
-    let l : drop (length xs - suc i) xs ≡ x ∷ drop (length xs - i) xs = cc (drop_less xs (length xs - suc i) x (omega arith)) in
+    let l : drop (length xs - suc i) xs ≡ x ∷ drop (length xs - i) xs = cc (drop-cons xs (length xs - suc i) x (omega arith)) in
     subst (λ ys. FitsAll g ys (more t ts)) (sym l) (one, f)
 
 pub solves_add : (d : Direction) (W : Production → Rule → Type 0) (g : Grammar) (ts : Forest) (ws : ℕ → Valuation) (t : Tree)
@@ -99,14 +95,14 @@ each_add RightToLeft R g m ts ws t w s h = (h, s)
 pub deepest_add : (d : Direction) (n : ℕ) (ts : Forest) (t : Tree) (level : ℕ) → deepest ts + level ≤ n → depth_of t + level ≤ n
     → deepest (add_tree d ts t) + level ≤ n
 deepest_add LeftToRight n none t level a b = omega arith
-deepest_add LeftToRight n (more s ts) t level a b = let r = deepest_add LeftToRight n ts t level (omega arith) b in omega arith
+deepest_add LeftToRight n (more s ts) t level a b = omega (arith, deepest_add LeftToRight n ts t level (omega arith) b)
 deepest_add RightToLeft n ts t level a b = omega arith
 
 pub rules_add : (d : Direction) (c : Setting) (ts : Forest) (t : Tree)
     → totals (pass_rule_count c.passes c.write) c.grammar (add_tree d ts t) ≡ totals
     (pass_rule_count c.passes c.write) c.grammar ts + rules_of_pass c.passes c.write c.grammar t
 rules_add LeftToRight c none t = omega arith
-rules_add LeftToRight c (more s ts) t = let r = rules_add LeftToRight c ts t in omega arith
+rules_add LeftToRight c (more s ts) t = omega (arith, rules_add LeftToRight c ts t)
 rules_add RightToLeft c ts t = omega arith
 
 abbrev size : Forest → ℕ
@@ -149,7 +145,7 @@ none_visited LeftToRight xs = refl
 none_visited RightToLeft xs = drop_all (length xs - 0) xs (omega arith)
 
 pub fits_none : (d : Direction) (g : Grammar) (xs : List Item) → FitsAll g (visited d xs 0) none
-fits_none d g xs = subst (λ ys. FitsAll g ys none) (sym (none_visited d xs)) tt
+fits_none d g xs = rw none_visited tt
 
 pub all_visited : (d : Direction) (xs : List Item) → visited d xs (length xs) ≡ xs
 all_visited LeftToRight xs = take_all (length xs) xs (omega arith)

@@ -1,42 +1,14 @@
 -- One more pass, alternating between two devices.
 use Rattle.passrun.proofs.Common
-use Common.{◌≡◌, ℕ, suc, ◌+◌, ◌-◌, ◌<◌, ◌≤◌, Bool, inl, inr, List, Result, Ok, Err, refl, sym, subst, arith, IfErr, IfOk, OnErr}
-use Common.{OnOk, cases_lt, IsAccepted, Grammar, IsLegal, Passes, node_count, IsGreatest, passes_of, Lists, Setting, setting_of}
-use Common.{Persists, WhenHonest, RunsPass, RunsPasses, version_two, Passed, Last, A, B, RunFault, IsRunFault, IsPassed}
-use Common.{CountsPass}
+use Common.{◌≡◌, ℕ, suc, ◌+◌, ◌-◌, ◌<◌, ◌≤◌, Bool, inl, inr, List, Result, Ok, Err, refl, arith, OnErr, OnOk, cases_lt}
+use Common.{IsAccepted, Grammar, IsLegal, Passes, node_count, IsGreatest, passes_of, Lists, setting_of, Persists, WhenHonest}
+use Common.{RunsPass, RunsPasses, version_two, Passed, Last, A, B, RunFault, IsRunFault, CountsPass}
 use Rattle.std.proofs.Math.Nat.{suc-mul}
 use Rattle.treefile.specs.framing.Beginning.{BeginsFile, LeavesBeginning}
 use Rattle.treefile.proofs.Run.{goes_on_run, starts_run}
 use Rattle.passrun.specs.Rounds.{CountsPasses, HasRunAll, HoldsTree, IsPassedOn, LeavesSomeFile, last_content, one_more}
 use Rattle.passrun.specs.Rounds.{other_content, other_last}
 use Rattle.passrun.proofs.RecordedPasses.{passes_are_recorded, refused_back}
-
--- A pass from the first device to the second, or from the second to the first, is one from the device with the last file to the
--- other.
-module _ (c : Setting) (a b : List ℕ) where
-  pub passed_from_a : {a_new : List ℕ} (b_new : List ℕ) (evals : ℕ) {last : Last} → last ≡ A → (result : Result Passed RunFault)
-      → IfOk result (λ p. IsPassed c a b_new p.nodes evals) → a_new ≡ a
-      → IfOk result (λ p. IsPassedOn c last a b a_new b_new p.nodes evals)
-  passed_from_a b_new evals is (Ok p) passed kept = rw is (record { passed = passed; kept = kept })
-  passed_from_a b_new evals is (Err f) passed kept = tt
-
-  pub passed_from_b : (a_new : List ℕ) {b_new : List ℕ} (evals : ℕ) {last : Last} → last ≡ B → (result : Result Passed RunFault)
-      → IfOk result (λ p. IsPassed c b a_new p.nodes evals) → b_new ≡ b
-      → IfOk result (λ p. IsPassedOn c last a b a_new b_new p.nodes evals)
-  passed_from_b a_new evals is (Ok p) passed kept = rw is (record { passed = passed; kept = kept })
-  passed_from_b a_new evals is (Err f) passed kept = tt
-
-  pub refused_from_a : (honest other : Bool) (last : Last) → last ≡ A → (result : Result Passed RunFault)
-      → IfErr result (λ f. WhenHonest honest (IsRunFault c a f))
-      → IfErr result (λ f. WhenHonest honest (WhenHonest other (IsRunFault c (last_content last a b) f)))
-  refused_from_a honest other last is (Ok p) refused = tt
-  refused_from_a honest other last is (Err f) refused = λ h o. rw is (refused h)
-
-  pub refused_from_b : (honest other : Bool) (last : Last) → last ≡ B → (result : Result Passed RunFault)
-      → IfErr result (λ f. WhenHonest honest (IsRunFault c b f))
-      → IfErr result (λ f. WhenHonest other (WhenHonest honest (IsRunFault c (last_content last a b) f)))
-  refused_from_b honest other last is (Ok p) refused = tt
-  refused_from_b honest other last is (Err f) refused = λ o h. rw is (refused h)
 
 -- After the pass, the other device has the last file.
 turned_last : (which : Last) (a b : List ℕ) → last_content (other_last which) a b ≡ other_content which a b
@@ -186,10 +158,5 @@ some_left pass honest old (Err f) begun left h = (pass, left h)
 
 -- Two passes in sequence leave on a device what one pass may leave: the old content, or a prefix of a tree file.
 pub left_again : (old between new : List ℕ) → LeavesSomeFile old between → LeavesSomeFile between new → LeavesSomeFile old new
-left_again old between new first (pass, inl same) = subst (LeavesSomeFile old) (sym same) first
+left_again old between new first (pass, inl same) = rw same first
 left_again old between new first (pass, inr begun) = (pass, inr begun)
-
--- If P holds after a failure, and P implies Q, then Q holds after it.
-pub err_more : (P Q : Type 0) (r : Result Passed RunFault) → (P → Q) → OnErr r P → OnErr r Q
-err_more P Q (Ok p) go h = h
-err_more P Q (Err f) go h = go h

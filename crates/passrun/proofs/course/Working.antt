@@ -6,6 +6,7 @@ use Common.{Item, max_nodes, BackState, Instr, Lists, Setting, list_at, IsSound,
 use Common.{rest_of, RunsRuleNext, RunsSomehow, stack_of, left_at, after_step}
 use Common.writing
 use Common.instr
+use Rattle.std.proofs.Math.Nat.{mul-suc}
 use Rattle.passrun.specs.passing.Working.{all_of, node_cost, reserved_work, remaining_work, measure}
 use Rattle.passrun.proofs.steps.Facts.{put_stays, waits_stay}
 use Rattle.passrun.proofs.steps.Going.{child_of}
@@ -21,7 +22,7 @@ list_within [] p k = none k
     none : (k : ℕ) → length (slice_index_or (let xs : List (List Instr) = [] in xs) k []) ≤ 0
     none k = omega arith
 list_within (row ∷ rows) zero k = omega arith
-list_within (row ∷ rows) (suc p) k = let h = list_within rows p k in omega arith
+list_within (row ∷ rows) (suc p) k = omega (arith, list_within rows p k)
 
 -- One instruction fewer remains.
 fewer : (c : Setting) (x : OpenNode) {z : Instr} → IsNext c x z
@@ -40,10 +41,7 @@ going_none : (c : Setting) (x : OpenNode) → goes_next (rest_of c x) ≡ false 
 going_none c x e = cc
 
 one_less : (b n : ℕ) → 0 < n → b * n ≡ b * (n - 1) + b
-one_less b n h = let e : n ≡ suc (n - 1) = omega arith in cc (mul_suc b (n - 1))
-  where
-    mul_suc : (b n : ℕ) → b * suc n ≡ b * n + b
-    mul_suc b n = omega arith
+one_less b n h = let e : n ≡ suc (n - 1) = omega arith in cc (mul-suc b (n - 1))
 
 module _ {c : Setting} (sound : IsSound c) where
   pub got_less : (m : Machine) {back : BackState} (values : Vec Value) {read : List Value} {honest : Bool} {content : List ℕ}
@@ -52,36 +50,38 @@ module _ {c : Setting} (sound : IsSound c) where
       → HasFetched c x' p n honest content m.back back m.values.items read → next ≡ after_step x p
       → measure c (record m { back = back; values = values }) (Some next) < measure c m (Some x)
   got_less m {back} values x {next} {n = n} at h on =
-      let r = ap (λ g. g.records) h.progress in
-      let few = h.few in
-      let l = fewer c x at in
-      let k = ap (λ next. length (rest_of c next)) on in
-      let g = going_most c (Some next) in
-      let b = one_less (node_cost c) (max_nodes - m.back.progress.records) (omega arith) in
-      let e : max_nodes - back.progress.records ≡ max_nodes - m.back.progress.records - 1 = omega arith in
-      let d = ap (λ n. node_cost c * n) e in
-      omega arith
+      let e : max_nodes - back.progress.records ≡ max_nodes - m.back.progress.records - 1 =
+      omega (arith, ap (λ g. g.records) h.progress) in
+      omega (
+        arith,
+        ap (λ g. g.records) h.progress,
+        h.few,
+        fewer c x at,
+        ap (λ next. length (rest_of c next)) on,
+        going_most c (Some next),
+        one_less (node_cost c) (max_nodes - m.back.progress.records) (omega arith),
+        ap (λ n. node_cost c * n) e,
+      )
 
   pub put_less : {m : Machine} (out : writing.Progress) {x next : OpenNode} {j : ℕ} → RunsSomehow c m (Some x)
       → IsNext c x (instr.Put j) → next ≡ after_step x x.child
       → measure c (record m { writer = out }) (Some next) < measure c m (Some x)
   put_less {m} out {x} {next} (honest, content, to_honest, to, meter, r) at on =
-      let l = fewer c x at in
-      let k = ap (λ next. length (rest_of c next)) on in
-      let g =
-      going_none c next (cc (put_stays m.root (reverse m.waiting.items) at r.running.invariant)) in
-      omega arith
+      omega (
+        arith,
+        fewer c x at,
+        ap (λ next. length (rest_of c next)) on,
+        going_none c next (cc (put_stays m.root (reverse m.waiting.items) at r.running.invariant)),
+      )
 
   pub given_less : (m : Machine) (values : Vec Value) (x : OpenNode) {next : OpenNode} (rule : ℕ) → RunsRuleNext c x rule
       → next ≡ after_step x x.child
       → measure c (record m { values = values }) (Some next) < measure c m (Some x)
   given_less m values x {next} rule (j, a, z, giving, at) on =
-      let l = fewer c x at in
-      let k = ap (λ next. length (rest_of c next)) on in
       let same : goes_next (drop (x.at + 1) (list_at c x.production)) ≡ goes_next (rest_of c x) =
       cc (go z giving, next_is (list_at c x.production) x.at z at) in
       let g : reserved_work c (Some next) ≡ reserved_work c (Some x) = cc in
-      omega arith
+      omega (arith, fewer c x at, ap (λ next. length (rest_of c next)) on)
     where
       go : (z : Instr) → (z ≡ instr.Set j a rule) ⊎ ((z ≡ instr.Def a rule) × (j ≡ 0))
           → goes_next (drop (x.at + 1) (list_at c x.production)) ≡ goes_next (z ∷ drop (x.at + 1) (list_at c x.production))
@@ -93,21 +93,22 @@ module _ {c : Setting} (sound : IsSound c) where
       → child.production ≡ x.child → child.at ≡ 0 → waiting.items ≡ m.waiting.items ++ left_at x j ∷ []
       → measure c (record m { waiting = waiting }) (Some child) < measure c m (Some x)
   entered_less {m} waiting {x} child {j} (honest, content, to_honest, to, meter, r) at is first pushed =
-      let l = fewer c x at in
       let stack : reverse waiting.items ≡ left_at x j ∷ reverse m.waiting.items =
       cc (reverse-append m.waiting.items (left_at x j ∷ [])) in
-      let n = ap (remaining_work c) stack in
       let here : reserved_work c (Some x) ≡ node_cost c = cc (next_is (list_at c x.production) x.at (instr.Go j) at) in
       let h =
       child_of (reverse m.waiting.items) at
       (m.root, r.running.transcript, meter - m.begun, r.running.todo, r.running.invariant) in
       let rest : rest_of c child ≡ list_at c x.child = cc in
-      let g =
-      going_none c child (cc (goes_nowhere c h.production start (list_at c x.child) (λ e. cc)
-      (sound.course x.child h.production h.there))) in
-      let w = list_within c.code x.child c.read in
-      let k = ap length rest in
-      omega arith
+      omega (
+        arith,
+        fewer c x at,
+        ap (remaining_work c) stack,
+        going_none c child (cc (goes_nowhere c h.production start (list_at c x.child) (λ e. cc)
+            (sound.course x.child h.production h.there))),
+        list_within c.code x.child c.read,
+        ap length rest,
+      )
 
   pub ended_less : {m : Machine} (values : Vec Value) (waiting : Vec OpenNode) (out : writing.Progress) {x : OpenNode}
       (result : Option OpenNode) → RunsSomehow c m (Some x)
@@ -115,9 +116,7 @@ module _ {c : Setting} (sound : IsSound c) where
       → measure c (record m { writer = out; values = values; waiting = waiting }) result < measure c m (Some x)
   ended_less {m} values waiting out result (honest, content, to_honest, to, meter, r) popped_is none =
       let stack = popped result m.waiting.items waiting.items popped_is none in
-      let n = ap (remaining_work c) stack in
-      let g = is_open result stack in
-      omega arith
+      omega (arith, ap (remaining_work c) stack, is_open result stack)
     where
       is_open : (result : Option OpenNode) → reverse m.waiting.items ≡ stack_of result waiting.items → reserved_work c result ≡ 0
       is_open None e = refl

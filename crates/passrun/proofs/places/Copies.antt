@@ -1,10 +1,10 @@
 -- The copies of the values at a node's children: their use in reading, and their changes.
 use Rattle.passrun.proofs.Common
-use Common.{ℕ, zero, suc, ◌≡◌, ◌≢◌, ◌<◌, ◌≤◌, inl, inr, true, List, [], ◌∷◌, Some, Option, slice_get, length, drop, refl, ap, ◌∙◌}
-use Common.{sym, subst, arith, cases_eq, le-leb, drop_at, take_at, Value, Item, Production, Rule, Literal, Class, item_at}
-use Common.{stored_items, HasPass, item_passes, Solves, SolvesAll, Valuation, rest, Tree, Forest, leaf, node, none, more, Fits}
-use Common.{FitsAll, Child, children_with_copies, copies_of, copy_of, values_up_to, count_of_values, Setting, with_row, IsReached}
-use Common.{AgreesSoFar, Table, copied_passes, copies, in_children, AgreeAt, count_copied}
+use Common.{ℕ, zero, suc, ◌≡◌, ◌≢◌, ◌<◌, ◌≤◌, inl, inr, true, List, [], ◌∷◌, Some, slice_get, length, drop, refl, ap, ◌∙◌, sym}
+use Common.{arith, cases_eq, le-leb, drop_at, take_at, Value, Item, Production, Rule, Literal, Class, stored_items, HasPass}
+use Common.{Solves, SolvesAll, Valuation, rest, Tree, Forest, leaf, node, none, more, Fits, FitsAll, children_with_copies}
+use Common.{copies_of, copy_of, values_up_to, count_of_values, Setting, with_row, IsReached, AgreesSoFar, Table, copied_passes}
+use Common.{copies, in_children, AgreeAt, count_copied}
 use Common.item
 use Rattle.passrun.specs.passing.Change.{set}
 use Rattle.passrun.proofs.places.Slots.{copied_is, copies_same, same_at}
@@ -25,9 +25,6 @@ copies_at c k (y ∷ xs) e zero x at =
     let prefix = values_up_to k (copied_passes c y) (e 0) in
     let long = count_of_values k (copied_passes c y) (e 0) ∙ sym (count_copied c k y) in
     cc (take_at prefix (copies c k xs (λ j. e (suc j))) _ long, same)
-  where
-    child : Item → List Value → Option Child
-    child y vs = Some (y, Some vs)
 copies_at c k (y ∷ xs) e (suc j) x at =
     let prefix = values_up_to k (copied_passes c y) (e 0) in
     let long = count_of_values k (copied_passes c y) (e 0) ∙ sym (count_copied c k y) in
@@ -62,10 +59,7 @@ written_there : (c : Setting) (q : Production) (b n p j a : ℕ) (x : Item)
     → HasPass c.passes q (record { place = j; attr = a }) c.write → slice_get (stored_items q.items) b ≡ Some x
     → slice_get (copied_passes c x) n ≡ Some p → suc b ≡ j → n ≡ a → p ≡ c.write
 written_there c q b n p j a x pass at is bj na =
-    let w : slice_get (item_passes c.passes (item_at q (suc b))) n ≡ Some c.write =
-    subst (λ j. slice_get (item_passes c.passes (item_at q j)) n ≡ Some c.write) (sym bj)
-    (subst (λ a. slice_get (item_passes c.passes (item_at q j)) a ≡ Some c.write) (sym na) pass) in
-    let e : Some p ≡ Some c.write = cc (copied_is c x n p is) in
+    let e : Some p ≡ Some c.write = cc (pass, copied_is c x n p is) in
     cc
 
 -- A value of the pass that is written does not change the copies of earlier passes.
@@ -75,8 +69,7 @@ pub copies_set : (c : Setting) (q : Production) (e : Table) (j a : ℕ) (v : Val
 copies_set c q e j a v next pass =
     copies_same c c.read (stored_items q.items) (in_children (set e j a v)) (in_children e)
     (λ b n p x at is le. set_other e j a v (suc b) n (λ both.
-    let w = written_there c q b n p j a x pass at is both.0 both.1 in
-    omega arith))
+    omega (arith, written_there c q b n p j a x pass at is both.0 both.1)))
 
 -- Other values at a child that agree with its copy do not change the copies.
 pub copies_row : (c : Setting) (q : Production) (e : Table) (j : ℕ) {x : Item} (h : ℕ → Value)
@@ -92,7 +85,7 @@ copies_row c q e j {x} h at agree =
       | inl here ↦ (
           let items : Some y ≡ Some x = cc in
           let yx : y ≡ x = cc in
-          let is' = subst (λ y. slice_get (copied_passes c y) n ≡ Some p) yx is in
+          let is' = rw yx at is in
           cc (with_here e (suc j) h n, same_at c.read (copied_passes c x) (e (suc j)) h agree n p is' le))
       | inr apart ↦ with_other e (suc j) h (suc b) n (λ z. apart (omega arith))
     ]
@@ -108,8 +101,7 @@ shown_set c q n e s j a v pass fault_unless shown b m p x at is le when =
       set_other e j a v (suc b) m (λ both. let w = written_there c q b m p j a x pass at is both.0 both.1 in
           elim when [
             | inl less ↦ omega arith
-            | inr known ↦ (let z = fault_unless (subst (IsReached c q n) both.0 known) in
-                let bj = both.0 in omega arith)
+            | inr known ↦ (omega (arith, fault_unless (rw both.0 at known), both.0))
           ]),
     )
 
@@ -123,8 +115,8 @@ shown_row c q n n' e s j x h at agree next others never shown b m p y at' is le 
   | inl here ↦ (
       let items : Some y ≡ Some x = cc in
       let yx : y ≡ x = cc in
-      let is' = subst (λ y. slice_get (copied_passes c y) m ≡ Some p) yx is in
-      let less : p < c.write = elim when [ inl l ↦ l | inr k ↦ never m p is' (subst (λ b. IsReached c q n' (suc b)) here k) ] in
+      let is' = rw yx at is in
+      let less : p < c.write = elim when [ inl l ↦ l | inr k ↦ never m p is' (rw here at k) ] in
       cc (same_at c.read (copied_passes c x) (s (suc j)) h agree m p is' (omega arith), with_here e (suc j) h m))
   | inr apart ↦ cc (
     shown b m p y at' is le (elim when [ inl l ↦ inl l | inr k ↦ inr (others b apart k) ]),

@@ -1,7 +1,7 @@
 -- The slots of a node's values.
 use Rattle.passrun.proofs.Common
-use Common.{ℕ, zero, suc, ◌≡◌, ◌≢◌, ◌+◌, ◌<◌, ◌≤◌, Bool, true, false, nat_le, if◌then◌else◌, List, [], ◌∷◌, ◌++◌, Some, None}
-use Common.{Option, slice_get, length, take, drop, set, map, refl, ◌∙◌, sym, arith, append_assoc, length-append, le-leb, drop_at}
+use Common.{append-nil, ℕ, zero, suc, ◌≡◌, ◌≢◌, ◌+◌, ◌<◌, ◌≤◌, Bool, true, false, nat_le, if◌then◌else◌, List, [], ◌∷◌, ◌++◌}
+use Common.{Some, None, Option, slice_get, length, take, set, map, refl, ◌∙◌, sym, arith, append_assoc, length-append, le-leb}
 use Common.{set-append_left, slice_get_within, Value, Item, Production, Literal, Class, Inherited, Synthesized, item_kinds}
 use Common.{stored_items, symbol_kinds, item_passes, synthesized_count, values_up_to, count_up_to, Setting, Table, copied_passes}
 use Common.{copies, in_children, place_passes, stored, argument_slot, copied_all, copied_before, copy_start, rank, stored_width}
@@ -17,9 +17,6 @@ get_left (y ∷ xs) ys (suc i) x h = get_left xs ys i x h
 pub get_right : {X : Type 0} (xs ys : List X) (i : ℕ) → slice_get (xs ++ ys) (length xs + i) ≡ slice_get ys i
 get_right [] ys i = let n : 0 + i ≡ i = omega arith in cc
 get_right (x ∷ xs) ys i = let n : suc (length xs) + i ≡ suc (length xs + i) = omega arith in cc (get_right xs ys i)
-
-one : ℕ → ℕ → Value → List Value
-one k p x = if nat_le p k then x ∷ [] else []
 
 pub length_row : (k : ℕ) (ps : List ℕ) (f : ℕ → Value) → length (values_up_to k ps f) ≡ count_up_to k ps
 length_row k [] f = refl
@@ -42,6 +39,10 @@ row_at k (x ∷ ps) f (suc a) p is le = go (nat_le x k) ∙ row_at k ps (λ a. f
         ((if b then 1 else 0) + rank k ps a) ≡ slice_get (values_up_to k ps (λ a. f (suc a))) (rank k ps a)
     go true = let n : 1 + rank k ps a ≡ suc (rank k ps a) = omega arith in cc
     go false = let n : 0 + rank k ps a ≡ rank k ps a = omega arith in cc
+
+pub row_less : (k : ℕ) (ps : List ℕ) (f : ℕ → Value) (a p : ℕ) → slice_get ps a ≡ Some p → p ≤ k
+    → rank k ps a < length (values_up_to k ps f)
+row_less k ps f a p is le = slice_get_within (values_up_to k ps f) (rank k ps a) (f a) (row_at k ps f a p is le)
 
 pub row_set : (k : ℕ) (ps : List ℕ) (f h : ℕ → Value) (a p : ℕ) (v : Value) → slice_get ps a ≡ Some p → p ≤ k → h a ≡ v
     → ((b : ℕ) → b ≢ a → h b ≡ f b) → set (values_up_to k ps f) (rank k ps a) v ≡ values_up_to k ps h
@@ -99,28 +100,28 @@ pub begins_with_copy : (c : Setting) (x : Item) (h : ℕ → Value)
     → (others : List Value)
     × (values_up_to c.write (item_passes c.passes (Some x)) h ≡ values_up_to c.write (copied_passes c x) h ++ others)
 begins_with_copy c (item.Symbol s) h = begins_row c.write (synthesized_count (slice_get c.grammar.symbols s)) (c.passes s) h
-begins_with_copy c (item.Terminal (Class d)) h = ([], sym (append_nothing (values_up_to c.write (0 ∷ []) h)))
-  where
-    append_nothing : (xs : List Value) → xs ++ [] ≡ xs
-    append_nothing [] = refl
-    append_nothing (x ∷ xs) = cc (append_nothing xs)
+begins_with_copy c (item.Terminal (Class d)) h = ([], sym (append-nil (values_up_to c.write (0 ∷ []) h)))
 begins_with_copy c (item.Terminal (Literal l)) h = ([], refl)
 
 -- The number of copies.
 pub length_copies : (c : Setting) (xs : List Item) (e : Table) → length (copies c c.write xs e) ≡ copied_all c xs
 length_copies c [] e = refl
 length_copies c (x ∷ xs) e =
-    let a = length_row c.write (copied_passes c x) (e 0) in
-    let b = length_copies c xs (λ j. e (suc j)) in
-    let d = length-append (values_up_to c.write (copied_passes c x) (e 0)) (copies c c.write xs (λ j. e (suc j))) in
-    omega arith
+    omega (
+      arith,
+      length_row c.write (copied_passes c x) (e 0),
+      length_copies c xs (λ j. e (suc j)),
+      length-append (values_up_to c.write (copied_passes c x) (e 0)) (copies c c.write xs (λ j. e (suc j))),
+    )
 
 pub length_stored : (c : Setting) (q : Production) (f : ℕ → Value) (s : Table) → length (stored c q f s) ≡ stored_width c q
 length_stored c q f s =
-    let a = length_row c.write (c.passes q.left) f in
-    let b = length_copies c (stored_items q.items) (in_children s) in
-    let d = length-append (values_up_to c.write (c.passes q.left) f) (copies c c.write (stored_items q.items) (in_children s)) in
-    omega arith
+    omega (
+      arith,
+      length_row c.write (c.passes q.left) f,
+      length_copies c (stored_items q.items) (in_children s),
+      length-append (values_up_to c.write (c.passes q.left) f) (copies c c.write (stored_items q.items) (in_children s)),
+    )
 
 -- Equal values make equal copies.
 pub copies_same : (c : Setting) (k : ℕ) (xs : List Item) (e h : Table)
@@ -164,25 +165,23 @@ shares c (y ∷ xs) (suc b) x at e =
       ),
     )
 
--- The values of a row from the copies of an item on.
-pub share_at : (c : Setting) (q : Production) (f : ℕ → Value) (s : Table) (row : List Value) (b : ℕ) (x : Item)
+-- In a row the copies of an item come between other values, `before` and `after`. For a table that differs only at this item,
+-- `before` and `after` are the same.
+pub row_split : (c : Setting) (q : Production) (f : ℕ → Value) (s : Table) (b : ℕ) {x : Item}
     → slice_get (stored_items q.items) b ≡ Some x
-    → (rest : List Value)
-    × (drop (copy_start c q (suc b)) (stored c q f s ++ row) ≡ values_up_to c.write (copied_passes c x) (s (suc b))
-    ++ rest)
-share_at c q f s row b x at =
-    let xs = stored_items q.items in
-    let r = shares c xs b x at (in_children s) in
-    let own = values_up_to c.write (c.passes q.left) f in
-    let share = values_up_to c.write (copied_passes c x) (s (suc b)) in
-    let copied : copies c c.write xs (in_children s) ≡ r.0 ++ (share ++ r.1) = r.3 (in_children s) (λ j a z. refl) in
-    let prefix : stored c q f s ++ row ≡ (own ++ r.0) ++ (share ++ (r.1 ++ row)) =
-    cc (append_assoc own r.0 (share ++ r.1), append_assoc (own ++ r.0) (share ++ r.1) row, append_assoc share r.1 row) in
-    let n = length_row c.write (c.passes q.left) f in
-    let m = r.2 in
-    let l = length-append own r.0 in (
-      r.1 ++ row,
-      cc (drop_at (own ++ r.0) (share ++ (r.1 ++ row)) (copy_start c q (suc b)) (omega arith)),
+    → (before : List Value) × (after : List Value) × (length before ≡ copy_start c q (suc b))
+    × ((h : Table) → ((j a : ℕ) → j ≢ b → h (suc j) a ≡ s (suc j) a)
+    → stored c q f h ≡ before ++ (values_up_to c.write (copied_passes c x) (h (suc b)) ++ after))
+row_split c q f s b {x} at =
+    let r = shares c (stored_items q.items) b x at (in_children s) in
+    let own = values_up_to c.write (c.passes q.left) f in (
+      own ++ r.0,
+      r.1,
+      omega (arith, length_row c.write (c.passes q.left) f, r.2, length-append own r.0),
+      λ h other. cc (
+        r.3 (in_children h) other,
+        append_assoc own r.0 (values_up_to c.write (copied_passes c x) (h (suc b)) ++ r.1),
+      ),
     )
 
 -- The slot of an argument at a child has its value.
@@ -190,22 +189,16 @@ pub argument_at : (c : Setting) (q : Production) (f : ℕ → Value) (s : Table)
     → slice_get (stored_items q.items) b ≡ Some x → slice_get (copied_passes c x) a ≡ Some p → p ≤ c.write
     → slice_get (stored c q f s ++ row) (argument_slot c q (suc b) a) ≡ Some (s (suc b) a)
 argument_at c q f s row b a p x at is le =
-    let xs = stored_items q.items in
-    let r = shares c xs b x at (in_children s) in
-    let own = values_up_to c.write (c.passes q.left) f in
+    let r = row_split c q f s b at in
     let share = values_up_to c.write (copied_passes c x) (s (suc b)) in
-    let copied : copies c c.write xs (in_children s) ≡ r.0 ++ (share ++ r.1) = r.3 (in_children s) (λ j a z. refl) in
-    let prefix : stored c q f s ++ row ≡ (own ++ r.0) ++ (share ++ (r.1 ++ row)) =
-    cc (append_assoc own r.0 (share ++ r.1), append_assoc (own ++ r.0) (share ++ r.1) row, append_assoc share r.1 row) in
-    let n = length_row c.write (c.passes q.left) f in
-    let m = r.2 in
-    let l = length-append own r.0 in
-    let ranks = rank_copied x at is in
-    let index : argument_slot c q (suc b) a ≡ length (own ++ r.0) + rank c.write (copied_passes c x) a = omega arith in
+    let k = rank c.write (copied_passes c x) a in
+    let index : argument_slot c q (suc b) a ≡ length r.0 + k = omega (arith, r.2, rank_copied x at is) in
     cc (
-      get_right (own ++ r.0) (share ++ (r.1 ++ row)) (rank c.write (copied_passes c x) a),
-      get_left share (r.1 ++ row) (rank c.write (copied_passes c x) a) (s (suc b) a)
-          (row_at c.write (copied_passes c x) (s (suc b)) a p is le),
+      r.3 s (λ j a z. refl),
+      append_assoc r.0 (share ++ r.1) row,
+      append_assoc share r.1 row,
+      get_right r.0 (share ++ (r.1 ++ row)) k,
+      get_left share (r.1 ++ row) k (s (suc b) a) (row_at c.write (copied_passes c x) (s (suc b)) a p is le),
     )
   where
     rank_copied : (x : Item) → slice_get (stored_items q.items) b ≡ Some x → slice_get (copied_passes c x) a ≡ Some p
@@ -235,7 +228,7 @@ own_set c q f h s a p v is le here other =
     let copied = copies c c.write (stored_items q.items) (in_children s) in
     let r = rank c.write (c.passes q.left) a in
     cc (
-      set-append_left own copied r v (slice_get_within own r (f a) (row_at c.write (c.passes q.left) f a p is le)),
+      set-append_left own copied r v (row_less c.write (c.passes q.left) f a p is le),
       row_set c.write (c.passes q.left) f h a p v is le here other,
     )
 
@@ -250,7 +243,7 @@ syn_below [] inh a is = absurd (no_synthesized inh a is)
     no_synthesized (n ∷ inh) zero is = cc
     no_synthesized (n ∷ inh) (suc a) is = no_synthesized inh a is
 syn_below (n ∷ syn) inh zero is = omega arith
-syn_below (n ∷ syn) inh (suc a) is = let less = syn_below syn inh a is in omega arith
+syn_below (n ∷ syn) inh (suc a) is = omega (arith, syn_below syn inh a is)
 
 pub has_copy : (c : Setting) (x : Item) (a p : ℕ) → slice_get (item_kinds c.grammar (Some x)) a ≡ Some Synthesized
     → slice_get (item_passes c.passes (Some x)) a ≡ Some p → slice_get (copied_passes c x) a ≡ Some p

@@ -1,8 +1,9 @@
 -- A table with one value changed, and the values of its rows.
 use Rattle.passrun.proofs.Common
-use Common.{ℕ, zero, suc, ◌≡◌, ◌≤◌, Bool, true, false, ◌&&◌, nat_eq, nat_le, if◌then◌else◌, All, ◌≢◌, List, [], ◌∷◌, ◌++◌, Some}
-use Common.{slice_get, refl, ap, ◌∙◌, sym, subst, arith, leb-true, le-leb, eqb-true, eq-eqb, All-cons, All-head, All-nil}
-use Common.{All-tail, Value, Text, Target, Grammar, Passes, left_passes, values_up_to, node_body, version_two, Table, with_row}
+use Common.{length, take_at, drop_at, All-take, All-drop, ℕ, zero, suc, ◌≡◌, ◌≤◌, Bool, true, false, ◌&&◌, nat_eq, nat_le}
+use Common.{if◌then◌else◌, All, ◌≢◌, List, [], ◌∷◌, ◌++◌, Some, slice_get, refl, ap, ◌∙◌, sym, arith, leb-true, le-leb, eqb-true}
+use Common.{eq-eqb, All-head, All-tail, Value, Text, Target, Grammar, Passes, left_passes, values_up_to, node_body, version_two}
+use Common.{Table, with_row}
 use Rattle.std.proofs.Common.{cond}
 use Rattle.passrun.specs.passing.Change.{set}
 
@@ -69,7 +70,7 @@ pub in_row : (P : Value → Type 0) (k : ℕ) (ps : List ℕ) (f : ℕ → Value
     → slice_get ps a ≡ Some p → p ≤ k → P (f a)
 in_row P k [] f h a p at le = cc
 in_row P k (x ∷ ps) f h zero p at le = let e : x ≡ p = cc in
-    (value_has P x k (f 0) (values_up_to k ps (λ a. f (suc a))) h).0 (subst (λ p. p ≤ k) (sym e) le)
+    (value_has P x k (f 0) (values_up_to k ps (λ a. f (suc a))) h).0 (omega arith)
 in_row P k (x ∷ ps) f h (suc a) p at le =
     in_row P k ps (λ a. f (suc a)) (value_has P x k (f 0) (values_up_to k ps (λ a. f (suc a))) h).1 a p at le
 
@@ -79,16 +80,14 @@ pub body_same : (k : ℕ) (g : Grammar) (m : Passes) (p s : ℕ) (f h : ℕ → 
     → node_body version_two g m k p f cs ≡ node_body version_two g m k p h cs
 body_same k g m p s f h cs is same =
     cc (same_values k (left_passes m (slice_get g.productions p)) f h
-    (λ a n at le. same a n (subst (λ ps. slice_get ps a ≡ Some n) is at) le))
+    (λ a n at le. same a n (cc) le))
 
 -- The row of a token.
 pub text_row : (k : ℕ) (text : List ℕ) → values_up_to k (0 ∷ []) (λ a. Text text) ≡ Text text ∷ []
 text_row k text = cc (le-leb 0 k (omega arith))
 
 pub All-before : (P : Value → Type 0) (xs ys : List Value) → All P (xs ++ ys) → All P xs
-All-before P [] ys h = All-nil P
-All-before P (x ∷ xs) ys h = All-cons P x xs (All-head P x (xs ++ ys) h) (All-before P xs ys (All-tail P x (xs ++ ys) h))
+All-before P xs ys h = rw (take_at xs ys (length xs) refl) at (All-take P (length xs) (xs ++ ys) h)
 
 pub All-after : (P : Value → Type 0) (xs ys : List Value) → All P (xs ++ ys) → All P ys
-All-after P [] ys h = h
-All-after P (x ∷ xs) ys h = All-after P xs ys (All-tail P x (xs ++ ys) h)
+All-after P xs ys h = rw (drop_at xs ys (length xs) refl) at (All-drop P (length xs) (xs ++ ys) h)

@@ -1,16 +1,16 @@
 -- Facts about the innermost open node that a step needs.
 use Rattle.passrun.proofs.Common
 use Common.{ℕ, zero, suc, ◌≡◌, ◌+◌, ◌<◌, ◌≤◌, inl, inr, false, List, [], ◌∷◌, ◌++◌, Some, slice_get, length, drop, refl, ap, ◌∙◌}
-use Common.{sym, subst, arith, length-append, length-drop, drop_at, slice_get_within, Value, Item, Production, Rule, Target}
-use Common.{IsArgument, IsProduction, item_at, stored_items, item_passes, nth, Pending, count_up_to, values_up_to, Instr, Phase}
-use Common.{Between, Gone, Setting, list_at, pass_direction, IsSound, OpenNode, goes_next, IsCurrent, Transcript, RunInvariant}
-use Common.{state_of, Table, copied_passes, rest_of, stored, argument_slot, copied_all, copied_before, copied_width, copy_start}
-use Common.{rank, stored_width, target_slot}
+use Common.{sym, arith, length-append, length-drop, drop_at, slice_get_within, Value, Item, Production, Rule, Target, IsArgument}
+use Common.{IsProduction, item_at, stored_items, item_passes, nth, Pending, count_up_to, values_up_to, Instr, Phase, Between}
+use Common.{Gone, Setting, list_at, pass_direction, IsSound, OpenNode, goes_next, IsCurrent, Transcript, RunInvariant, state_of}
+use Common.{Table, copied_passes, rest_of, stored, argument_slot, copied_all, copied_before, copied_width, copy_start, IsActive}
+use Common.{stored_width, target_slot}
 use Common.item
 use Common.instr
 use Rattle.passcode.specs.Course.{MayCompute, Runs, arity, place_of}
 use Rattle.passcode.proofs.Turns.{is_stored_child}
-use Rattle.passrun.proofs.places.Slots.{begins_with_copy, length_row, length_stored, row_at}
+use Rattle.passrun.proofs.places.Slots.{begins_with_copy, length_row, length_stored, row_less}
 use Rattle.passrun.proofs.steps.RuleRuns.{IsPlaced}
 use Rattle.passrun.proofs.steps.Ruled.{argument_there}
 use Rattle.passrun.proofs.steps.EntersNone.{goes_nowhere}
@@ -61,12 +61,12 @@ pub record HasRule (c : Setting) (x : OpenNode) (j a r : ℕ) (values : List Val
 copies_within : (c : Setting) (xs : List Item) (b : ℕ) (x : Item) → slice_get xs b ≡ Some x
     → copied_before c xs b + copied_width c x ≤ copied_all c xs
 copies_within c [] b x at = absurd cc
-copies_within c (y ∷ xs) zero x at = let same : y ≡ x = cc in let n = ap (copied_width c) same in omega arith
-copies_within c (y ∷ xs) (suc b) x at = let n = copies_within c xs b x at in omega arith
+copies_within c (y ∷ xs) zero x at = let same : y ≡ x = cc in omega (arith, ap (copied_width c) same)
+copies_within c (y ∷ xs) (suc b) x at = omega (arith, copies_within c xs b x at)
 
 row_within : (c : Setting) (q : Production) (b : ℕ) (x : Item) → slice_get (stored_items q.items) b ≡ Some x
     → copy_start c q (suc b) + copied_width c x ≤ stored_width c q
-row_within c q b x at = let n = copies_within c (stored_items q.items) b x at in omega arith
+row_within c q b x at = omega (arith, copies_within c (stored_items q.items) b x at)
 
 -- The copies for the child at the next place are among the values.
 copies_in : (c : Setting) (x : OpenNode) (q : Production) (i : ℕ) (f : ℕ → Value) (e : Table) {x' : Item}
@@ -74,12 +74,27 @@ copies_in : (c : Setting) (x : OpenNode) (q : Production) (i : ℕ) (f : ℕ →
     → values ≡ under ++ (stored c q f e ++ row)
     → x.base + (copy_start c q (place_of q c.write i) + copied_width c x') ≤ length values
 copies_in c x q i f e {x'} under row occurs base is =
-    let n = row_within c q (nth (pass_direction c) (arity q) i) x' occurs in
-    let m = length_stored c q f e in
-    let a = length-append under (stored c q f e ++ row) in
-    let b = length-append (stored c q f e) row in
-    let d = ap length is in
-    omega arith
+    omega (
+      arith,
+      row_within c q (nth (pass_direction c) (arity q) i) x' occurs,
+      length_stored c q f e,
+      length-append under (stored c q f e ++ row),
+      length-append (stored c q f e) row,
+      ap length is,
+    )
+
+has_place : {c : Setting} {s : ℕ} {f : ℕ → Value} {level : ℕ} {x : OpenNode} {under : List Value} {old : Transcript} {before : ℕ}
+    {others : Pending} {ph : Phase} {values : List Value} {t : Transcript} {now : ℕ} {todo : Pending} {j : ℕ} {x' : Item}
+    (o : IsActive c s f level x under old before others ph values t now todo) → j ≡ place_of o.production c.write o.i
+    → item_at o.production (place_of o.production c.write o.i) ≡ Some x' → HasPlace c x j values
+has_place {c} {x = x} {under = under} {x' = x'} o place occurs = record {
+  production = o.production;
+  there = o.is_open.there;
+  item = x';
+  occurs = cc;
+  some = omega arith;
+  within = rw place (copies_in c x o.production o.i (o.table 0) o.copied under o.row occurs o.base o.values_are);
+}
 
 module _ {c : Setting} (root : ℕ) {x : OpenNode} (xs : List OpenNode) {values : List Value} {t : Transcript} {now : ℕ}
     {todo : Pending} where
@@ -96,36 +111,13 @@ module _ {c : Setting} (root : ℕ) {x : OpenNode} (xs : List OpenNode) {values 
 
   pub put_place : {j : ℕ} → IsNext c x (instr.Put j) → RunInvariant c root (x ∷ xs) values t now todo → HasPlace c x j values
   put_place at (s, f, under, old, before, others, waits, ph, here) =
-      let o = at_put here at in
-      let q = o.production in
-      let place = (runs_next o at).0.place in
-      let g = o.current.0 in
-      record {
-        production = q;
-        there = o.is_open.there;
-        item = g.item;
-        occurs = ap (item_at q) place ∙ g.occurs;
-        some = omega arith;
-        within = subst (λ j. x.base + (copy_start c q j + copied_width c g.item) ≤ length values) (sym place)
-            (copies_in c x q o.i (o.table 0) o.copied under o.row g.occurs o.base o.values_are);
-      }
+      let o = at_put here at in has_place o (runs_next o at).0.place o.current.0.occurs
 
   pub get_place : {j : ℕ} → IsNext c x (instr.Get j) → RunInvariant c root (x ∷ xs) values t now todo → HasPlace c x j values
   get_place at (s, f, under, old, before, others, waits, ph, here) =
       let o = at_get here at in
-      let q = o.production in
       let turn = (runs_next o at).0 in
-      let place = turn.place in
-      let item = is_stored_child q c.write o.i turn.within in
-      record {
-        production = q;
-        there = o.is_open.there;
-        item = item.0;
-        occurs = ap (item_at q) place ∙ item.1.1;
-        some = omega arith;
-        within = subst (λ j. x.base + (copy_start c q j + copied_width c item.0) ≤ length values) (sym place)
-            (copies_in c x q o.i (o.table 0) o.copied under o.row item.1.1 o.base o.values_are);
-      }
+      has_place o turn.place (is_stored_child o.production c.write o.i turn.within).1.1
 
   -- When a node ends, its row is the last one.
   pub own_row : IsNext c x instr.End → RunInvariant c root (x ∷ xs) values t now todo → HasOwn c x values
@@ -177,7 +169,7 @@ waited {c} root {x} {y} ys {values} {t} {now} {todo} at h = go (own_row root (y 
           there = z.is_open.there;
           item = item.Symbol s;
           occurs = cc;
-          some = let p = z.place_is in omega arith;
+          some = omega (arith, z.place_is);
           within = rw z.place_is before_it;
           wide = omega arith;
         }
@@ -190,7 +182,7 @@ waits_stay root [] e p = absurd cc
 waits_stay {c} root (w ∷ ws) {y = y} e
     (s, f, under, old, before, others, (s', f', under', old', before', others', waits, z), ph, o) =
     let same : w ≡ y = cc in
-    subst (λ w. goes_next (rest_of c w) ≡ false) same
+    rw (← same)
     (goes_nowhere c z.production (state_of Gone z.i z.done) (rest_of c w) (λ e. cc) z.runs)
 
 pub given_rule : {c : Setting} → IsSound c → (root : ℕ) {x : OpenNode} (xs : List OpenNode) {values : List Value} {t : Transcript}
@@ -222,54 +214,46 @@ given_rule {c} sound root {x} xs {values} {t} {j = j} {a = a} {r = r} giving at 
         let at =
         argument_there sound x.production q (state_of ph o.i o.done) r next.0.rule o.table o.copied o.row o.is_open.there
         next.0.numbered o.agreement t arg (next.0.available t arg) in
-        let less = slice_get_within row (argument_slot c q t.place t.attr) (o.table t.place t.attr) at in
-        let n = ap length (ap (drop x.base) o.values_are ∙ drop_at under row x.base (sym o.base)) in
-        omega arith
+        omega (
+          arith,
+          slice_get_within row (argument_slot c q t.place t.attr) (o.table t.place t.attr) at,
+          ap length (ap (drop x.base) o.values_are ∙ drop_at under row x.base (sym o.base)),
+        )
 
     whole : length values ≡ length under + (stored_width c q + length o.row)
     whole =
-        let n = length-append under (stored c q (o.table 0) o.copied ++ o.row) in
-        let m = length-append (stored c q (o.table 0) o.copied) o.row in
-        let l = length_stored c q (o.table 0) o.copied in
-        let e = ap length o.values_are in
-        omega arith
+        omega (
+          arith,
+          length-append under (stored c q (o.table 0) o.copied ++ o.row),
+          length-append (stored c q (o.table 0) o.copied) o.row,
+          length_stored c q (o.table 0) o.copied,
+          ap length o.values_are,
+        )
 
     own : j ≡ 0 → x.base + target_slot c q j a < length values
     own none =
-        let at0 : slice_get (c.passes q.left) a ≡ Some c.write = rw none at pass in
-        let less =
-        slice_get_within (values_up_to c.write (c.passes q.left) (o.table 0)) (rank c.write (c.passes q.left) a)
-        (o.table 0 a) (row_at c.write (c.passes q.left) (o.table 0) a c.write at0 (omega arith)) in
-        let n = length_row c.write (c.passes q.left) (o.table 0) in
-        let slot : target_slot c q j a ≡ rank c.write (c.passes q.left) a =
-        ap (λ j. target_slot c q j a) none
-        ∙ (let z : target_slot c q 0 a ≡ rank c.write (c.passes q.left) a = omega arith in z) in
-        let w = whole in
-        let b = o.base in
-        omega arith
+        rw none (omega (
+          arith,
+          row_less c.write (c.passes q.left) (o.table 0) a c.write (rw none at pass) (omega arith),
+          length_row c.write (c.passes q.left) (o.table 0),
+          whole,
+          o.base,
+        ))
 
     within : IsPlaced c q (state_of ph o.i o.done) j → x.base + target_slot c q j a < length values
     within (inl none) = own none
     within (inr turn) =
-        let current =
-        subst (λ ph. IsCurrent c q ph o.i (suc (length xs)) x.child o.table o.of_child o.row o.mid t o.count) turn.phase_is
-        o.current in
+        let current = rw turn.phase_is at o.current in
         let g = current.0 in
         let pl = place_of q c.write o.i in
-        let ps : item_passes c.passes (item_at q j) ≡ c.passes g.production.left =
-        ap (λ j. item_passes c.passes (item_at q j)) turn.place ∙ ap (item_passes c.passes) g.occurs
-        ∙ ap c.passes (sym g.left) in
-        let at1 : slice_get (c.passes g.production.left) a ≡ Some c.write = cc pass in
-        let less =
-        slice_get_within (values_up_to c.write (c.passes g.production.left) (o.table pl))
-        (rank c.write (c.passes g.production.left) a) (o.table pl a)
-        (row_at c.write (c.passes g.production.left) (o.table pl) a c.write at1 (omega arith)) in
-        let n = length_row c.write (c.passes g.production.left) (o.table pl) in
-        let m = length_stored c g.production (o.table pl) o.of_child in
-        let l = ap length current.2 in
-        let slot : target_slot c q j a ≡ stored_width c q + rank c.write (c.passes g.production.left) a =
-        ap (λ j. target_slot c q j a) turn.place
-        ∙ ap (λ ps. stored_width c q + rank c.write ps a) (ap (λ j. item_passes c.passes (item_at q j)) (sym turn.place) ∙ ps) in
-        let w = whole in
-        let b = o.base in
-        omega arith
+        let ps : item_passes c.passes (item_at q pl) ≡ c.passes g.production.left = cc (g.occurs, g.left) in
+        let at1 : slice_get (c.passes g.production.left) a ≡ Some c.write = cc (pass, turn.place) in
+        rw (turn.place, ps) (omega (
+          arith,
+          row_less c.write (c.passes g.production.left) (o.table pl) a c.write at1 (omega arith),
+          length_row c.write (c.passes g.production.left) (o.table pl),
+          length_stored c g.production (o.table pl) o.of_child,
+          ap length current.2,
+          whole,
+          o.base,
+        ))

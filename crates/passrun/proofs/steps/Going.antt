@@ -1,8 +1,8 @@
 -- Entering a child.
 use Rattle.passrun.proofs.Common
-use Common.{ℕ, ◌≡◌, ◌-◌, ◌≤◌, List, [], ◌∷◌, ◌++◌, Some, length, reverse, ap, ◌∙◌, sym, subst, arith, length-append}
-use Common.{reverse-append, Value, Production, IsProduction, Setting, IsSound, OpenNode, first_at, left_at, RunInvariant}
-use Common.{IsConsistent, ContinuesAs, stored, stored_width}
+use Common.{ℕ, ◌≡◌, ◌-◌, ◌≤◌, List, [], ◌∷◌, ◌++◌, Some, length, reverse, ap, arith, length-append, reverse-append, Value}
+use Common.{Production, IsProduction, Setting, IsSound, OpenNode, first_at, left_at, IsConsistent, ContinuesAs, stored}
+use Common.{stored_width}
 use Common.instr
 use Rattle.passcode.specs.Course.{place_of}
 use Rattle.passrun.proofs.places.Slots.{length_stored}
@@ -34,11 +34,8 @@ pub goes : {c : Setting} → IsSound c → (x : OpenNode) (old new : List OpenNo
     → ContinuesAs c (x ∷ reverse old) values (first_at x.child (length values - width) ∷ reverse new) values
 goes {c} sound x old new values j width at is pushed root t now todo h =
     let child = child_of (reverse old) at (root, t, now, todo, h) in
-    subst (λ ys. RunInvariant c root (first_at x.child (length values - width) ∷ ys) values t now todo)
-    (sym (ap reverse pushed ∙ reverse-append old (left_at x j ∷ [])))
+    rw (pushed, reverse-append old (left_at x j ∷ []))
     (step_go sound root (reverse old) at (λ q there.
     let same : Some child.production ≡ Some q = cc there in
     let one : child.production ≡ q = cc in
-    let w = is q there in
-    let long = subst (λ q. stored_width c q ≤ length values) one child.width in
-    omega arith) h)
+    omega (arith, is q there, rw one at child.width)) h)

@@ -2,17 +2,18 @@
 use Rattle.passrun.proofs.Common
 use Common.{Vec, option_to_list, IfOk, IsTrue, MatchOption, ℕ, suc, zero, ◌≡◌, ◌+◌, ◌-◌, ◌^◌, ◌<◌, ◌≤◌, nat_le, if◌then◌else◌}
 use Common.{false, Bool, List, [], ◌∷◌, ◌++◌, Option, Some, None, Result, Ok, Err, All, slice_get, slice_index, get_or, length}
-use Common.{take, drop, reverse, set, refl, ap, ◌∙◌, sym, subst, arith, append_assoc, append-nil, true, le-leb}
-use Common.{get_or_from_slice_get, slice_get-get_or, slice_get_within, All-from_get_or, drop_at, length-reverse, reverse-append}
-use Common.{Value, Text, IsWell, Item, Production, Rule, Literal, Class, Target, IsArgument, IsProduction, item_at, stored_items}
-use Common.{value_of, Node, Token, LeavesContent, values_up_to, BackState, Setting, IsSound, PlaceRow, ProductionRow, RuleSlots}
-use Common.{Machine, OpenNode, HasFetched, AreSlotsOf, IsRowAt, IsRowOf, after_step, ContinuesAs, IsConsistent, copied_passes}
-use Common.{copies, kept_values, HasPut, Agrees, IsRead, read_values, RunsRuleNext, RunsFrom, RunsSomehow, LeadsFrom, LeadsTo}
-use Common.{stack_of, argument_slot, copied_width, copy_start, known_width, target_slot, count_of_values, place_is, place_within}
+use Common.{take, drop, reverse, set, refl, ap, ◌∙◌, sym, arith, append_assoc, append-nil, true, le-leb, get_or_from_slice_get}
+use Common.{slice_get-get_or, slice_get_within, All-from_get_or, drop_at, length-reverse, reverse-append, Value, Text, IsWell}
+use Common.{Item, Production, Rule, Literal, Class, Target, IsArgument, IsProduction, item_at, stored_items, value_of, Node}
+use Common.{Token, LeavesContent, values_up_to, BackState, Setting, IsSound, PlaceRow, ProductionRow, RuleSlots, Machine}
+use Common.{OpenNode, HasFetched, AreSlotsOf, IsRowAt, IsRowOf, after_step, ContinuesAs, IsConsistent, copied_passes, copies}
+use Common.{kept_values, HasPut, Agrees, IsRead, read_values, RunsRuleNext, RunsFrom, RunsSomehow, LeadsFrom, LeadsTo, stack_of}
+use Common.{argument_slot, copied_width, copy_start, known_width, target_slot, count_of_values, place_is, place_within}
 use Common.{slots_found, some_at, empty_is}
 use Common.item
 use Common.writing
 use Common.instr
+use Rattle.std.proofs.lemmas.List.{nil_from_length}
 use Rattle.ag_value.specs.declared.fault.NoMemory.{NoMemory}
 use Rattle.ag_grammar.specs.declared.grammar.Terminal.{Terminal}
 use Rattle.pass_rows.specs.layouts.BuiltLayouts.{place_rows}
@@ -35,7 +36,7 @@ nothing_read c x ours theirs none f h rest others ours_are theirs_are = ((λ yes
   where
     nothing : (f : ℕ → Value) → values_up_to c.read (copied_passes c x) f ≡ []
     nothing f =
-        empty_is (values_up_to c.read (copied_passes c x) f) (let n = count_of_values c.read (copied_passes c x) f in omega arith)
+        empty_is (values_up_to c.read (copied_passes c x) f) (omega (arith, count_of_values c.read (copied_passes c x) f))
 
 -- The row that was read begins with the copied values.
 pub begins_so : (c : Setting) (x : Item) (p : ℕ) (body : List ℕ) (old new : List Value) (h : IsRead c x p body old new)
@@ -93,33 +94,22 @@ pub class_at : (q : Production) (j : ℕ) (t : Terminal) → item_at q j ≡ Som
 class_at q zero t at = absurd cc
 class_at q (suc b) t at = class_there q.items b t at
 
--- The production at an index.
-pub indexed : (c : Setting) (p : ℕ) {xs : List Production} {q r : Production} → xs ≡ c.grammar.productions → q ≡ get_or xs p q
-    → IsProduction c.grammar p r → IsProduction c.grammar p q
-indexed c p {xs} {q} {r} same is there =
-    let less : p < length xs = let l = slice_get_within c.grammar.productions p r there in let m = ap length same in
-    omega arith in cc (slice_get-get_or xs p q less)
+-- The production or the rule at an index.
+indexed : {X : Type 0} {xs ys : List X} (i : ℕ) {x y : X} → xs ≡ ys → x ≡ get_or xs i x → slice_get ys i ≡ Some y
+    → slice_get ys i ≡ Some x
+indexed {xs = xs} {ys} i {x} {y} same is there =
+    let less : i < length xs = omega (arith, slice_get_within ys i y there, ap length same) in cc (slice_get-get_or xs i x less)
 
 -- If popping returned nothing, the first fact that the contract of `pop` states for this case holds.
 pub none_popped : (P Q : Type 0) (R : OpenNode → Type 0) (r : Option OpenNode) → MatchOption r (P × Q) R → r ≡ None → P
-none_popped P Q R None m e = m.0
-none_popped P Q R (Some x) m e = absurd cc
+none_popped P Q R r m e = (rw e at m).0
 
 -- If nothing was popped, both lists are empty.
 pub popped_none : (xs ys : List OpenNode) → xs ≡ ys ++ [] → length xs ≡ 0 → (xs ≡ []) × (ys ≡ [])
-popped_none [] [] is none = (refl, refl)
-popped_none [] (y ∷ ys) is none = absurd cc
-popped_none (x ∷ xs) ys is none = absurd (omega arith)
+popped_none xs ys is none = let empty = nil_from_length xs none in (empty, cc (append-nil ys))
 
 pub some_is : (x : OpenNode) → Some x ≡ None → ⊥
 some_is x is = cc
-
--- The rule at an index.
-pub rule_indexed : (xs rules : List Rule) (r : ℕ) (u w : Rule) → xs ≡ rules → u ≡ get_or xs r u → slice_get rules r ≡ Some w
-    → slice_get rules r ≡ Some u
-rule_indexed xs rules r u w same is there =
-    let less : r < length xs = let l = slice_get_within rules r w there in let m = ap length same in omega arith in
-    cc (slice_get-get_or xs r u less)
 
 pub popped : (r : Option OpenNode) (xs ys : List OpenNode) → xs ≡ ys ++ option_to_list r → (r ≡ None → length xs ≡ 0)
     → reverse xs ≡ stack_of r ys
@@ -173,9 +163,8 @@ pub entered : (c : Setting) (m : Machine) (x : OpenNode) (waiting : Vec OpenNode
     → IfOk result (λ child. Leads c m (record m { waiting = waiting }) (Some x) (Some child))
 entered c m x waiting (Err e) vs goes = goes
 entered c m x waiting (Ok child) vs goes = λ meter honest content to_honest to r.
-    let g = subst (λ vs. ContinuesAs c (x ∷ reverse m.waiting.items) vs (child ∷ reverse waiting.items) vs) vs goes in
     record {
-      running = gone_runs r.running g;
+      running = gone_runs r.running (rw vs at goes);
       begun = r.begun;
       low = r.low;
     }
@@ -218,9 +207,7 @@ module _ {c : Setting} where
       let i = put_is runs at is in
       let d = class_at i.production j t (cc) in
       let one : copied_width c row.item ≡ 1 = cc (token_width d.0) in
-      let w = i.within in
-      let s = i.start in
-      omega arith
+      omega (arith, i.within, i.start)
     where
       token_width : (d : ℕ) → copied_width c (item.Terminal (Class d)) ≡ 1
       token_width d = let one : ◌≡◌ {A = ℕ} (if nat_le 0 c.write then 1 else 0) 1 =
@@ -266,13 +253,15 @@ module _ {c : Setting} where
       → AreSlotsOf c q u slots → All (λ slot. slot < length (drop x.base m.values.items)) slots.args
   slots_within {m} {x} {u} {slots} h are =
       All-from_get_or (λ slot. slot < length (drop x.base m.values.items)) slots.args 0 (λ k less.
-      let long = are.args.equally_long in
       let o = some_at u.args k (omega arith) in
       let slot = some_at slots.args k less in
-      let is = are.args.each k o.0 slot.0 o.1 slot.1 in
-      let found = get_or_from_slice_get slots.args k slot.0 0 slot.1 in
-      let within = h.arguments o.0 (k, o.1) in
-      omega arith)
+      omega (
+        arith,
+        are.args.equally_long,
+        are.args.each k o.0 slot.0 o.1 slot.1,
+        get_or_from_slice_get slots.args k slot.0 0 slot.1,
+        h.arguments o.0 (k, o.1),
+      ))
 
   pub well_of : {m : Machine} {next : Option OpenNode} {meter : ℕ} → RunsAt c meter m next → All IsWell m.values.items
   well_of (honest, content, to_honest, to, runs) = runs.running.well
@@ -290,36 +279,20 @@ module _ {c : Setting} (sound : IsSound c) where
   got_leads {m} {back} {honest = honest} {content = content} {p = p} {n} {row} {read} at is h count agreed kept same leaves on
       to_honest to meter r =
       let i = got_place (to_honest, to, meter, r) at is in
-      let levels : n ≡ suc (length (reverse m.waiting.items)) = let l = length-reverse m.waiting.items in omega arith in
+      let levels : n ≡ suc (length (reverse m.waiting.items)) = omega (arith, length-reverse m.waiting.items) in
       let run =
-      got_runs sound row.item (record { next = at; there = i.there; occurs = i.occurs }) (fetched levels)
+      got_runs sound row.item (record { next = at; there = i.there; occurs = i.occurs }) h levels
       (agreed i.production i.there i.start) same leaves r.running in
       record {
         running = rw (on, kept) run;
         begun = r.begun;
         low = r.low;
       }
-    where
-      fetched : n ≡ suc (length (reverse m.waiting.items))
-          → HasFetched c row.item p (suc (length (reverse m.waiting.items))) honest content m.back back m.values.items read
-      fetched levels =
-          record {
-            body = h.body;
-            found = h.found;
-            taken = h.taken;
-            over = h.over;
-            progress = h.progress;
-            deep = let d = h.deep in omega arith;
-            few = h.few;
-          }
 
   pub put_room : {m : Machine} {x : OpenNode} → RunsSomehow c m (Some x) → m.writer.written < 2 ^ 64 - 1
   put_room {m} (honest, content, to_honest, to, meter, r) =
       let n = passing_counted sound m.root (reverse m.waiting.items) r.running.invariant in
-      let a = n.0 in
-      let few = r.running.few in
-      let w = r.running.written in
-      omega arith
+      omega (arith, n.0, r.running.few, r.running.written)
 
   pub put_leads : {m : Machine} {out : writing.Progress} {honest honest' : Bool} {content content' : List ℕ} {x next : OpenNode}
       {j : ℕ} {row : PlaceRow} (t : Terminal) {text : List Value}
@@ -416,19 +389,17 @@ module _ {c : Setting} (sound : IsSound c) where
       → r < length us
   rule_less {m} {x} {meter} r {q} same is rules runs next =
       let h = rule_of runs next in
-      let w = ruled m x meter r q runs next (indexed c x.production same is h.there) in
-      let less = slice_get_within q.rules r w.0 w.1 in
-      let n = ap length rules in
-      omega arith
+      let w = ruled m x meter r q runs next (indexed x.production same is h.there) in
+      omega (arith, slice_get_within q.rules r w.0 w.1, ap length rules)
 
   pub giver : {m : Machine} {x : OpenNode} {meter r : ℕ} {ps : List Production} {q : Production} {us : List Rule} {u : Rule}
       → ps ≡ c.grammar.productions → q ≡ get_or ps x.production q → us ≡ q.rules → u ≡ get_or us r u → RunsAt c meter m (Some x)
       → RunsRuleNext c x r → Giver c m x r q u
   giver {m} {x} {meter} {r} {q} {us} {u} same is rules at runs next =
       let h = rule_of runs next in
-      let there = indexed c x.production same is h.there in
+      let there = indexed x.production same is h.there in
       let w = ruled m x meter r q runs next there in
-      let numbered = rule_indexed us q.rules r u w.0 rules at w.1 in
+      let numbered = indexed r rules at w.1 in
       let e : Some w.0 ≡ Some u = cc numbered in
       let one : w.0 ≡ u = cc in
       record {
@@ -442,11 +413,7 @@ module _ {c : Setting} (sound : IsSound c) where
   pub meter_of : {m : Machine} {x : OpenNode} {meter : ℕ} → RunsAt c meter m (Some x) → meter < 2 ^ 64 - 1
   meter_of {m} (honest, content, to_honest, to, r) =
       let n = passing_counted sound m.root (reverse m.waiting.items) r.running.invariant in
-      let a = n.1 in
-      let few = r.running.few in
-      let b = r.begun in
-      let d = r.low in
-      omega arith
+      omega (arith, n.1, r.running.few, r.begun, r.low)
 
   pub rule_leads : {m : Machine} {values : Vec Value} {x next : OpenNode} {meter meter' : ℕ} (rule : ℕ) {q : Production}
       {u : Rule} {slots : RuleSlots} (spare : Value) {v : Value}

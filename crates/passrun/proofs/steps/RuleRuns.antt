@@ -1,9 +1,9 @@
 -- An open node after a rule was run.
 use Rattle.passrun.proofs.Common
-use Common.{ℕ, zero, suc, ◌≡◌, ◌≢◌, ◌+◌, ◌<◌, ◌⊎◌, inl, inr, ◌∷◌, Some, slice_get, ap, ◌∙◌, sym, subst, arith, Value, Production}
-use Common.{Rule, Target, Direction, LeftToRight, RightToLeft, Has, value_of, IsArgument, HasKind, symbol_kinds, Synthesized}
-use Common.{defined_kind, HasPass, nth, Valuation, Holds, Supplies, Forest, Got, Setting, pass_direction, IsSound, Transcript}
-use Common.{Keeps, Visited, IsHeld, AreHeld, IsOpenNode, after_reading, IsReached, Table, leftmost}
+use Common.{ℕ, zero, suc, ◌≡◌, ◌≢◌, ◌+◌, ◌<◌, ◌⊎◌, inl, inr, ◌∷◌, Some, slice_get, ap, ◌∙◌, sym, arith, Value, Production, Rule}
+use Common.{Target, Direction, LeftToRight, RightToLeft, Has, value_of, IsArgument, symbol_kinds, Synthesized, HasPass, nth}
+use Common.{Valuation, Holds, Supplies, Forest, Got, Setting, pass_direction, IsSound, Transcript, Keeps, IsHeld, AreHeld}
+use Common.{IsOpenNode, IsReached, Table, leftmost}
 use Rattle.passcode.specs.Course.{IsTurnOf, MayCompute, State, arity, place_of, read_count}
 use Rattle.passrun.specs.passing.Change.{set}
 use Rattle.passrun.proofs.places.Copies.{copies_set}
@@ -31,8 +31,7 @@ pub place_known : (c : Setting) (q : Production) (state : State) (j : ℕ) → I
     → IsReached c q (read_count state.phase state.turn) j
 place_known c q state j h = elim h [
   | inl own ↦ inl own
-  | inr turn ↦ subst (λ ph. IsReached c q (read_count ph state.turn) j) (sym turn.phase_is)
-      (known_here c q state.turn j turn.place)
+  | inr turn ↦ rw turn.phase_is (known_here c q state.turn j turn.place)
 ]
 
 module _ {c : Setting} (sound : IsSound c) where
@@ -48,8 +47,7 @@ module _ {c : Setting} (sound : IsSound c) where
         left = is_open.left;
         entered = entered;
         visits =
-            subst (λ cs. Visited c q state.turn level ts ws (after_reading c p f cs old) new)
-            (sym (copies_set c q e j a v sound.next passed_here)) is_open.visits;
+            rw (copies_set c q e j a v sound.next passed_here) is_open.visits;
         roots =
             λ b m l. cc (
               is_open.roots b m l,
@@ -79,24 +77,13 @@ module _ {c : Setting} (sound : IsSound c) where
       entered : Keeps c s f (set e j a v 0)
       entered b n at le other = cc (
         set_other e j a v 0 b (λ z.
-            let zj : 0 ≡ j = z.0 in
-            let zb : b ≡ a = z.1 in
-            let pass : HasPass c.passes q (record { place = 0; attr = b }) c.write =
-            subst (λ t. HasPass c.passes q t c.write)
-            (g.target ∙ ap (λ j. record { place = j; attr = a }) (sym zj) ∙ ap (λ b. record { place = 0; attr = b }) (sym zb))
-            g.passed in
-            let kind : HasKind c.grammar q (record { place = 0; attr = b }) Synthesized =
-            subst (λ t. HasKind c.grammar q t (defined_kind t.place))
-            (g.target ∙ ap (λ j. record { place = j; attr = a }) (sym zj) ∙ ap (λ b. record { place = 0; attr = b }) (sym zb))
-            (target_kind c.grammar sound.accepted p q is_open.there r g.rule g.numbered) in
-            let at' : slice_get (c.passes q.left) b ≡ Some n =
-            subst (λ s. slice_get (c.passes s) b ≡ Some n) (sym is_open.left) at in
-            let pp : Some n ≡ Some c.write = sym at' ∙ pass in
-            let pw : n ≡ c.write = cc in
-            other (
-              pw,
-              subst (λ s. slice_get (symbol_kinds (slice_get c.grammar.symbols s)) b ≡ Some Synthesized) is_open.left kind,
-            )),
+            let here : g.rule.target ≡ record { place = 0; attr = b } =
+            g.target ∙ ap (λ j. record { place = j; attr = a }) (sym z.0) ∙ ap (λ b. record { place = 0; attr = b }) (sym z.1) in
+            let pass : slice_get (c.passes q.left) b ≡ Some c.write = rw here at g.passed in
+            let kind : slice_get (symbol_kinds (slice_get c.grammar.symbols q.left)) b ≡ Some Synthesized =
+            rw here at (target_kind c.grammar sound.accepted p q is_open.there r g.rule g.numbered) in
+            let same : Some n ≡ Some c.write = cc (pass, is_open.left, at) in
+            other (cc, rw is_open.left at kind)),
         is_open.entered b n at le other,
       )
 
@@ -117,7 +104,7 @@ module _ {c : Setting} (sound : IsSound c) where
               is env (λ k o at. lends k o at ∙ sym (argument r g.rule o g.numbered (k, at))),
             );
         passed = g.passed;
-        target = subst (IsReached c q (read_count state.phase state.turn)) (sym target_place) (place_known c q state j placed);
+        target = rw target_place (place_known c q state j placed);
         available = g.available;
       }
 
@@ -130,7 +117,7 @@ module _ {c : Setting} (sound : IsSound c) where
                 holds_same u e (set e j a v)
                 (cc (set_target e j a v u.target g.target
                 (λ z. let w = one_rule c.grammar sound.accepted p q is_open.there r' r u g.rule num g.numbered z in g.fresh
-                (subst (Has state.done) w has)))) (λ o arg. argument r' u o num arg) h.holds;
+                (rw w at has)))) (λ o arg. argument r' u o num arg) h.holds;
             passed = h.passed;
             target = h.target;
             available = h.available;
@@ -141,5 +128,5 @@ module _ {c : Setting} (sound : IsSound c) where
           let z : r ≡ r' = cc in
           let w : Some g.rule ≡ Some u = cc in
           let y : g.rule ≡ u = cc in
-          subst (IsHeld c q (record state { done = r ∷ state.done }) (set e j a v)) y own
+          rw y at own
       held r' u (suc n, at) num = older r' u (n, at) num

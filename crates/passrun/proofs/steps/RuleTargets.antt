@@ -1,7 +1,7 @@
 -- The target of a rule is not an argument of a rule, and no two rules have the same target.
 use Rattle.passrun.proofs.Common
-use Common.{ℕ, zero, suc, ◌≡◌, Some, slice_get, subst, Production, Rule, Target, IsAccepted, Grammar, IsProduction, IsArgument}
-use Common.{HasKind, defined_kind, used_kind}
+use Common.{ℕ, zero, suc, ◌≡◌, Some, slice_get, Production, Rule, Target, IsAccepted, Grammar, IsProduction, IsArgument, HasKind}
+use Common.{defined_kind, used_kind}
 
 module _ (g : Grammar) (accepted : IsAccepted g) (p : ℕ) (q : Production) (there : IsProduction g p q) where
   pub target_kind : (r : ℕ) (u : Rule) → slice_get q.rules r ≡ Some u → HasKind g q u.target (defined_kind u.target.place)
@@ -24,7 +24,7 @@ module _ (g : Grammar) (accepted : IsAccepted g) (p : ℕ) (q : Production) (the
   no_argument r r' u u' o is is' arg e =
       let k = target_kind r u is in
       let f = argument_kind r' u' o is' arg in
-      let f2 : HasKind g q u.target (used_kind u.target.place) = subst (λ o. HasKind g q o (used_kind o.place)) e f in
+      let f2 : HasKind g q u.target (used_kind u.target.place) = rw e at f in
       let z : Some (defined_kind u.target.place) ≡ Some (used_kind u.target.place) = cc in
       let y : defined_kind u.target.place ≡ used_kind u.target.place = cc in
       kinds_differ u.target.place y

@@ -1,19 +1,19 @@
 -- The effect of each kind of step on a running pass.
 use Rattle.passrun.proofs.Common
-use Common.{flat_map, ℕ, suc, ◌≡◌, ◌+◌, Bool, List, [], ◌∷◌, ◌++◌, Some, All, slice_get, slice_index, get_or, length, take, drop}
-use Common.{set, refl, ap, ◌∙◌, sym, subst, arith, append_assoc, append-nil, length-append, All-append, All-drop, All-set}
-use Common.{All-take, Value, IsWell, Item, Literal, Class, Production, Rule, IsProduction, item_at, stored_items, value_of, Node}
-use Common.{Token, Pending, ReadsTo, before_frame, LeavesContent, WhenHonest, values_up_to, body_of, frame, header, version_two}
-use Common.{reads_on, values_well, BackState, IsOver, Instr, Setting, IsSound, RuleSlots, OpenNode, AreSlotsOf, AreRecords}
-use Common.{IsReadable, source, HasFetched, after_step, IsRunning, ContinuesAs, RunInvariant, copies, kept_values, HasPut}
-use Common.{read_values, copied_width, copy_start, copies_well}
+use Common.{subst, flat_map, ℕ, suc, ◌≡◌, ◌+◌, Bool, List, [], ◌∷◌, ◌++◌, Some, All, slice_get, slice_index, get_or, length, take}
+use Common.{drop, set, refl, ap, ◌∙◌, sym, arith, append_assoc, append-nil, length-append, All-append, All-drop, All-set}
+use Common.{All-take, Value, IsWell, Item, Class, Production, Rule, IsProduction, item_at, stored_items, value_of, Node, Token}
+use Common.{Pending, before_frame, LeavesContent, WhenHonest, values_up_to, body_of, frame, header, version_two, reads_on}
+use Common.{values_well, BackState, Instr, Setting, IsSound, RuleSlots, OpenNode, AreSlotsOf, AreRecords, source, HasFetched}
+use Common.{after_step, IsRunning, ContinuesAs, RunInvariant, copies, kept_values, HasPut, read_values, copied_width, copy_start}
+use Common.{copies_well, IsNodeRead, IsRead}
 use Common.item
 use Common.writing
 use Common.instr
 use Rattle.std.proofs.lemmas.Grind.{flat_map-append}
 use Rattle.treefile.specs.declared.body.Kind.{Kind}
 use Rattle.passrun.proofs.steps.Ruled.{step_give}
-use Rattle.passrun.proofs.steps.Steps.{HasAgreed, IsAtChild, IsGivingOf, IsNext, step_end, step_got, step_leaf, step_put_leaf}
+use Rattle.passrun.proofs.steps.Steps.{HasAgreed, IsAtChild, IsGivingOf, IsNext, step_end, step_put_leaf, step_read}
 
 -- The writer's state after a body was written.
 pub put_more : (c : Setting) {honest honest' : Bool} {to to' : List ℕ} {out out' : writing.Progress} {kind : Kind} {number : ℕ}
@@ -31,6 +31,16 @@ put_more c {kind = kind} {number = number} {values = values} put h same before z
       append-nil (frame body),
       flat_map-append frame put (body ∷ []),
     )
+
+-- The values are well after the record of a node was read.
+pub row_well : {c : Setting} {s p : ℕ} {body : List ℕ} {old new : List Value} → IsNodeRead c s p body old new → All IsWell old
+    → All IsWell new
+row_well {c} {s} {old = old} t well =
+    let own = values_up_to c.write (c.passes s) t.values in
+    let cs = copies c c.write (stored_items t.production.items) t.table in
+    rw t.row (All-append IsWell old (own ++ cs) well
+    (All-append IsWell own cs (values_well c.write (c.passes s) t.values (λ a p is le. t.well a))
+    (copies_well c c.write (stored_items t.production.items) t.table t.table_well)))
 
 module _ {c : Setting} {root : ℕ} {honest to_honest : Bool} {content to : List ℕ} {state : BackState} {out : writing.Progress}
     {values : List Value} {xs : List OpenNode} {evals : ℕ}
@@ -81,13 +91,11 @@ module _ {c : Setting} {root : ℕ} {honest to_honest : Bool} {content to : List
         transcript = record { read = r.transcript.read ++ h.body ∷ []; put = r.transcript.put };
         todo = todo;
         invariant = passing;
-        over = λ z. let w = sym same ∙ z in subst (λ bytes. IsOver bytes state') (sym (leaves w)) (h.over w);
+        over = λ z. let w = sym same ∙ z in rw (leaves w) (h.over w);
         read = λ z. let w = sym same ∙ z in
-            subst (λ bytes. ReadsTo version_two bytes (length bytes) (r.transcript.read ++ h.body ∷ []) state'.progress.at)
-            (sym (leaves w))
-            (subst (ReadsTo version_two content (length content) (r.transcript.read ++ h.body ∷ [])) (sym at)
+            rw (leaves w, at)
             (reads_on version_two content r.transcript.read (h.body ∷ []) (length content) state.progress.at
-            (before_frame state.progress.at h.body) (r.read w) (h.found w, refl)));
+            (before_frame state.progress.at h.body) (r.read w) (h.found w, refl));
         records = omega arith;
         few = omega arith;
         put = r.put;
@@ -96,7 +104,7 @@ module _ {c : Setting} {root : ℕ} {honest to_honest : Bool} {content to : List
         unbroken = cc;
         whole = r.whole;
         well = well;
-        readable = λ z. let w = sym same ∙ z in subst (IsReadable (source c)) (sym (leaves w)) (r.readable w);
+        readable = λ z. let w = sym same ∙ z in rw (leaves w) (r.readable w);
         ahead = on;
       }
 
@@ -130,32 +138,20 @@ module _ {c : Setting} {root : ℕ} {honest to_honest : Bool} {content to : List
 
 module _ {c : Setting} (sound : IsSound c) {root : ℕ} {honest to_honest : Bool} {content to : List ℕ} {state : BackState}
     {out : writing.Progress} {values : List Value} {x : OpenNode} {evals : ℕ} where
-  pub got_runs : {xs : List OpenNode} {honest' : Bool} {content' : List ℕ} {state' : BackState} {read : List Value} {j p : ℕ}
+  pub got_runs : {xs : List OpenNode} {honest' : Bool} {content' : List ℕ} {state' : BackState} {read : List Value} {j p n : ℕ}
       {q : Production} (x' : Item) → IsAtChild c x (instr.Get j) j q x'
-      → (h : HasFetched c x' p (suc (length xs)) honest content state state' values read)
+      → (h : HasFetched c x' p n honest content state state' values read) → n ≡ suc (length xs)
       → HasAgreed c q x j x' read (read_values c x' p h.body values read h.taken) → honest' ≡ honest
       → LeavesContent honest content content'
       → IsRunning c root honest content to_honest to state out values (x ∷ xs) evals
       → IsRunning c root honest' content' to_honest to state' out (kept_values x' values read) (after_step x p ∷ xs) evals
-  got_runs {xs} {read = read} (item.Symbol s) there h agreed same leaves r =
-      let t = h.taken in
-      let on = step_got sound root xs t there h.deep agreed r.invariant in
-      let cs = copies c c.write (stored_items t.production.items) t.table in
-      let row_well =
-      All-append IsWell (values_up_to c.write (c.passes s) t.values) cs
-      (values_well c.write (c.passes s) t.values (λ a p is le. t.well a))
-      (copies_well c c.write (stored_items t.production.items) t.table t.table_well) in
-      read_more r on.0 h same leaves
-      (subst (All IsWell) (sym t.row)
-      (All-append IsWell values (values_up_to c.write (c.passes s) t.values ++ cs) r.well row_well)) on.2 (on.1 r.ahead)
-  got_runs {xs} {p = p} (item.Terminal (Class d)) there h agreed same leaves r =
-      let on = step_leaf sound root xs h.taken.1 there h.deep agreed r.invariant in
-      let number : d ≡ p = sym h.taken.0 in
-      read_more r on.0 h same leaves r.well
-      (subst
-      (λ n. RunInvariant c root (after_step x n ∷ xs) values
-      (record { read = r.transcript.read ++ h.body ∷ []; put = r.transcript.put }) evals on.0) number on.2) (on.1 r.ahead)
-  got_runs (item.Terminal (Literal l)) there h agreed same leaves r = elim h.taken [ ]
+  got_runs {xs} {read = read} {p = p} x' there h level agreed same leaves r =
+      let on = step_read sound root xs p h.body read h.taken there (omega (arith, h.deep)) agreed r.invariant in
+      read_more r on.0 h same leaves (well x' h.taken) on.2 (on.1 r.ahead)
+    where
+      well : (x' : Item) → IsRead c x' p h.body values read → All IsWell (kept_values x' values read)
+      well (item.Symbol s) t = row_well t r.well
+      well (item.Terminal a) t = r.well
 
   pub put_runs : {xs : List OpenNode} {to_honest' : Bool} {to' : List ℕ} {out' : writing.Progress} {j d : ℕ} {q : Production}
       {text : List Value} → IsAtChild c x (instr.Put j) j q (item.Terminal (Class d))
@@ -175,7 +171,7 @@ module _ {c : Setting} (sound : IsSound c) {root : ℕ} {honest to_honest : Bool
       → IsRunning c root honest content to_honest to state out new (after_step x x.child ∷ xs) (evals + 1)
   given_runs {xs} {slots = slots} spare {v} giving at there num are is well written r =
       still_runs r (step_give sound root xs spare giving at there num are is written r.invariant)
-      (subst (All IsWell) (sym written) (All-set IsWell values (x.base + slots.target) v well r.well))
+      (rw written (All-set IsWell values (x.base + slots.target) v well r.well))
 
   pub ended_runs : {y : OpenNode} {ys : List OpenNode} {to_honest' : Bool} {to' : List ℕ} {out' : writing.Progress}
       {result : List Value} {from count : ℕ} → IsNext c x instr.End

@@ -1,38 +1,34 @@
 -- The steps of a pass.
 use Rattle.passrun.proofs.Common
-use Common.{ℕ, zero, suc, ◌≡◌, ◌+◌, ◌<◌, ◌≤◌, ◌⊎◌, inl, inr, List, [], ◌∷◌, ◌++◌, Some, All, if◌then◌else◌, true, slice_get}
-use Common.{length, take, drop, refl, ap, ◌∙◌, sym, subst, arith, append_assoc, append-nil, length-append, cond, count_by, le-leb}
-use Common.{drop_all, drop_at, take_at, Value, Text, IsWell, Direction, Item, Class, Production, IsProduction, item_at}
-use Common.{stored_items, direction_of, nth, other, Valuation, graft, Tree, leaf, node, none, depth_of, max_depth}
-use Common.{pass_rule_count, rules_of_pass, count_more, Node, Token, Child, Pending, before_others, pending_root, BodyTree}
-use Common.{branch, postfix, bodies_of, values_up_to, body_of, version_two, Instr, is_computation, Phase, Between, Got, Gone}
-use Common.{Setting, pass_direction, list_at, IsSound, OpenNode, following, children_of, pending_of_child, node_table, with_row}
-use Common.{AreRecords, source, first_at, left_at, after_step, Transcript, Keeps, IsEvaluatedTree, IsOpenNode, IsReady, IsActive}
-use Common.{RunInvariant, below, after_reading, put_of, root_body, root_number, rules_left, state_of, Table, copied_passes}
-use Common.{copies, in_children, stored, AgreeAt, IsNodeRead, IsTokenRead, copied_width, copy_start, stored_width, first_row}
-use Common.{few_values}
+use Common.{pending_of_child, if◌then◌else◌, ℕ, zero, suc, ◌≡◌, ◌+◌, ◌<◌, ◌≤◌, ◌⊎◌, inl, inr, List, [], ◌∷◌, ◌++◌, Some, All}
+use Common.{true, slice_get, length, take, drop, refl, ap, ◌∙◌, sym, subst, arith, append_assoc, append-nil, length-append, cond}
+use Common.{count_by, le-leb, drop_all, drop_at, take_at, Value, Text, IsWell, Direction, Item, Class, Production, IsProduction}
+use Common.{item_at, stored_items, direction_of, nth, other, Valuation, graft, Tree, leaf, node, none, depth_of, max_depth}
+use Common.{pass_rule_count, rules_of_pass, count_more, Node, Token, Pending, before_others, pending_root, BodyTree, branch}
+use Common.{postfix, bodies_of, values_up_to, body_of, version_two, Instr, is_computation, Phase, Between, Got, Gone, Setting}
+use Common.{pass_direction, list_at, IsSound, OpenNode, following, node_table, with_row, AreRecords, source, first_at, left_at}
+use Common.{after_step, Transcript, Keeps, IsEvaluatedTree, IsReady, IsActive, RunInvariant, below, after_reading, put_of}
+use Common.{root_body, root_number, rules_left, state_of, Table, copied_passes, copies, in_children, stored, AgreeAt}
+use Common.{copied_width, copy_start, stored_width, first_row, few_values, AgreesSoFar, IsCurrent, IsRead, Literal, kept_values}
+use Common.{pending, read_values, get_or_from_slice_get, slice_get_within}
 use Common.item
 use Common.instr
-use Rattle.passcode.specs.Course.{MayCompute, Runs, after_get, arity, place_of}
+use Rattle.std.proofs.lemmas.List.{drop_more}
+use Rattle.passcode.specs.Course.{MayCompute, Runs, after_get, arity, place_of, run_count}
 use Rattle.passcode.proofs.Agreeing.{agrees}
 use Rattle.passcode.proofs.lists.Counting.{lists_evaluate_rules}
-use Rattle.passrun.proofs.course.Ahead.{after_last, after_next, after_same, is_record, of_node_is}
+use Rattle.passrun.proofs.course.Ahead.{after_last, after_next, children_read, is_record, of_node_is, pending_same, read_row}
 use Rattle.passrun.proofs.places.Copies.{agree_table, copies_row, shown_both, shown_row}
 use Rattle.passrun.proofs.Damage.{leaves_on}
 use Rattle.passrun.proofs.course.Forests.{add_tree, add_values, fits_none, rules_add}
-use Rattle.passrun.proofs.steps.Moves.{met_child, returned, put_child, ended, kept_copy, known_last, known_more, known_differs}
+use Rattle.passrun.proofs.steps.Moves.{met_child, returned, put_child, ended, kept_copy, known_last, known_differs}
 use Rattle.passrun.proofs.steps.RuleRuns.{IsPlaced, known_here}
-use Rattle.passrun.proofs.places.Slots.{begins_with_copy, length_row, length_stored, share_at, shares}
+use Rattle.passrun.proofs.places.Slots.{begins_with_copy, length_row, length_stored, row_split}
 use Rattle.passrun.proofs.places.Tables.{with_is, with_here, with_other, same_values, All-before, All-after}
 
 -- The instruction at an index, and those after it.
 pub next_is : (xs : List Instr) (n : ℕ) (x : Instr) → slice_get xs n ≡ Some x → drop n xs ≡ x ∷ drop (n + 1) xs
-next_is xs n x at = let m : n + 1 ≡ suc n = omega arith in cc (go xs n at)
-  where
-    go : (xs : List Instr) (n : ℕ) → slice_get xs n ≡ Some x → drop n xs ≡ x ∷ drop (suc n) xs
-    go [] n at = cc
-    go (y ∷ ys) zero at = let e : y ≡ x = cc in cc
-    go (y ∷ ys) (suc n) at = go ys n at
+next_is xs n x at = cc (drop_more xs n x (slice_get_within xs n x at), get_or_from_slice_get xs n x x at)
 
 -- The next instruction of a node.
 abbrev pub IsNext : Setting → OpenNode → Instr → Type 0
@@ -73,14 +69,18 @@ pub copies_there : (c : Setting) (q : Production) (f : ℕ → Value) (s : Table
     × (drop (base + copy_start c q (suc b)) (under ++ (stored c q f s ++ row)) ≡ values_up_to c.write (copied_passes c x)
     (s (suc b)) ++ rest)
 copies_there c q f s under row b {base} {x} is at =
-    let r = share_at c q f s row b x at in
-    let start = copy_start c q (suc b) in
-    let sum : base + start ≡ length under + start = omega arith in
-    (r.0, cc (beyond under (stored c q f s ++ row) start))
-  where
-    beyond : (xs ys : List Value) (n : ℕ) → drop (length xs + n) (xs ++ ys) ≡ drop n ys
-    beyond [] ys n = let z : 0 + n ≡ n = omega arith in cc
-    beyond (x ∷ xs) ys n = let z : suc (length xs) + n ≡ suc (length xs + n) = omega arith in cc (beyond xs ys n)
+    let r = row_split c q f s b at in
+    let share = values_up_to c.write (copied_passes c x) (s (suc b)) in (
+      r.1 ++ row,
+      cc (
+        r.3 s (λ j a z. refl),
+        append_assoc r.0 (share ++ r.1) row,
+        append_assoc share r.1 row,
+        append_assoc under r.0 (share ++ (r.1 ++ row)),
+        drop_at (under ++ r.0) (share ++ (r.1 ++ row)) (base + copy_start c q (suc b))
+            (omega (arith, r.2, length-append under r.0)),
+      ),
+    )
 
 -- If the next instruction runs a rule, one rule fewer is left after it.
 pub rules_next : (c : Setting) (x : OpenNode) {z : Instr} → IsNext c x z → rules_left c x ≡ cond (is_computation z) 1 0
@@ -99,7 +99,7 @@ module _ {c : Setting} {s : ℕ} {f : ℕ → Value} {level : ℕ} {x : OpenNode
   pub runs_next : {z : Instr} → IsNext c x z
       → Runs c.passes o.production c.write (state_of ph o.i o.done) (z ∷ drop (x.at + 1) (list_at c x.production))
   runs_next {z} at =
-      subst (Runs c.passes o.production c.write (state_of ph o.i o.done)) (next_is (list_at c x.production) x.at z at) o.runs
+      rw (next_is (list_at c x.production) x.at z at) at o.runs
 
   pub at_get : {j : ℕ} → IsNext c x (instr.Get j) → IsIn Between
   at_get at = subst IsIn (runs_next at).0.phase_is o
@@ -119,17 +119,9 @@ module _ {c : Setting} {s : ℕ} {f : ℕ → Value} {level : ℕ} {x : OpenNode
       × IsPlaced c o.production (state_of ph o.i o.done) j × (is_computation z ≡ true)
       × Runs c.passes o.production c.write (state_of ph o.i (r ∷ o.done)) (drop (x.at + 1) (list_at c x.production))
   give_next {j} {a} {r} giving at =
-      let runs = λ (z : Instr). Runs c.passes o.production c.write (state_of ph o.i o.done)
-      (z ∷ drop (x.at + 1) (list_at c x.production)) in
       elim giving [
-        | inl is ↦ let g = subst runs is (runs_next at) in (g.0.1, inr g.0.0, cc, g.1)
-        | inr is ↦ (
-            let g = subst runs is.0 (runs_next at) in (
-              subst (λ j. MayCompute c.passes o.production c.write (state_of ph o.i o.done) j a r) (sym is.1) g.0.1,
-              inl is.1,
-              cc,
-              g.1,
-            ))
+        | inl is ↦ let g = rw is at (runs_next at) in (g.0.1, inr g.0.0, cc, g.1)
+        | inr is ↦ let g = rw is.0 at (runs_next at) in (rw is.1 g.0.1, inl is.1, cc, g.1)
       ]
 
   -- The node is done: its tree was read, and written except for its own record, whose values are the node's row.
@@ -158,12 +150,10 @@ module _ {c : Setting} (sound : IsSound c) where
   rules_last : (x : OpenNode) (q : Production) → IsProduction c.grammar x.production q → IsNext c x instr.End
       → rules_left c x ≡ 0
   rules_last x q there at =
-      let n = sound.next in
       let xs = list_at c x.production in
-      let last = (agrees c.passes q c.write xs (omega arith) (sound.course x.production q there)).ends.last x.at at in
-      let none = ap (count_by is_computation) (drop_all (x.at + 1) xs (omega arith)) in
-      let rest = rules_next c x at in
-      omega arith
+      let last =
+      (agrees c.passes q c.write xs (omega (arith, sound.next)) (sound.course x.production q there)).ends.last x.at at in
+      omega (arith, ap (count_by is_computation) (drop_all (x.at + 1) xs (omega (arith, last))), rules_next c x at)
 
   -- A node whose record was just read.
   pub opened : (p : ℕ) {s : ℕ} {q : Production} (f : ℕ → Value) (e : Table) (level : ℕ) {base : ℕ} (under : List Value)
@@ -195,7 +185,7 @@ module _ {c : Setting} (sound : IsSound c) where
             well = tt;
             read = sym (append-nil (after_reading c p f (copies c c.read (stored_items q.items) (in_children e)) old).read);
             put = sym (append-nil old.put);
-            deep = let d = deep in omega arith;
+            deep = omega (arith, deep);
           };
           roots = λ b a l. absurd (omega arith);
           held = λ r u has num. let z = has.1 in absurd cc;
@@ -203,77 +193,156 @@ module _ {c : Setting} (sound : IsSound c) where
         runs = sound.course p q there;
         agreement = λ j a p x at is le when. refl;
         current = (refl, refl, refl);
-        counted = let n = rules_first p q there in omega arith;
+        counted = omega (arith, rules_first p q there);
         values_are = cc (append-nil (stored c q f e));
         base = is;
         todo_is = refl;
       }
 
-  -- The pass leaves the tree at the next place, all of which was written.
-  left_in : {s : ℕ} {f : ℕ → Value} {level : ℕ} {x : OpenNode} {under : List Value} {old : Transcript} {before : ℕ}
-      {others : Pending} {values : List Value} {t new : Transcript} {now : ℕ} {todo : Pending} {j : ℕ} → IsNext c x (instr.Put j)
-      → (o : IsActive c s f level x under old before others Gone values t now todo) → new.read ≡ t.read
-      → new.put ≡ o.mid.put ++ postfix (pass_direction c)
-      (bodies_of version_two c.grammar c.passes c.write o.current.0.tree o.current.0.values)
-      → IsActive c s f level (after_step x x.child) under old before others Between values new now todo
-  left_in {s} {f} {level} {x} {under} {old} {t = t} {new = new} at o reads puts =
-      let q = o.production in
-      let next = runs_next o at in
-      let g = o.current.0 in
-      record {
-        production = q;
-        i = suc o.i;
-        done = o.done;
-        table = o.table;
-        copied = o.copied;
-        of_child = o.of_child;
-        row = [];
-        trees = add_tree (pass_direction c) o.trees g.tree;
-        valuations = add_values (pass_direction c) o.trees o.valuations g.values;
-        mid = new;
-        count = 0;
-        is_open =
-            put_child sound next.0.within g reads puts o.is_open;
-        runs = next.1;
-        agreement = o.agreement;
-        current = (refl, refl, refl);
-        counted = let n = o.counted in let m = g.counted in let k = rules_add (pass_direction c) c o.trees g.tree in
-            let l = rules_next c x at in omega arith;
-        values_are = cc;
-        base = o.base;
-        todo_is = o.todo_is;
-      }
+  module _ {s : ℕ} {f : ℕ → Value} {level : ℕ} {x : OpenNode} {under : List Value} {old : Transcript} {before : ℕ}
+      {others : Pending} {values : List Value} {t : Transcript} {now : ℕ} {todo : Pending} where
+    -- The state at the next place after a record was read there: the copies and the row of the child, its progress, the agreement
+    -- of the node's copies, the values, and the children still to be read.
+    read_child : (o : IsActive c s f level x under old before others Between values t now todo) (x' : Item) (p : ℕ)
+        (body : List ℕ) (new : List Value) (read : IsRead c x' p body values new) → level < max_depth → o.i < arity o.production
+        → item_at o.production (place_of o.production c.write o.i) ≡ Some x'
+        → AgreeAt c x' (o.copied (place_of o.production c.write o.i)) (read_values c x' p body values new read)
+        → (of_child : Table) × (row : List Value)
+        × IsCurrent c o.production (after_get (Some x')) o.i level p
+        (with_row o.table (place_of o.production c.write o.i) (read_values c x' p body values new read)) of_child row o.mid
+        (record { read = t.read ++ body ∷ []; put = t.put }) 0
+        × AgreesSoFar c o.production (run_count (after_get (Some x')) o.i)
+        (with_row o.table (place_of o.production c.write o.i) (read_values c x' p body values new read)) o.copied
+        × (kept_values x' values new ≡ under ++ (stored c o.production (o.table 0) o.copied ++ row))
+        × (before_others (other (direction_of c.read)) (suc (suc level)) (children_read c x' p body values new read)
+        (following c o.production o.table (suc o.i) (suc level) others)
+        ≡ pending c o.production (after_get (Some x')) o.i p o.table of_child (suc level) others)
+    read_child o (item.Symbol s') p body new read deep within occurs agree =
+        let q = o.production in
+        let pl = place_of q c.write o.i in
+        let h = read.values in
+        let own = stored c q (o.table 0) o.copied in
+        let of_child = first_row h read.table in
+        let child_row = stored c read.production h of_child in
+        let row : child_row ≡ values_up_to c.write (c.passes s') h ++ copies c c.write
+        (stored_items read.production.items) read.table = cc in (
+          of_child,
+          child_row,
+          (
+            record {
+              symbol = s';
+              occurs = occurs;
+              production = read.production;
+              there = read.there;
+              left = read.left;
+              transcript = cc (with_is o.table pl h);
+              deep = deep;
+            },
+            refl,
+            cc (with_is o.table pl h),
+          ),
+          shown_row c q o.i o.i o.table o.copied (nth (pass_direction c) (arity q) o.i) (item.Symbol s') h occurs agree sound.next
+              (λ b apart k. k) (λ a n at k. absurd (known_differs c q o.i pl within k refl)) o.agreement,
+          cc (append-nil own, append_assoc under own child_row),
+          cc (of_node_is sound p read.production of_child (suc (suc level))
+              (following c q o.table (suc o.i) (suc level) others) read.there),
+        )
+    read_child o (item.Terminal (Class d)) p body new (same, read) deep within occurs agree =
+        let q = o.production in
+        let h : ℕ → Value = λ a. Text read.text in (
+          o.of_child,
+          [],
+          (
+            record {
+              item = item.Terminal (Class d);
+              occurs = occurs;
+              tree = leaf d read.text;
+              values = λ path. h;
+              evaluated = record { fits = (refl, read.fits); solved = refl; well = λ a p at le. read.well };
+              number = sym same;
+              root = λ a. sym (with_here o.table (place_of q c.write o.i) h a);
+              read = cc;
+              put = cc (append-nil o.mid.put);
+              counted = refl;
+              deep = omega arith;
+            },
+            refl,
+          ),
+          shown_row c q o.i (suc o.i) o.table o.copied (nth (pass_direction c) (arity q) o.i) (item.Terminal (Class d)) h occurs
+              agree sound.next
+              (λ b' apart k. elim (known_last c q o.i (suc b') k) [ inl l ↦ l | inr here ↦ absurd (apart (omega arith)) ])
+              (λ a n at k. zero_pass a n at) o.agreement,
+          cc,
+          refl,
+        )
+      where
+        zero_pass : (a n : ℕ) → slice_get (0 ∷ []) a ≡ Some n → n < c.write
+        zero_pass zero n at = let e : 0 ≡ n = cc in omega (arith, sound.next)
+        zero_pass (suc a) n at = absurd cc
+    read_child o (item.Terminal (Literal l)) p body new read deep within occurs agree = elim read [ ]
 
-  -- A node is done, whose row is the last one.
-  node_done : {s : ℕ} {f : ℕ → Value} {level : ℕ} {x : OpenNode} {under : List Value} {old : Transcript} {before : ℕ}
-      {others : Pending} {values : List Value} {t : Transcript} {now : ℕ} {todo : Pending} → IsNext c x instr.End
-      → All IsWell values → (o : IsActive c s f (suc level) x under old before others Between values t now todo) → IsDone o
-  node_done {s} {f} {level} {x} {under} {old} {others = others} {values = values} {t = t} at well o =
-      let q = o.production in
-      let next = (runs_next o at).0 in
-      let row = stored c q (o.table 0) o.copied in
-      let whole : values ≡ under ++ row = cc (append-nil row) in
-      let own = values_up_to c.write (c.passes q.left) (o.table 0) in
-      let copied = copies c c.write (stored_items q.items) (in_children o.copied) in
-      let own_well : All IsWell own =
-      All-before IsWell own copied (All-after IsWell under (own ++ copied) (subst (All IsWell) whole well)) in
-      let done =
-      ended sound o.copied next.1 next.2 own_well o.agreement
-      (subst (λ t. IsOpenNode c s f (suc level) x.production q (state_of Between o.i o.done) o.table o.trees o.valuations old t)
-      (sym o.current.0) o.is_open) in
-      record {
-        ready = done.0;
-        deep = let d = done.1 in omega arith;
-        record_is = done.2;
-        whole = whole;
-        counted =
-            let n = o.counted in
-            let m = o.current.1 in
-            let l = rules_last x q o.is_open.there at in
-            let k = ap (pass_rule_count c.passes c.write) o.is_open.there in
-            omega arith;
-        todo_is = cc (after_last c q o.table o.i (suc (suc level)) others next.1);
-      }
+    -- The pass leaves the tree at the next place, all of which was written.
+    left_in : {new : Transcript} {j : ℕ} → IsNext c x (instr.Put j)
+        → (o : IsActive c s f level x under old before others Gone values t now todo) → new.read ≡ t.read
+        → new.put ≡ o.mid.put ++ postfix (pass_direction c)
+        (bodies_of version_two c.grammar c.passes c.write o.current.0.tree o.current.0.values)
+        → IsActive c s f level (after_step x x.child) under old before others Between values new now todo
+    left_in {new} at o reads puts =
+        let q = o.production in
+        let next = runs_next o at in
+        let g = o.current.0 in
+        record {
+          production = q;
+          i = suc o.i;
+          done = o.done;
+          table = o.table;
+          copied = o.copied;
+          of_child = o.of_child;
+          row = [];
+          trees = add_tree (pass_direction c) o.trees g.tree;
+          valuations = add_values (pass_direction c) o.trees o.valuations g.values;
+          mid = new;
+          count = 0;
+          is_open = put_child sound next.0.within g reads puts o.is_open;
+          runs = next.1;
+          agreement = o.agreement;
+          current = (refl, refl, refl);
+          counted = omega (arith, o.counted, g.counted, rules_add (pass_direction c) c o.trees g.tree, rules_next c x at);
+          values_are = cc;
+          base = o.base;
+          todo_is = o.todo_is;
+        }
+
+    -- A node is done, whose row is the last one.
+    node_done : IsNext c x instr.End → All IsWell values
+        → (o : IsActive c s f (suc level) x under old before others Between values t now todo) → IsDone o
+    node_done at well o =
+        let q = o.production in
+        let next = (runs_next o at).0 in
+        let row = stored c q (o.table 0) o.copied in
+        let whole : values ≡ under ++ row = cc (append-nil row) in
+        let own = values_up_to c.write (c.passes q.left) (o.table 0) in
+        let copied = copies c c.write (stored_items q.items) (in_children o.copied) in
+        let own_well : All IsWell own =
+        All-before IsWell own copied (All-after IsWell under (own ++ copied) (rw whole at well)) in
+        let done =
+        ended sound o.copied next.1 next.2 own_well o.agreement
+        (rw (← o.current.0) at o.is_open) in
+        record {
+          ready = done.0;
+          deep = omega (arith, done.1);
+          record_is = done.2;
+          whole = whole;
+          counted =
+              omega (
+                arith,
+                o.counted,
+                o.current.1,
+                rules_last x q o.is_open.there at,
+                ap (pass_rule_count c.passes c.write) o.is_open.there,
+              );
+          todo_is = cc (after_last c q o.table o.i (suc (suc level)) others next.1);
+        }
 
   -- The root is done.
   pub step_end_root : (root : ℕ) {x : OpenNode} {values : List Value} {t : Transcript} {now : ℕ} {todo : Pending}
@@ -294,10 +363,15 @@ module _ {c : Setting} (sound : IsSound c) where
         ready = subst (λ z. IsReady c (item.Symbol c.grammar.start) root (o.table 0) tree values_at z t) transcript
             (subst (λ p. IsReady c (item.Symbol c.grammar.start) p (o.table 0) tree values_at old t) number
             (subst (λ s. IsReady c (item.Symbol s) x.production (o.table 0) tree values_at old t) first done.ready));
-        counted = let n = done.counted in omega arith;
-        deep = let d = done.deep in omega arith;
-        few = let w = few_values c sound x.production q o.is_open.there in let n = length_stored c q (o.table 0) o.copied in
-            let l = ap length single_value in omega arith;
+        counted = omega (arith, done.counted);
+        deep = omega (arith, done.deep);
+        few =
+            omega (
+              arith,
+              few_values c sound x.production q o.is_open.there,
+              length_stored c q (o.table 0) o.copied,
+              ap length single_value,
+            );
         record_is = cc;
         nothing = cc;
       }
@@ -312,27 +386,21 @@ module _ {c : Setting} (sound : IsSound c) where
       → take to values ++ (take count (drop from values) ++ drop (to + count) (take from values)) ≡ under ++ stored c q f
       (with_row s (suc b) h)
   moved_copies q f s under others b h {x} {to} {count} {from} {row} {values} at to_is count_is from_is row_is values_are =
-      let xs = stored_items q.items in
       let ps = copied_passes c x in
-      let r = shares c xs b x at (in_children s) in
-      let own = values_up_to c.write (c.passes q.left) f in
+      let r = row_split c q f s b at in
       let old_share = values_up_to c.write ps (s (suc b)) in
       let share = values_up_to c.write ps h in
-      let prefix = under ++ (own ++ r.0) in
-      let joined : (vs : List Value) → under ++ (own ++ (r.0 ++ vs)) ≡ prefix ++ vs =
-      λ vs. cc (append_assoc own r.0 vs, append_assoc under (own ++ r.0) vs) in
+      let prefix = under ++ r.0 in
       let was : under ++ stored c q f s ≡ prefix ++ (old_share ++ r.1) =
-      cc (r.3 (in_children s) (λ j a z. refl), joined (old_share ++ r.1)) in
+      cc (r.3 s (λ j a z. refl), append_assoc under r.0 (old_share ++ r.1)) in
       let now : under ++ stored c q f (with_row s (suc b) h) ≡ prefix ++ (share ++ r.1) =
       cc (
-        r.3 (in_children (with_row s (suc b) h)) (λ j a z. with_other s (suc b) h (suc j) a (λ y. z (omega arith))),
-        joined (values_up_to c.write ps (with_row s (suc b) h (suc b)) ++ r.1),
+        r.3 (with_row s (suc b) h) (λ j a z. with_other s (suc b) h (suc j) a (λ y. z (omega arith))),
+        append_assoc under r.0 (share ++ r.1),
         with_is s (suc b) h,
       ) in
-      let n = length_row c.write (c.passes q.left) f in
       let m = r.2 in
-      let l = length-append own r.0 in
-      let k = length-append under (own ++ r.0) in
+      let k = length-append under r.0 in
       let o = length_row c.write ps (s (suc b)) in
       let w = length_row c.write ps h in
       let z = length-append prefix old_share in
@@ -376,9 +444,6 @@ module _ {c : Setting} (sound : IsSound c) where
       let to_is : to ≡ length under' + copy_start c q pl = cc in
       let keeps' : Keeps c s (z.table pl) h = λ a n is le other. o.is_open.entered a n is le other ∙ sym (z.row_is a) in
       let agree = kept_copy sound s (z.table pl) h keeps' in
-      let record_is =
-      ap (λ vs. body_of Node x.production vs) (ap (drop x.base) done.whole ∙ drop_at under child_row x.base (sym o.base))
-      ∙ sym done.record_is in
       let bt = bodies_of version_two c.grammar c.passes c.write (node x.production o.trees) (graft h o.valuations) in (
         s',
         f',
@@ -419,16 +484,18 @@ module _ {c : Setting} (sound : IsSound c) where
               read = done.ready.read;
               put =
                   cc (
-                    record_is,
+                    done.whole,
+                    done.record_is,
+                    drop_at under child_row x.base (sym o.base),
                     append_assoc old.put (below (pass_direction c) bt) (root_body bt ∷ []),
                     whole (pass_direction c) bt,
                   );
               counted = refl;
-              deep = let d = done.deep in omega arith;
+              deep = omega (arith, done.deep);
             },
             refl,
           );
-          counted = let n = z.counted in let m = done.counted in omega arith;
+          counted = omega (arith, z.counted, done.counted);
           values_are =
               cc (
                 moved_copies q (z.table 0) z.copied under' (begins.0 ++ copied_rest) b h z.occurs to_is slot.1
@@ -438,8 +505,7 @@ module _ {c : Setting} (sound : IsSound c) where
                 append-nil (stored c q (e 0) (with_row z.copied pl h)),
               );
           base = z.base;
-          todo_is =
-              cc (after_same c q e z.table (suc z.i) (suc (suc (length ys))) others' (copies_row c q z.table b h z.occurs agree));
+          todo_is = cc (copies_row c q z.table b h z.occurs agree);
         },
       )
     where
@@ -447,12 +513,12 @@ module _ {c : Setting} (sound : IsSound c) where
       whole d (branch body ts) = refl
 
   module _ (root : ℕ) {x : OpenNode} (xs : List OpenNode) {values : List Value} {t : Transcript} {now : ℕ} {todo : Pending} where
-    -- The record of a node was read.
-    pub step_got : {new : List Value} {j p s' : ℕ} {q0 : Production} {body : List ℕ} (read : IsNodeRead c s' p body values new)
-        → IsAtChild c x (instr.Get j) j q0 (item.Symbol s') → suc (length xs) < max_depth
-        → HasAgreed c q0 x j (item.Symbol s') new read.values → RunInvariant c root (x ∷ xs) values t now todo
-        → ReadsOn c root (after_step x p ∷ xs) new t body now todo
-    step_got {new} {j} {p} {s'} {q0} {body} read there deep agreed (s, f, under, old, before, others, waits, ph, here) =
+    -- The record of a child was read.
+    pub step_read : {j : ℕ} {q0 : Production} {x' : Item} (p : ℕ) (body : List ℕ) (new : List Value)
+        (read : IsRead c x' p body values new) → IsAtChild c x (instr.Get j) j q0 x' → suc (length xs) < max_depth
+        → HasAgreed c q0 x j x' new (read_values c x' p body values new read) → RunInvariant c root (x ∷ xs) values t now todo
+        → ReadsOn c root (after_step x p ∷ xs) (kept_values x' values new) t body now todo
+    step_read {j} {q0} {x'} p body new read there deep agreed (s, f, under, old, before, others, waits, ph, here) =
         let o = at_get here there.next in
         let level = suc (length xs) in
         let q = o.production in
@@ -461,132 +527,29 @@ module _ {c : Setting} (sound : IsSound c) where
         let place = next.0.place in
         let b = nth (pass_direction c) (arity q) o.i in
         let pl = place_of q c.write o.i in
-        let h = read.values in
-        let e = with_row o.table pl h in
-        let of_child = first_row h read.table in
-        let same : q0 ≡ q = same_production c x.production there.there o.is_open.there in
-        let item_is : item_at q j ≡ Some (item.Symbol s') = cc there.occurs in
-        let occurs : item_at q pl ≡ Some (item.Symbol s') = cc in
-        let child_row = stored c read.production h of_child in
-        let row : child_row ≡ values_up_to c.write (c.passes s') h ++ copies c c.write
-        (stored_items read.production.items) read.table = cc in
-        let whole : new ≡ under ++ (stored c q (o.table 0) o.copied ++ child_row) =
-        cc (append-nil (stored c q (o.table 0) o.copied), append_assoc under (stored c q (o.table 0) o.copied) child_row) in
-        let found = copies_there c q (o.table 0) o.copied under child_row b o.base occurs in
-        let slot : copy_start c q0 j ≡ copy_start c q pl = cc in
-        let agree =
-        agreed (o.copied pl) found.0 (cc whole) in
-        let agree' = agree_table c q o.i o.table o.copied b (item.Symbol s') h occurs sound.next o.agreement agree in
-        let copied = copies_row c q o.table b h occurs agree' in
-        let copy = values_up_to c.read (copied_passes c (item.Symbol s')) (o.table pl) in
-        let rest = following c q o.table (suc o.i) (suc level) others in
-        let ys : List Child = children_of c read.production of_child in
-        let first : todo ≡ (suc level, (item.Symbol s', Some copy)) ∷ rest =
-        cc (after_next c q o.table o.i (suc level) others within occurs) in
-        let next_todo = before_others (other (direction_of c.read)) (suc (suc level)) ys rest in (
-          next_todo,
-          (λ expected. leaves_on (source c) (other (direction_of c.read)) t.read body (suc level) (item.Symbol s', Some copy) ys
-              (pending_root c.grammar) rest (subst (AreRecords (source c) t.read) first expected) (omega arith)
-              (is_record c (item.Symbol s') p body values new read (Some copy) (cc))),
-          (
-            s,
-            f,
-            under,
-            old,
-            before,
-            others,
-            waits,
-            Got,
-            record {
-              production = q;
-              i = o.i;
-              done = o.done;
-              table = e;
-              copied = o.copied;
-              of_child = of_child;
-              row = child_row;
-              trees = o.trees;
-              valuations = o.valuations;
-              mid = o.mid;
-              count = 0;
-              is_open =
-                  met_child sound h within occurs agree' refl (λ j n k. k) o.is_open;
-              runs =
-                  subst
-                  (λ x'. Runs c.passes q c.write (state_of (after_get x') o.i o.done) (drop (x.at + 1) (list_at c x.production)))
-                  item_is next.1;
-              agreement =
-                  shown_row c q o.i o.i o.table o.copied b (item.Symbol s') h occurs agree sound.next (λ b apart k. k)
-                  (λ a n at k. absurd (known_differs c q o.i pl within k refl)) o.agreement;
-              current = (
-                record {
-                  symbol = s';
-                  occurs = occurs;
-                  production = read.production;
-                  there = read.there;
-                  left = read.left;
-                  transcript = cc (with_is o.table pl h);
-                  deep = deep;
-                },
-                refl,
-                cc (with_is o.table pl h),
-              );
-              counted = let n = o.counted in let m = o.current.1 in let l = rules_next c x there.next in omega arith;
-              values_are =
-                  cc (
-                    whole,
-                    stored_same c q (o.table 0) (e 0) o.copied (λ a. sym (with_other o.table pl h 0 a (λ z. omega arith))),
-                  );
-              base = o.base;
-              todo_is =
-                  cc (
-                    after_same c q e o.table (suc o.i) (suc level) others copied,
-                    of_node_is sound p read.production of_child (suc (suc level))
-                        (following c q e (suc o.i) (suc level) others) read.there,
-                  );
-            },
-          ),
-        )
-
-    -- The record of a token was read.
-    pub step_leaf : {new : List Value} {j d : ℕ} {q0 : Production} {body : List ℕ} (read : IsTokenRead d body values new)
-        → IsAtChild c x (instr.Get j) j q0 (item.Terminal (Class d)) → suc (length xs) < max_depth
-        → HasAgreed c q0 x j (item.Terminal (Class d)) new (λ a. Text read.text)
-        → RunInvariant c root (x ∷ xs) values t now todo → ReadsOn c root (after_step x d ∷ xs) values t body now todo
-    step_leaf {new} {j} {d} {q0} {body} read there deep agreed (s, f, under, old, before, others, waits, ph, here) =
-        let o = at_get here there.next in
-        let level = suc (length xs) in
-        let q = o.production in
-        let next = runs_next o there.next in
-        let within = next.0.within in
-        let place = next.0.place in
-        let b = nth (pass_direction c) (arity q) o.i in
-        let pl = place_of q c.write o.i in
-        let x' = item.Terminal (Class d) in
-        let h : ℕ → Value = λ a. Text read.text in
+        let h = read_values c x' p body values new read in
         let e = with_row o.table pl h in
         let same : q0 ≡ q = same_production c x.production there.there o.is_open.there in
         let item_is : item_at q j ≡ Some x' = cc there.occurs in
         let occurs : item_at q pl ≡ Some x' = cc in
-        let whole : new ≡ under ++ (stored c q (o.table 0) o.copied ++ Text read.text ∷ []) =
-        cc (
-          append-nil (stored c q (o.table 0) o.copied),
-          append_assoc under (stored c q (o.table 0) o.copied) (Text read.text ∷ []),
-        ) in
-        let found = copies_there c q (o.table 0) o.copied under (Text read.text ∷ []) b o.base occurs in
+        let own = stored c q (o.table 0) o.copied in
+        let more = read_row c x' p body values new read in
+        let whole : new ≡ under ++ (own ++ more.0) = cc (more.1, append-nil own, append_assoc under own more.0) in
+        let found = copies_there c q (o.table 0) o.copied under more.0 b o.base occurs in
         let slot : copy_start c q0 j ≡ copy_start c q pl = cc in
-        let agree =
-        agreed (o.copied pl) found.0 (cc whole) in
+        let agree = agreed (o.copied pl) found.0 (cc whole) in
         let agree' = agree_table c q o.i o.table o.copied b x' h occurs sound.next o.agreement agree in
         let copied = copies_row c q o.table b h occurs agree' in
         let copy = values_up_to c.read (copied_passes c x') (o.table pl) in
         let rest = following c q o.table (suc o.i) (suc level) others in
         let first : todo ≡ (suc level, (x', Some copy)) ∷ rest =
-        cc (after_next c q o.table o.i (suc level) others within occurs) in (
-          rest,
-          (λ expected. leaves_on (source c) (other (direction_of c.read)) t.read body (suc level) (x', Some copy) []
-              (pending_root c.grammar) rest (subst (AreRecords (source c) t.read) first expected) (omega arith)
-              (is_record c x' d body values new (refl, read) (Some copy) (cc))),
+        cc (after_next c q o.table o.i (suc level) others within occurs) in
+        let ys = children_read c x' p body values new read in
+        let child = read_child o x' p body new read deep within occurs agree in (
+          before_others (other (direction_of c.read)) (suc (suc level)) ys rest,
+          (λ expected. leaves_on (source c) (other (direction_of c.read)) t.read body (suc level) (x', Some copy) ys
+              (pending_root c.grammar) rest (rw first at expected) (omega arith)
+              (is_record c x' p body values new read (Some copy) (cc))),
           (
             s,
             f,
@@ -595,58 +558,35 @@ module _ {c : Setting} (sound : IsSound c) where
             before,
             others,
             waits,
-            Gone,
+            after_get (Some x'),
             record {
               production = q;
               i = o.i;
               done = o.done;
               table = e;
               copied = o.copied;
-              of_child = o.of_child;
-              row = [];
+              of_child = child.0;
+              row = child.1;
               trees = o.trees;
               valuations = o.valuations;
               mid = o.mid;
               count = 0;
-              is_open =
-                  met_child sound h within occurs
-                  agree' refl (λ j n k. elim k [ inl l ↦ inl l | inr l ↦ inr (known_more c q o.i j l) ]) o.is_open;
-              runs =
-                  subst
-                  (λ x'. Runs c.passes q c.write (state_of (after_get x') o.i o.done) (drop (x.at + 1) (list_at c x.production)))
-                  item_is next.1;
-              agreement =
-                  shown_row c q o.i (suc o.i) o.table o.copied b x' h occurs agree sound.next
-                  (λ b' apart k. elim (known_last c q o.i (suc b') k) [ inl l ↦ l | inr here ↦ absurd (apart (omega arith)) ])
-                  (λ a n at k. zero_pass a n at) o.agreement;
-              current = (
-                record {
-                  item = x';
-                  occurs = occurs;
-                  tree = leaf d read.text;
-                  values = λ path. h;
-                  evaluated = record { fits = (refl, read.fits); solved = refl; well = λ a p at le. read.well };
-                  number = refl;
-                  root = λ a. sym (with_here o.table pl h a);
-                  read = cc;
-                  put = cc (append-nil o.mid.put);
-                  counted = refl;
-                  deep = omega arith;
-                },
-                refl,
-              );
-              counted = let n = o.counted in let m = o.current.1 in let l = rules_next c x there.next in omega arith;
+              is_open = met_child sound h within occurs agree' o.is_open;
+              runs = rw item_is at next.1;
+              agreement = child.3;
+              current = child.2;
+              counted = omega (arith, o.counted, o.current.1, rules_next c x there.next);
               values_are =
-                  cc (stored_same c q (o.table 0) (e 0) o.copied (λ a. sym (with_other o.table pl h 0 a (λ z. omega arith))));
+                  cc (
+                    child.4,
+                    stored_same c q (o.table 0) (e 0) o.copied (λ a. sym (with_other o.table pl h 0 a (λ z. omega arith))),
+                  );
               base = o.base;
-              todo_is = sym (after_same c q e o.table (suc o.i) (suc level) others copied);
+              todo_is =
+                  child.5 ∙ sym (pending_same c q (after_get (Some x')) o.i p e o.table child.0 (suc level) others copied);
             },
           ),
         )
-      where
-        zero_pass : (a n : ℕ) → slice_get (0 ∷ []) a ≡ Some n → n < c.write
-        zero_pass zero n at = let e : 0 ≡ n = cc in let next = sound.next in omega arith
-        zero_pass (suc a) n at = absurd cc
 
     pub step_go : {j base : ℕ} → IsNext c x (instr.Go j)
         → ((q : Production) → IsProduction c.grammar x.child q → base + stored_width c q ≡ length values)
@@ -663,11 +603,14 @@ module _ {c : Setting} (sound : IsSound c) where
         let rest = under ++ stored c q (o.table 0) o.copied in
         let child_row = stored c g.production h o.of_child in
         let vs : values ≡ rest ++ child_row = cc (append_assoc under (stored c q (o.table 0) o.copied) child_row) in
-        let base' : base ≡ length rest = let a = is g.production g.there in
-        let d = length_stored c g.production h o.of_child in
-        let l = length-append rest child_row in
-        let m = ap length vs in
-        omega arith in
+        let base' : base ≡ length rest =
+        omega (
+          arith,
+          is g.production g.there,
+          length_stored c g.production h o.of_child,
+          length-append rest child_row,
+          ap length vs,
+        ) in
         let deep = g.deep in
         let following_it = following c q o.table (suc o.i) (suc level) others in
         let child = opened x.child h o.of_child (suc level) rest o.mid now following_it g.there g.left (omega arith) base' in
@@ -697,7 +640,7 @@ module _ {c : Setting} (sound : IsSound c) where
               values = o.valuations;
               is_open = o.is_open;
               runs = next.1;
-              counted = let n = o.counted in let m = o.current.1 in let l = rules_next c x at in omega arith;
+              counted = omega (arith, o.counted, o.current.1, rules_next c x at);
               agreement = o.agreement;
               within = next.0.0.within;
               occurs = g.occurs;
@@ -743,7 +686,7 @@ module _ {c : Setting} (sound : IsSound c) where
           waits,
           Between,
           left_in there.next o refl
-              (cc (whole g.tree g.values (subst (λ x. IsEvaluatedTree c x g.tree g.values) is g.evaluated))),
+              (cc (whole g.tree g.values (rw is at g.evaluated))),
         )
       where
         whole : (u : Tree) (w : Valuation) → IsEvaluatedTree c (item.Symbol s') u w
@@ -778,7 +721,7 @@ module _ {c : Setting} (sound : IsSound c) where
         ∙ ap (λ b. take 1 (((if b then o.copied pl 0 ∷ [] else []) ++ []) ++ found.0)) (le-leb 0 c.write (omega arith)) in
         let shown : o.copied pl 0 ≡ o.table pl 0 =
         o.agreement b 0 0 x' occurs refl (omega arith) (inr (known_here c q o.i pl refl)) in
-        let evaluated = subst (λ x. IsEvaluatedTree c x g.tree g.values) item_is g.evaluated in (
+        let evaluated = rw item_is at g.evaluated in (
           s,
           f,
           under,
@@ -817,22 +760,15 @@ module _ {c : Setting} (sound : IsSound c) where
         let pl = place_of q c.write o.i in
         let same : q0 ≡ q = same_production c x.production there.there o.is_open.there in
         let occurs : item_at q pl ≡ Some x' = cc there.occurs in
-        let n = sound.next in
-        let copies_same : values_up_to c.read (copied_passes c x') (o.table pl) ≡ values_up_to c.read (copied_passes c x')
-        (o.copied pl) =
-        same_values c.read (copied_passes c x') (o.table pl) (o.copied pl)
-        (λ a p is le. sym (o.agreement b a p x' occurs is (omega arith) (inl (omega arith)))) in
+        let same_copies = agree_table c q o.i o.table o.copied b x' (o.copied pl) occurs sound.next o.agreement refl in
         let slot : copy_start c q0 j ≡ copy_start c q pl = cc in
         let kept : values ≡ under ++ stored c q (o.table 0) o.copied = cc (append-nil (stored c q (o.table 0) o.copied)) in (
           o.copied pl,
           following c q o.table (suc o.i) level others,
-          cc (after_next c q o.table o.i level others turn.within occurs),
+          cc (after_next c q o.table o.i level others turn.within occurs, same_copies),
           (λ row.
               let found = copies_there c q (o.table 0) o.copied under row b o.base occurs in (
                 found.0,
                 cc (append_assoc under (stored c q (o.table 0) o.copied) row),
               )),
         )
-      where
-        first : ℕ → List Value → Pending → Pending
-        first level vs left = (level, (x', Some vs)) ∷ left

@@ -1,6 +1,6 @@
 use Rattle.passrun.proofs.Common
-use Common.{option_map, ◌≡◌, List, Option, Ok, None, Bor, ℕ, ap, length, sym, subst, ◌∙◌, arith, err_from_is_err_and, next_before}
-use Common.{version_two, IsDamaged, source, setting, Err, added, none_added, RunFault}
+use Common.{option_map, ◌≡◌, List, Option, Ok, None, Bor, ℕ, ap, length, ◌∙◌, arith, err_from_is_err_and, next_before}
+use Common.{version_two, Err, added, none_added}
 use Rattle.passrun.proofs.Refusing.{end_come, end_refused, end_unbroken, end_version, left_over, some_lent}
 use Rattle.passrun.proofs.steps.Supposed.{runs_supposed}
 use Rattle.passrun.proofs.course.Ending.{as_many, none_lent, passed, reader_kept, ready_of}
@@ -14,9 +14,7 @@ body_of = option_map (λ (body : Bor (List ℕ)). body.now)
 pub put_record-requires-clause-few : goal.put_record-requires-clause-few
 put_record-requires-clause-few g c =
     let r = ready_of c.requires.context.sound c.requires.runs in
-    let few = r.0 in
-    let n = ap length c.as_slice-values.ensures.value in
-    omega arith
+    omega (arith, r.0, ap length c.as_slice-values.ensures.value)
 
 pub put_record-requires-clause-room : goal.put_record-requires-clause-room
 put_record-requires-clause-room g c =
@@ -32,7 +30,7 @@ returns-clause-passed g c = λ meter r is to_is.
     (runs_supposed
     c.in_ok-back.ensures.persists.honest c.in_ok-put_record.ensures.persists.honest r) is to_is
     c.as_slice-values.ensures.value c.in_ok-put_record.ensures.put end
-    (cc (reader_kept c.back.follows.holds-at-none c.in_ok-back.was (sym c.is_some.ensures ∙ c.if-is_some.false)))
+    (cc (reader_kept c.back.follows.holds-at-none c.in_ok-back.was (cc)))
 
 pub returns-clause-counts : goal.returns-clause-counts
 returns-clause-counts g c =
@@ -40,40 +38,30 @@ returns-clause-counts g c =
     let a = n.0 in
     let p = c.back.follows.lender-at-none.progress.records in
     let same : p ≡ c.args.machine.now.back.progress.records =
-    cc (reader_kept c.back.follows.holds-at-none c.in_ok-back.was (sym c.is_some.ensures ∙ c.if-is_some.false)) in
+    cc (reader_kept c.back.follows.holds-at-none c.in_ok-back.was (cc)) in
     let w = ap (λ w. w.written) c.in_ok-put_record.ensures.put.counted in
     (cc, omega arith)
 
 pub returns-clause-few : goal.returns-clause-few
 returns-clause-few g c =
     let n = as_many c.requires.context.sound c.requires.runs in
-    let few = n.1 in
-    let same =
-    ap (λ p. p.records)
-    (reader_kept
-    c.back.follows.holds-at-none c.in_ok-back.was (cc)) in
-    let read = c.records.ensures in
-    omega arith
+    omega (arith, n.1, ap (λ p. p.records) (reader_kept c.back.follows.holds-at-none c.in_ok-back.was (cc)), c.records.ensures)
 
 pub returns-in_err-back-clause-refused : goal.returns-in_err-back-clause-refused
 returns-in_err-back-clause-refused g c =
     let p = err_from_is_err_and c.from_residual-in_err-back.result c.from_residual-in_err-back.ensures.1 in
-    let content = g.D.Device.content c.args.from.now in
-    let m = c.args.machine.now in
     rw (p.1, p.2) (λ is.
     let come = end_come c.requires.context.sound c.requires.runs (c.in_err-back.ensures.persists.honest is) in
-    end_refused c.requires.context.sound content m.back.progress.at body_of c.in_err-back.field-0.0 come.0 come.1
+    end_refused c.requires.context.sound _ _ body_of c.in_err-back.field-0.0 come.0 come.1
     (rw (end_version c.requires.context.sound c.requires.runs) at
     (c.in_err-back.ensures.exact
     (end_unbroken c.requires.context.sound c.requires.runs) is)))
 
 pub returns-then-is_some-clause-refused : goal.returns-then-is_some-clause-refused
 returns-then-is_some-clause-refused g c = λ is.
-    let context = setting c.args.context.now in
-    let content = g.D.Device.content c.args.from.now in
     let some = some_lent c.in_ok-back.field-0 (cc) in
     let come = end_come c.requires.context.sound c.requires.runs (c.in_ok-back.ensures.persists.honest is) in
-    subst (IsDamaged (source context) content) (sym c.end-end.ensures)
+    rw c.end-end.ensures
     (left_over c.requires.context.sound come.0 come.1
     ((rw (end_version c.requires.context.sound c.requires.runs) at
     (c.in_ok-back.ensures.exact
@@ -83,14 +71,9 @@ returns-then-is_some-clause-refused g c = λ is.
 pub returns-in_err-back-clause-left : goal.returns-in_err-back-clause-left
 returns-in_err-back-clause-left g c =
     let p = err_from_is_err_and c.from_residual-in_err-back.result c.from_residual-in_err-back.ensures.1 in
-    let to = g.E.Device.content c.put_record.new.to in
-    rw p.1
-    (λ h. added RunFault (g.E.Device.content c.args.to.now) to to (Err p.0) (c.in_ok-put_record.ensures.added h)
-    (none_added RunFault to (Err p.0)))
+    rw p.1 (λ h. added _ _ _ _ (Err p.0) (c.in_ok-put_record.ensures.added h) (none_added _ _ (Err p.0)))
 
 pub returns-then-is_some-clause-left : goal.returns-then-is_some-clause-left
 returns-then-is_some-clause-left g c = λ h.
-    let to = g.E.Device.content c.put_record.new.to in
     let fault = run_fault.Damaged c.end-end.result in
-    added RunFault (g.E.Device.content c.args.to.now) to to (Err fault) (c.in_ok-put_record.ensures.added h)
-    (none_added RunFault to (Err fault))
+    added _ _ _ _ (Err fault) (c.in_ok-put_record.ensures.added h) (none_added _ _ (Err fault))

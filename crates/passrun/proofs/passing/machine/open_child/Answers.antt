@@ -1,5 +1,5 @@
 use Rattle.passrun.proofs.Common
-use Common.{[], ◌∷◌, ◌++◌, ◌∙◌, ap, reverse, subst, sym, arith, slice_get_within, OpenNode, setting, ContinuesAs}
+use Common.{[], ◌∷◌, ◌++◌, ◌∙◌, ap, reverse, arith, slice_get_within, OpenNode, setting}
 use Rattle.passrun.proofs.steps.Going.{child_of, goes}
 use Rattle.passrun.proofs.passing.machine.open_child.Goals as goal
 
@@ -11,16 +11,10 @@ width-width-requires-clause-there c =
 pub overflow_sub-values : goal.overflow_sub-values
 overflow_sub-values c =
     let h = child_of (reverse c.args.waiting.now.items) c.requires.next c.requires.passing in
-    let w = c.width-width.ensures h.production h.there in
-    let z = h.width in
-    omega arith
+    omega (arith, c.width-width.ensures h.production h.there, h.width)
 
 pub returns-clause-goes : goal.returns-clause-goes
 returns-clause-goes c =
-    subst
-    (λ (child : OpenNode). ContinuesAs (setting c.args.context.now)
-    (c.args.node ∷ reverse c.args.waiting.now.items) c.args.values.now
-    (child ∷ reverse c.push.new.self.items) c.args.values.now) (sym c.begun.ensures)
-    (goes c.requires.context.sound c.args.node c.args.waiting.now.items c.push.new.self.items
-    c.args.values.now c.args.place c.width-width.result c.requires.next c.width-width.ensures
+    rw c.begun.ensures
+    (goes c.requires.context.sound _ _ _ _ _ _ c.requires.next c.width-width.ensures
     (c.in_ok-push.ensures.items ∙ ap (λ (x : OpenNode). c.args.waiting.now.items ++ x ∷ []) c.left_at.ensures))

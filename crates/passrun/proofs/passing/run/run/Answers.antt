@@ -1,4 +1,4 @@
-use Rattle.passrun.proofs.Common.{Err, Ok, ◌∙◌, arith, err_from_is_err_and, added, RunFault}
+use Rattle.passrun.proofs.Common.{RunFault, Err, Ok, ◌∙◌, arith, err_from_is_err_and, added}
 use Rattle.passrun.proofs.course.Stepping.{persists_on}
 use Rattle.passrun.proofs.passing.run.run.Goals as goal
 
@@ -7,9 +7,7 @@ returns-in_err-next-clause-left g c =
     let p = err_from_is_err_and c.from_residual.result c.from_residual.ensures.1 in
     let old = c.loop-next.invariant in
     rw p.1
-    (λ h. added RunFault (g.E.Device.content c.args.to.now) (g.E.Device.content c.loop-next.to)
-    (g.E.Device.content c.step.new.to) (Err p.0) (old.added (c.in_err-next.ensures.devices.second.honest h))
-    (c.in_err-next.ensures.left h))
+    (λ h. added _ _ _ _ (Err p.0) (old.added (c.in_err-next.ensures.devices.second.honest h)) (c.in_err-next.ensures.left h))
 
 pub loop-next-preserved : goal.loop-next-preserved
 loop-next-preserved g c =
@@ -20,8 +18,7 @@ loop-next-preserved g c =
     record {
       runs = next.runs;
       added =
-          λ h. added RunFault (g.E.Device.content c.args.to.now) (g.E.Device.content c.loop-next.to)
-          (g.E.Device.content c.step.new.to) (Ok tt) (old.added (next.devices.second.honest h)) (next.added h);
+          λ h. added RunFault _ _ _ (Ok tt) (old.added (next.devices.second.honest h)) (next.added h);
       meter = omega arith;
       begun = cc;
       content = λ h. next.content h ∙ old.content (next.devices.first.honest h);

@@ -19,12 +19,13 @@ put_record-requires-clause-few g c =
     let context = setting c.args.context.now in
     let m = c.args.self.now in
     let own = own_of c.requires.runs c.requires.next in
-    let few = few_values context c.requires.context.sound c.args.node.production own.production own.there in
-    let n =
-    ap length (c.following-values.ensures ∙ ap (drop c.args.node.base) c.as_slice.ensures.value)
-    ∙ length-drop c.args.node.base m.values.items in
-    let w = own.within in
-    omega arith
+    omega (
+      arith,
+      few_values context c.requires.context.sound c.args.node.production own.production own.there,
+      ap length (c.following-values.ensures ∙ ap (drop c.args.node.base) c.as_slice.ensures.value)
+          ∙ length-drop c.args.node.base m.values.items,
+      own.within,
+    )
 
 pub put_record-requires-clause-well : goal.put_record-requires-clause-well
 put_record-requires-clause-well g c =

@@ -1,7 +1,7 @@
 use Rattle.passrun.proofs.Common
-use Common.{◌≡◌, ◌+◌, ap, refl, ◌∙◌, sym, subst, take, length, length-append, arith, take_at, err_from_is_err_and, IsDamaged}
-use Common.{source, setting}
-use Rattle.passrun.proofs.Refusing.{get_differs, get_refused, read_row}
+use Common.{◌≡◌, ◌+◌, ap, refl, ◌∙◌, sym, take, length, length-append, arith, take_at, err_from_is_err_and, setting}
+use Rattle.passrun.proofs.Refusing.{get_differs, get_refused}
+use Rattle.passrun.proofs.course.Ahead.{fetched_row}
 use Rattle.passrun.proofs.steps.Supposed.{from_supposed, leads_from}
 use Rattle.passrun.proofs.steps.MachineSteps.{got_place, got_leads, has_agreed, item_within}
 use Rattle.passrun.proofs.course.Working.{got_less}
@@ -29,38 +29,22 @@ matches_copy-requires-clause-known g c =
 
 pub matches_copy-requires-clause-copied : goal.matches_copy-requires-clause-copied
 matches_copy-requires-clause-copied g c =
-    let context = setting c.args.context.now in
     let m = c.args.self.now in
     let i = got_place c.requires.runs c.requires.next c.place-row.ensures in
-    let h = c.in_ok-number.ensures.fetched in
-    let more =
-    read_row context c.place-row.result.item c.in_ok-number.number h.body m.values.items c.fetch.new.values.items h.taken in
-    let l = ap length more.1 ∙ length-append m.values.items more.0 in
-    let n = ap length c.as_slice.ensures.value in
-    let start = i.start in
-    let within = i.within in
-    omega arith
+    let more = fetched_row c.in_ok-number.ensures.fetched in
+    omega (arith, ap length more.1 ∙ length-append m.values.items more.0, ap length c.as_slice.ensures.value, i.start, i.within)
 
 pub matches_copy-requires-clause-start : goal.matches_copy-requires-clause-start
 matches_copy-requires-clause-start g c =
-    let context = setting c.args.context.now in
     let m = c.args.self.now in
-    let h = c.in_ok-number.ensures.fetched in
-    let more =
-    read_row context c.place-row.result.item c.in_ok-number.number h.body m.values.items c.fetch.new.values.items h.taken in
-    let l = ap length more.1 ∙ length-append m.values.items more.0 in
-    let n = ap length c.as_slice.ensures.value in
-    omega (arith, m.values.ok.0)
+    let more = fetched_row c.in_ok-number.ensures.fetched in
+    omega (arith, ap length more.1 ∙ length-append m.values.items more.0, ap length c.as_slice.ensures.value, m.values.ok.0)
 
 pub returns-then-not-matches_copy-clause-refused : goal.returns-then-not-matches_copy-clause-refused
 returns-then-not-matches_copy-clause-refused g c = λ honest.
-    let context = setting c.args.context.now in
     let m = c.args.self.now in
-    let row = c.place-row.result in
-    let content = g.D.Device.content c.args.from.now in
-    let copied = c.args.node.base + row.start in
     let start : c.len-start.result ≡ length m.values.items = omega (arith, m.values.ok.0) in
-    subst (IsDamaged (source context) content) (sym c.end-end.ensures)
+    rw c.end-end.ensures
     (get_differs c.requires.context.sound
     c.matches_copy.result
     (from_supposed
@@ -76,10 +60,9 @@ returns-clause-runs g c =
     let row = c.place-row.result in
     let read = c.fetch.new.values.items in
     let h = c.in_ok-number.ensures.fetched in
-    let vs = c.as_slice.result.now in
     let copied = c.args.node.base + row.start in
     let start : c.len-start.result ≡ length m.values.items = omega (arith, m.values.ok.0) in
-    let more = read_row context row.item c.in_ok-number.number h.body m.values.items read h.taken in
+    let more = fetched_row h in
     let old : take c.len-start.result read ≡ m.values.items =
     cc (take_at m.values.items more.0 c.len-start.result (sym start)) in
     leads_from c.in_ok-number.ensures.persists.honest

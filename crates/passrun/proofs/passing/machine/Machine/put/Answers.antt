@@ -18,9 +18,11 @@ returns-in_default-clause-less g c =
 
 pub single_value-values-requires : goal.single_value-values-requires
 single_value-values-requires g c =
-    let within = text_within c.in-Terminal.field-0 c.requires.runs c.requires.next c.place-row.ensures c.in-Terminal.is in
-    let n = ap length c.as_slice.ensures.value in
-    omega arith
+    omega (
+      arith,
+      text_within c.in-Terminal.field-0 c.requires.runs c.requires.next c.place-row.ensures c.in-Terminal.is,
+      ap length c.as_slice.ensures.value,
+    )
 
 pub put_record-requires-clause-well : goal.put_record-requires-clause-well
 put_record-requires-clause-well g c =
@@ -35,7 +37,6 @@ put_record-requires-clause-room g c = put_room c.requires.context.sound c.requir
 
 pub returns-clause-runs : goal.returns-clause-runs
 returns-clause-runs g c =
-    let text = c.args.node.base + c.place-row.result.start in
     leads_to c.in_ok-put_record.ensures.persists.honest
     (put_leads c.requires.context.sound
     c.in-Terminal.field-0 c.requires.runs c.requires.next c.place-row.ensures c.in-Terminal.is

@@ -1,4 +1,4 @@
-use Rattle.passrun.proofs.Common.{drop, get_or, slice_index, pos, refl, arith, value_of, Num, slots_less}
+use Rattle.passrun.proofs.Common.{pos, refl, arith, Num, slots_less}
 use Rattle.passrun.proofs.steps.MachineSteps.{are_slots, rule_leads, giver, meter_of, rule_less, slots_within, well_of}
 use Rattle.passrun.proofs.course.Working.{given_less}
 use Rattle.passrun.proofs.passing.machine.Machine.run_rule.Goals as goal
@@ -34,9 +34,7 @@ put_rule_value-requires-clause-target c =
     giver c.requires.context.sound c.productions.ensures.lent c.index-productions-node.is c.as_slice.ensures
     c.index-as_slice-rule.is c.requires.runs c.requires.next in
     let are = are_slots h (c.row-layout.ensures _ h.there) c.as_slice-2.ensures c.index-as_slice-rule-2.is in
-    let target = are.target in
-    let within = h.within in
-    omega (arith, c.args.self.now.values.ok.0)
+    omega (arith, are.target, h.within, c.args.self.now.values.ok.0)
 
 pub put_rule_value-requires-clause-arguments : goal.put_rule_value-requires-clause-arguments
 put_rule_value-requires-clause-arguments c =
@@ -48,16 +46,10 @@ put_rule_value-requires-clause-arguments c =
 
 pub returns-clause-runs : goal.returns-clause-runs
 returns-clause-runs c =
-    let m = c.args.self.now in
-    let base = c.args.node.base in
     let h =
     giver c.requires.context.sound c.productions.ensures.lent c.index-productions-node.is c.as_slice.ensures
     c.index-as_slice-rule.is c.requires.runs c.requires.next in
-    let slots = c.index-as_slice-rule-2.result in
     let are = are_slots h (c.row-layout.ensures _ h.there) c.as_slice-2.ensures c.index-as_slice-rule-2.is in
-    let v =
-    value_of c.index-as_slice-rule.result.expr.0
-    (λ k. get_or (drop base m.values.items) (slice_index slots.args k) (Num (pos 0))) in
     rule_leads c.requires.context.sound c.args.rule
     (Num (pos 0)) c.requires.next h.there h.numbered are refl c.in_ok-put_rule_value.ensures.well
     c.in_ok-put_rule_value.ensures.value c.in_ok-put_rule_value.ensures.counted c.after_step.ensures

@@ -12,6 +12,8 @@ returns-clause-runs c = λ meter honest content to_honest to.
     c.in-Symbol.is c.after_step.ensures honest content meter
 
 pub returns-clause-most : goal.returns-clause-most
-returns-clause-most c = let less =
-    put_less c.requires.context.sound c.args.self.now.writer
-    c.requires.runs c.in-Put.ensures.there c.after_step.ensures in omega arith
+returns-clause-most c =
+    omega (
+      arith,
+      put_less c.requires.context.sound c.args.self.now.writer c.requires.runs c.in-Put.ensures.there c.after_step.ensures,
+    )

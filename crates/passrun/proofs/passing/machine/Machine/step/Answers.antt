@@ -1,5 +1,5 @@
 use Rattle.passrun.proofs.Common
-use Common.{refl, inl, inr, Err, err_from_is_err_and, none_added, RunFault}
+use Common.{refl, inl, inr, Err, err_from_is_err_and, none_added}
 use Common.instr
 use Rattle.passrun.proofs.passing.machine.Machine.step.Goals as goal
 use Rattle.passrun.proofs.passing.machine.Machine.step.Goals.{in-Set+in_ok-ended-in-Set, in-End}
@@ -26,22 +26,22 @@ finish_if_ended-requires-clause-runs g c =
 pub returns-in_err-after_step-in-Get-clause-left : goal.returns-in_err-after_step-in-Get-clause-left
 returns-in_err-after_step-in-Get-clause-left g c =
     let p = err_from_is_err_and c.from_residual.result c.from_residual.ensures.1 in
-    rw p.1 (λ h. none_added RunFault (g.E.Device.content c.args.to.now) (Err p.0))
+    rw p.1 (λ h. none_added _ _ (Err p.0))
 
 pub returns-in_err-enter_if_next-in-Get-clause-left : goal.returns-in_err-enter_if_next-in-Get-clause-left
 returns-in_err-enter_if_next-in-Get-clause-left g c =
     let p =
     err_from_is_err_and c.from_residual-in_err-enter_if_next-in-Get.result
     c.from_residual-in_err-enter_if_next-in-Get.ensures.1 in
-    rw p.1 (λ h. none_added RunFault (g.E.Device.content c.args.to.now) (Err p.0))
+    rw p.1 (λ h. none_added _ _ (Err p.0))
 
 pub returns-in_err-ended-in-Set-clause-left : goal.returns-in_err-ended-in-Set-clause-left
 returns-in_err-ended-in-Set-clause-left g c =
     let p = err_from_is_err_and c.from_residual-in_err-ended-in-Set.result c.from_residual-in_err-ended-in-Set.ensures.1 in
-    rw p.1 (λ h. none_added RunFault (g.E.Device.content c.args.to.now) (Err p.0))
+    rw p.1 (λ h. none_added _ _ (Err p.0))
 
 pub returns-in_err-enter_child-in-Go-clause-left : goal.returns-in_err-enter_child-in-Go-clause-left
 returns-in_err-enter_child-in-Go-clause-left g c =
     let p =
     err_from_is_err_and c.from_residual-in_err-enter_child-in-Go.result c.from_residual-in_err-enter_child-in-Go.ensures.1 in
-    rw p.1 (λ h. none_added RunFault (g.E.Device.content c.args.to.now) (Err p.0))
+    rw p.1 (λ h. none_added _ _ (Err p.0))
