@@ -1,6 +1,6 @@
 -- A prefix of some text was written, also an empty one.
 use Rattle.aggen.proofs.Common
-use Common.{◌≡◌, ℕ, List, [], Option, Some, None, refl, sym, subst, append-nil, arith, Appends, AppendsBeginning, IsWellText}
+use Common.{◌≡◌, ℕ, List, [], Option, Some, None, refl, sym, append-nil, arith, Appends, AppendsBeginning, IsWellText}
 use Rattle.std.proofs.lemmas.Str.{IsUtf8-nil, is_utf8-from_IsUtf8}
 use Rattle.ag_value.proofs.operations.Wells.{well_text}
 use Rattle.aggen.specs.Translation.{BeginsText, WritesText}
@@ -20,10 +20,10 @@ none known =
 pub some : (old new : Option (List ℕ)) (text lent : List ℕ) → IsWellText text → lent ≡ text → AppendsBeginning old new lent
     → BeginsText old new
 some old new text lent well same beginning =
-    record { text = text; well = well; beginning = subst (AppendsBeginning old new) same beginning }
+    record { text = text; well = well; beginning = rw same at beginning }
 
 pub whole : (old new : Option (List ℕ)) (text lent : List ℕ) → IsWellText text → lent ≡ text → Appends old new lent
     → WritesText old new
-whole old new text lent well same written = record { text = text; well = well; output = subst (Appends old new) same written }
+whole old new text lent well same written = record { text = text; well = well; output = rw same at written }
 
 pub ruleset begun = (none, some, whole)

@@ -1,12 +1,10 @@
 -- What several files of these proofs use.
-pub use Rattle.std.proofs.Common.{Bool, Err, List, None, Ok, Option, Result, Some, [], ap, append-nil, arith, cond, false, get_or}
-pub use Rattle.std.proofs.Common.{inl, inr, length, map, not, refl, slice_get, subst, suc, sym, true, zero, ℕ, ◌*◌, ◌++◌, ◌+◌}
-pub use Rattle.std.proofs.Common.{◌-◌, ◌<◌, ◌==◌, ◌||◌, ◌∙◌, ◌∷◌, ◌≡◌, ◌≤◌}
+pub use Rattle.std.proofs.Common.{Bool, Err, List, None, Ok, Option, Result, Some, [], ap, append-nil, arith, cond, false}
+pub use Rattle.std.proofs.Common.{inl, inr, length, not, refl, subst, suc, sym, true, zero, ℕ, ◌*◌, ◌+◌}
+pub use Rattle.std.proofs.Common.{◌-◌, ◌<◌, ◌==◌, ◌∙◌, ◌∷◌, ◌≡◌, ◌≤◌}
 pub use Rattle.std.proofs.lemmas.Bool.{and_parts, cases_lt}
-pub use Rattle.std.proofs.lemmas.Result.{err_from_is_err_and}
 pub use Rattle.std.specs.Io.KnownBytes.{Appends}
 pub use Rattle.std.specs.Prelude.{IsErrOf}
-pub use Rattle.std.specs.Result.{IfErr}
 pub use Rattle.ag_fault.specs.Faults.{build_fault_of, build_fault_of_table, device_fault_of, expr_fault_of, frame_fault_of}
 pub use Rattle.ag_fault.specs.Faults.{job_fault_of, listing_fault_of, out_fault_of, parse_fault_of, run_fault_of, scan_fault_of}
 pub use Rattle.ag_fault.specs.declared.build_fault.BuildFault.{BuildFault}
@@ -14,8 +12,8 @@ pub use Rattle.ag_fault.specs.declared.fault.Fault.{Fault}
 pub use Rattle.ag_fault.specs.declared.fault.Fault.TheVariants as fault
 pub use Rattle.ag_grammar.proofs.grammars.Running.{run_is_the_solution}
 pub use Rattle.ag_grammar.specs.Lists.{Each}
-pub use Rattle.ag_grammar.specs.grammars.Accepted.{IsAccepted, IsSeparator, class_count, out_name}
-pub use Rattle.ag_grammar.specs.grammars.AttributeGrammar.{Grammar, Inherited, Kind, Synthesized, symbol_kinds}
+pub use Rattle.ag_grammar.specs.grammars.Accepted.{IsAccepted, IsSeparator, class_count}
+pub use Rattle.ag_grammar.specs.grammars.AttributeGrammar.{Grammar}
 pub use Rattle.ag_grammar.specs.grammars.Counts.{rules_of_pass, sum_of_passes}
 pub use Rattle.ag_grammar.specs.grammars.Passes.{IsLegal, Passes, direction_of}
 pub use Rattle.ag_grammar.specs.grammars.Running.{IsLastPass}

@@ -1,8 +1,11 @@
 -- The grammar that a text reads as has readable literals and known classes.
 use Rattle.aggen.proofs.Common
-use Common.{ℕ, zero, suc, ◌≡◌, ◌≤◌, ◌<◌, ◌==◌, Bool, true, false, not, cond, ◌||◌, List, [], ◌∷◌, length, Option, Some, None}
-use Common.{slice_get, refl, sym, subst, arith, and_parts, Each, IsSeparator, class_count, TextsAreReadable}
+use Common.{ℕ, zero, suc, ◌≡◌, ◌≤◌, ◌<◌, ◌==◌, Bool, true, false, not, cond, List, length, Option, Some, None, refl}
+use Common.{subst, arith, and_parts, Each, IsSeparator, class_count, TextsAreReadable}
 use Rattle.std.specs.List.{list_any}
+use Rattle.std.proofs.lemmas.Bool.Decides.{nat_tests}
+use Rattle.std.proofs.lemmas.List.Folds.{list_any_at}
+use Rattle.std.proofs.lemmas.Option.{get_or_from_slice_get, slice_get_within}
 use Rattle.ag_tokens.specs.PlacedToken.{PlacedToken}
 use Rattle.ag_tokens.specs.GrammarToken.{GrammarToken}
 use Rattle.ag_tokens.specs.GrammarToken as token
@@ -20,28 +23,18 @@ use Rattle.normalform.proofs.found.Tested.{separator_is}
 
 -- ---- a literal
 
-neither : (a b : Bool) → not (a || b) ≡ true → (a ≡ false) × (not b ≡ true)
-neither true b h = absurd (cc)
-neither false b h = (refl, h)
-
-no_separator : (bytes : List ℕ) → not (list_any is_separator bytes) ≡ true → (i b : ℕ) → slice_get bytes i ≡ Some b
-    → IsSeparator b → ⊥
-no_separator [] h i b e is = absurd (cc)
-no_separator (c ∷ bytes) h zero b e is =
-    let same : c ≡ b = cc in
-    let seen = separator_is b is in
-    let unseen = (neither (is_separator c) (list_any is_separator bytes) h).0 in
-    let bad : ⊥ = cc in absurd bad
-no_separator (c ∷ bytes) h (suc i) b e is =
-    no_separator bytes (neither (is_separator c) (list_any is_separator bytes) h).1 i b e is
+no_separator : (bytes : List ℕ) → not (list_any is_separator bytes) ≡ true → Each (λ b. IsSeparator b → ⊥) bytes
+no_separator bytes h i b e is =
+    let same = get_or_from_slice_get bytes i b 0 e in
+    let seen = list_any_at is_separator bytes i 0 (slice_get_within bytes i b e) (rw same (separator_is b is)) in
+    absurd (cc (rw seen at h))
 
 not_empty : (bytes : List ℕ) → not (length bytes == 0) ≡ true → 1 ≤ length bytes
-not_empty [] h = absurd (cc)
-not_empty (b ∷ bytes) h = omega arith
+not_empty bytes h = grind (arith, nat_tests)
 
 of_literal : (bytes : List ℕ) (is : Bool) (x : RawItem) → is_literal bytes ≡ is → some_if is (raw_item.Literal bytes) ≡ Some x
     → IsReadableItem x
-of_literal bytes false x is e = absurd (cc)
+of_literal bytes false x is e = absurd cc
 of_literal bytes true x is e =
     let same : raw_item.Literal bytes ≡ x = cc in
     let parts = and_parts (not (length bytes == 0)) (not (list_any is_separator bytes)) is in
@@ -50,80 +43,41 @@ of_literal bytes true x is e =
 -- ---- a class
 
 small : (a b c : Bool) (class : ℕ) → cond a (Some 0) (cond b (Some 1) (cond c (Some 2) None)) ≡ Some class → class < class_count
-small true b c class e = let same : 0 ≡ class = cc in omega (arith, same)
-small false true c class e = let same : 1 ≡ class = cc in omega (arith, same)
-small false false true class e = let same : 2 ≡ class = cc in omega (arith, same)
-small false false false class e = absurd (cc)
+small a b c class e = grind arith
 
 of_name : (o : Option ℕ) (name : Option Named) (x : RawItem) → ((class : ℕ) → o ≡ Some class → class < class_count)
     → class_or_name o name ≡ Some x → IsReadableItem x
 of_name (Some class) name x known e = let same : raw_item.Class class ≡ x = cc in subst IsReadableItem same (known class refl)
 of_name None (Some name) x known e = let same : raw_item.Name name ≡ x = cc in subst IsReadableItem same tt
-of_name None None x known e = absurd (cc)
+of_name None None x known e = absurd cc
 
 -- ---- items, productions, grammars
 
 readable_sign : (at : ℕ) (t : GrammarToken) (x : RawItem) → item_in at t ≡ Some x → IsReadableItem x
-readable_sign at (token.Name name) x e = of_name (class_of name) (named at name) x (λ class is. small _ _ _ class is) e
+readable_sign at (token.Name name) x e = of_name (class_of name) (named at name) x (small _ _ _) e
 readable_sign at (token.Text bytes) x e = of_literal bytes (is_literal bytes) x refl e
-readable_sign at (token.Number n) x e = absurd (cc)
-readable_sign at (token.Occurrence place attr) x e = absurd (cc)
-readable_sign at (token.Punctuation m) x e = absurd (cc)
+readable_sign at t x e = absurd cc
 
 readable_one : (ps : List PlacedToken) (x : RawItem) → one item_in ps x → IsReadableItem x
 readable_one ps x (p, alone, is) = readable_sign p.at p.token x is
 
 -- if what each part reads as has a property, each element of the list has it
 all_of_many : {A : Type 0} {item : List PlacedToken → A → Type 0} (P : A → Type 0)
-    → ((ps : List PlacedToken) (x : A) → item ps x → P x) → {ps : List PlacedToken} {xs : List A} → Many item ps xs
-    → (i : ℕ) (x : A) → slice_get xs i ≡ Some x → P x
-all_of_many P each none i x e = absurd (cc)
+    → ((ps : List PlacedToken) (x : A) → item ps x → P x) → {ps : List PlacedToken} {xs : List A} → Many item ps xs → Each P xs
+all_of_many P each none i x e = absurd cc
 all_of_many P each (more us vs y ys first rest) zero x e = let same : y ≡ x = cc in subst P same (each us y first)
 all_of_many P each (more us vs y ys first rest) (suc i) x e = all_of_many P each rest i x e
 
 readable_production : (ps : List PlacedToken) (q : RawProduction) → IsProduction ps q → Each IsReadableItem q.items
-readable_production ps q (
-  us,
-  vs,
-  left,
-  e,
-  is_left,
-  (
-    us',
-    vs',
-    u,
-    e',
-    is_equal,
-    (
-      us'',
-      vs'',
-      items,
-      e'',
-      are,
-      (us3, vs3, v, e3, is_open, (us4, vs4, rules, e4, rules_are, (us5, vs5, w, e5, is_close, (end, same)))),
-    ),
-  ),
-) =
-    subst (λ (q : RawProduction). Each IsReadableItem q.items) (sym same) (all_of_many IsReadableItem readable_one are)
+readable_production ps q
+    (_, _, _, _, _, (_, _, _, _, _, (_, _, items, _, are, (_, _, _, _, _, (_, _, _, _, _, (_, _, _, _, _, (_, same))))))) =
+    rw same (all_of_many IsReadableItem readable_one are)
 
 readable_grammar : (ps : List PlacedToken) (raw : RawGrammar) → IsGrammar ps raw → IsReadable raw
 unfolding IsGrammar
-readable_grammar ps raw (
-  us,
-  vs,
-  u,
-  e,
-  is_word,
-  (
-    us',
-    vs',
-    start,
-    e',
-    is_start,
-    (us'', vs'', v, e'', is_mark, (us3, vs3, symbols, e3, symbols_are, (us4, vs4, productions, e4, are, (end, same)))),
-  ),
-) =
-    subst IsReadable (sym same) (all_of_many (λ (q : RawProduction). Each IsReadableItem q.items) readable_production are)
+readable_grammar ps raw
+    (_, _, _, _, _, (_, _, _, _, _, (_, _, _, _, _, (_, _, _, _, _, (_, _, productions, _, are, (_, same)))))) =
+    rw same (all_of_many (λ q. Each IsReadableItem q.items) readable_production are)
 
 pub texts_are_readable : TextsAreReadable
 texts_are_readable text raw reads = readable_grammar reads.placed raw reads.spells

@@ -4,8 +4,8 @@ pub mod Building
 pub mod Closed
 pub mod Composed
 pub mod Evaluated
+pub mod Exits
 pub mod FromTexts
-pub mod Jobs
 pub mod Joined
 pub mod Left
 pub mod Old

@@ -6,8 +6,6 @@ use Rattle.aggen.specs.Upgrading.{IsOldFileFault}
 
 pub old_fault : (g : Grammar) (ho hm : Bool) (content : List ℕ) (f : RunFault)
     → WhenHonest ho (WhenHonest hm (IsUpgradeFault g content f)) → IsOldFileFault g ho hm content (run_fault_of f)
-old_fault g ho hm content (run.Damaged at) exact = (tt, exact)
-old_fault g ho hm content run.TooDeep exact = (tt, exact)
-old_fault g ho hm content run.TooManyNodes exact = (tt, exact)
 old_fault g ho hm content run.Device exact = tt
 old_fault g ho hm content run.NoMemory exact = tt
+old_fault g ho hm content f exact = (tt, exact)

@@ -1,92 +1,65 @@
-use Rattle.aggen.proofs.Common.{Err, ap, inr, refl, sym, err_from_is_err_and, IsTreeOfSentence}
+use Rattle.aggen.proofs.Common.{ap, Err, sym}
 use Rattle.treefile.proofs.framing.Beginning.{not_begun}
 use Rattle.aggen.proofs.Sentences.{one_of, parse_exact, scan_exact, with_tokens}
-use Rattle.aggen.proofs.Left.{first_begins, no_parse_of_device, no_parse_of_scan}
+use Rattle.aggen.proofs.Exits.{at_exit}
+use Rattle.aggen.proofs.Left.{first_begins, no_parse_of_device}
 use Rattle.aggen.proofs.translator.Translator.parse_tree.Goals as goal
 
 -- a sentence has at most one tree, for any result
 pub returns-in_err-tokens-clause-one : goal.returns-in_err-tokens-clause-one
 returns-in_err-tokens-clause-one g c =
-    rw (sym c.self.view_is) (one_of _ c.self.invariant.0 _ c.self.invariant.1 c.args.sentence.now)
+    rw (sym c.self.view_is) (one_of c.self.invariant.0 _ c.self.invariant.1 c.args.sentence.now)
 
 pub returns-in_err-writer-clause-one : goal.returns-in_err-writer-clause-one
 returns-in_err-writer-clause-one g c =
-    rw (sym c.self.view_is) (one_of _ c.self.invariant.0 _ c.self.invariant.1 c.args.sentence.now)
+    rw (sym c.self.view_is) (one_of c.self.invariant.0 _ c.self.invariant.1 c.args.sentence.now)
 
 pub returns-in_err-count-clause-one : goal.returns-in_err-count-clause-one
 returns-in_err-count-clause-one g c =
-    rw (sym c.self.view_is) (one_of _ c.self.invariant.0 _ c.self.invariant.1 c.args.sentence.now)
+    rw (sym c.self.view_is) (one_of c.self.invariant.0 _ c.self.invariant.1 c.args.sentence.now)
 
 pub returns-clause-one : goal.returns-clause-one
-returns-clause-one g c = rw (sym c.self.view_is) (one_of _ c.self.invariant.0 _ c.self.invariant.1 c.args.sentence.now)
+returns-clause-one g c =
+    rw (sym c.self.view_is) (one_of c.self.invariant.0 _ c.self.invariant.1 c.args.sentence.now)
 
 -- a tree of the sentence is a tree of its tokens, of which `parse` states the same
 pub returns-clause-limits : goal.returns-clause-limits
-returns-clause-limits g c = λ t is.
-    let i : IsTreeOfSentence c.self.inside.grammar c.args.sentence.now t = rw c.self.view_is is in
-    let cut = c.in_ok-tokens.ensures.tokens in
-    c.in_ok-count.ensures.limits t (with_tokens _ c.self.invariant.0 c.args.sentence.now _ cut t i)
+returns-clause-limits g c = rw (sym c.self.view_is)
+    (λ t is. c.in_ok-count.ensures.limits t (with_tokens c.self.invariant.0 c.in_ok-tokens.ensures.tokens t is))
 
 pub returns-clause-count : goal.returns-clause-count
-returns-clause-count g c = λ t is.
-    let i : IsTreeOfSentence c.self.inside.grammar c.args.sentence.now t = rw c.self.view_is is in
-    let cut = c.in_ok-tokens.ensures.tokens in
-    c.in_ok-count.ensures.count t (with_tokens _ c.self.invariant.0 c.args.sentence.now _ cut t i)
+returns-clause-count g c = rw (sym c.self.view_is)
+    (λ t is. c.in_ok-count.ensures.count t (with_tokens c.self.invariant.0 c.in_ok-tokens.ensures.tokens t is))
 
 pub returns-clause-file : goal.returns-clause-file
-returns-clause-file g c = λ t is.
-    let i : IsTreeOfSentence c.self.inside.grammar c.args.sentence.now t = rw c.self.view_is is in
-    let cut = c.in_ok-tokens.ensures.tokens in
-    let h = c.in_ok-count.ensures.file t (with_tokens _ c.self.invariant.0 c.args.sentence.now _ cut t i) in
-    rw (sym c.self.view_is) (λ honest. h honest)
+returns-clause-file g c = rw (sym c.self.view_is)
+    (λ t is. c.in_ok-count.ensures.file t (with_tokens c.self.invariant.0 c.in_ok-tokens.ensures.tokens t is))
 
 -- the meaning of a fault of scanning, and of parsing, for the sentence
 pub returns-in_err-tokens-clause-refused : goal.returns-in_err-tokens-clause-refused
 returns-in_err-tokens-clause-refused g c =
-    let p = err_from_is_err_and c.from_residual.result c.from_residual.ensures.1 in
-    rw (p.1, p.2, sym c.self.view_is) (scan_exact _ c.self.invariant.0 c.args.sentence.now _ c.in_err-tokens.ensures.refused)
+    at_exit _ _ _ c.from_residual.ensures
+    (rw (sym c.self.view_is) (scan_exact c.self.invariant.0 c.args.sentence.now _ c.in_err-tokens.ensures.refused))
 
 pub returns-in_err-count-clause-refused : goal.returns-in_err-count-clause-refused
 returns-in_err-count-clause-refused g c =
-    let p = err_from_is_err_and c.from_residual-in_err-count.result c.from_residual-in_err-count.ensures.1 in
-    let cut = c.in_ok-tokens.ensures.tokens in
     let e = c.in_err-count.ensures in
-    rw (p.1, p.2, sym c.self.view_is)
-    (parse_exact _ c.self.invariant.0 c.args.sentence.now _ cut
-    (Err c.in_err-count.field-0.0) c.in_err-count.field-0.0 refl e.unexpected e.none e.deep e.large)
+    at_exit _ _ _ c.from_residual-in_err-count.ensures
+    (rw (sym c.self.view_is)
+    (parse_exact c.self.invariant.0 c.in_err-count.field-0.0 c.in_ok-tokens.ensures.tokens e.unexpected e.none e.deep e.large))
 
 -- the content of the device after a fault
 pub returns-in_err-writer-clause-left : goal.returns-in_err-writer-clause-left
 returns-in_err-writer-clause-left g c =
-    let p = err_from_is_err_and c.from_residual-in_err-writer.result c.from_residual-in_err-writer.ensures.1 in
-    rw p.1
-    (λ h. not_begun 0 (g.D.Device.content c.args.device.now) (g.D.Device.content c.begin.new.device) c.in_err-writer.field-0.0
-    (λ failed. c.in_err-writer.ensures.device (ap Err failed) h)
+    at_exit _ _ _ c.from_residual-in_err-writer.ensures
+    (λ h. not_begun 0 _ _ c.in_err-writer.field-0.0 (λ failed. c.in_err-writer.ensures.device (ap Err failed) h)
     (λ resource. c.in_err-writer.ensures.memory (ap Err resource) h))
 
-pub returns-in_err-count-clause-left : goal.returns-in_err-count-clause-left
-returns-in_err-count-clause-left g c =
-    let p = err_from_is_err_and c.from_residual-in_err-count.result c.from_residual-in_err-count.ensures.1 in
-    rw p.1 (λ h. inr (c.in_err-count.ensures.left h))
-
 -- after P a prefix of the file, and after Ok all of it
-pub returns-in_err-tokens-clause-parsed : goal.returns-in_err-tokens-clause-parsed
-returns-in_err-tokens-clause-parsed g c =
-    let p = err_from_is_err_and c.from_residual.result c.from_residual.ensures.1 in
-    rw (p.1, p.2) (λ is. absurd (no_parse_of_scan c.in_err-tokens.field-0.0 is))
-
 pub returns-in_err-writer-clause-parsed : goal.returns-in_err-writer-clause-parsed
 returns-in_err-writer-clause-parsed g c =
-    let p = err_from_is_err_and c.from_residual-in_err-writer.result c.from_residual-in_err-writer.ensures.1 in
-    rw (p.1, p.2) (λ is. absurd (no_parse_of_device c.in_err-writer.field-0.0 is))
-
-pub returns-in_err-count-clause-parsed : goal.returns-in_err-count-clause-parsed
-returns-in_err-count-clause-parsed g c =
-    let p = err_from_is_err_and c.from_residual-in_err-count.result c.from_residual-in_err-count.ensures.1 in
-    rw p.1 (λ is h. c.in_err-count.ensures.left h)
+    at_exit _ _ _ c.from_residual-in_err-writer.ensures (λ is. absurd (no_parse_of_device c.in_err-writer.field-0.0 is))
 
 pub returns-clause-begins : goal.returns-clause-begins
-returns-clause-begins g c = λ h.
-    let tree = c.in_ok-count.ensures.tree in
-    first_begins c.self.inside.grammar tree.0 (g.D.Device.content c.parse.new.device) c.self.invariant.0 tree.1.tree
-    (c.in_ok-count.ensures.file tree.0 tree.1 h)
+returns-clause-begins g c = λ h. let tree = c.in_ok-count.ensures.tree in
+    first_begins c.self.invariant.0 tree.1.tree (c.in_ok-count.ensures.file tree.0 tree.1 h)
