@@ -1,8 +1,8 @@
 -- What several files of these proofs use.
 pub use Rattle.std.proofs.Common.{All, Bool, Err, IfOk, IfSome, IsTrue, List, None, Ok, Option, Result, Some, [], add-one, ap}
-pub use Rattle.std.proofs.Common.{append_assoc, arith, cond, eqb, false, get_or, inl, inr, length, map, nat_lt, refl, slice_get}
-pub use Rattle.std.proofs.Common.{subst, suc, sym, take, true, unwrap_or, zero, ℕ, ◌%◌, ◌&&◌, ◌*◌, ◌++◌, ◌+◌, ◌/◌, ◌<◌, ◌↔◌, ◌∙◌}
-pub use Rattle.std.proofs.Common.{◌∷◌, ◌≡◌, ◌≤◌, ◌⊎◌}
+pub use Rattle.std.proofs.Common.{append_assoc, arith, cond, drop, eqb, false, get_or, inl, inr, length, map, nat_lt, refl}
+pub use Rattle.std.proofs.Common.{slice_get, subst, suc, sym, take, true, unwrap_or, zero, zero-add, ℕ, ◌%◌, ◌&&◌, ◌*◌, ◌++◌}
+pub use Rattle.std.proofs.Common.{◌+◌, ◌/◌, ◌<◌, ◌↔◌, ◌∙◌, ◌∷◌, ◌≡◌, ◌≤◌, ◌⊎◌}
 pub use Rattle.std.proofs.Math.Arith.{lt_of_le-ne}
 pub use Rattle.std.proofs.Math.ListN.{get_or-eq_default, length-append}
 pub use Rattle.std.proofs.lemmas.Bool.{cases_Bool, cases_eq, cases_lt, cases_order, lt-ltb, ltb-true}
@@ -34,8 +34,8 @@ pub use Rattle.passassign.specs.Certificate.{AreGood, Attributes, IsCertificate,
 pub use Rattle.passassign.specs.Certificate.{IsReasonWhere, IsSameOrLater, IsStruckBy, Members, StrikesAll, StrikesExactly}
 pub use Rattle.passassign.specs.Certificate.{stuck_of}
 pub use Rattle.passassign.specs.Chains.{AreAwaitedBefore, AreLinked, IsChainOf, StartsWith, WaitsFor, WaitsForNone, strike_at}
-pub use Rattle.passassign.specs.Dependencies.{Adds, AreDependencies, IsByArgument, IsByProduction, IsByRule, IsDependency, OfEach}
-pub use Rattle.passassign.specs.Dependencies.{OfPrefix, dependency_of, head_of, symbol_of, table_slot}
+pub use Rattle.passassign.specs.Dependencies.{dependencies_of, dependencies_of_production, dependencies_of_rule, dependency_of}
+pub use Rattle.passassign.specs.Dependencies.{dependency_on, symbol_of}
 pub use Rattle.passassign.specs.Least.{AssignsOnlyAttributes, HasPassIn, IsAlternating, IsAttribute, IsLeast, IsLegalPartial}
 pub use Rattle.passassign.specs.Least.{IsStuck, Partial, partial_of, pass_at}
 pub use Rattle.passassign.specs.Making.{AreFinished, AreIdle, AreMarks, IsMade, IsOpen, IsPass, pass_after, passed, start}

@@ -1,5 +1,4 @@
 -- Lists of good strikes, those that a search finds, and chains.
-pub mod Adding
 pub mod BothWays
 pub mod Chained
 pub mod Exactly

@@ -1,14 +1,14 @@
 -- The dependencies in a production: of its rules' targets on their arguments (Knuth 1968).
-use Rattle.std.specs.Prelude.{ℕ, ◌≡◌, ◌<◌, ◌⊎◌, ◌↔◌, List, Option, Some, None, slice_get}
-use Rattle.ag_grammar.specs.Lists.{Has}
+use Rattle.std.specs.Prelude.{ℕ, ◌≡◌, List, Option, Some, None}
+use Rattle.std.specs.List.{enumerate_from, filter_map, flat_map}
+use Rattle.std.specs.Option.{option_and_then}
 use Rattle.ag_grammar.specs.declared.grammar.Item.TheVariants as item
 use Rattle.ag_grammar.specs.declared.grammar.Item.{Item}
 use Rattle.ag_grammar.specs.declared.grammar.Production.{Production}
 use Rattle.ag_grammar.specs.declared.grammar.Rule.{Rule}
 use Rattle.ag_grammar.specs.declared.grammar.Target.{Target}
 use Rattle.ag_grammar.specs.grammars.Accepted.{IsAccepted}
-use Rattle.ag_grammar.specs.grammars.AttributeGrammar.{Grammar, IsProduction, IsRule, places_of}
-use Rattle.passassign.specs.declared.stuck.Strike.{Strike}
+use Rattle.ag_grammar.specs.grammars.AttributeGrammar.{Grammar, IsProduction, item_at}
 use Rattle.passassign.specs.declared.dependency.Dependency.{Dependency}
 use Rattle.passassign.specs.Tables.{slot_of}
 
@@ -20,68 +20,38 @@ AreAccepted productions = (g : Grammar) × IsAccepted g × (g.productions ≡ pr
 abbrev pub IsAcceptedProduction : Production → Type 0
 IsAcceptedProduction q = (g : Grammar) × (p : ℕ) × IsAccepted g × IsProduction g p q
 
--- the rules of such a production
-abbrev pub AreOfAccepted : List Rule → Type 0
-AreOfAccepted rules = (q : Production) × IsAcceptedProduction q × (q.rules ≡ rules)
-
--- a rule of such a production
-abbrev pub IsOfAccepted : Rule → Type 0
-IsOfAccepted rule = (q : Production) × IsAcceptedProduction q × IsRule q rule
-
 -- the number of the symbol that an item is
 abbrev pub symbol_of : Option Item → Option ℕ
 symbol_of None = None
 symbol_of (Some (item.Symbol s)) = Some s
 symbol_of (Some (item.Terminal t)) = None
 
--- the slot of attribute a of a symbol, if there is a symbol
-abbrev pub table_slot : Option ℕ → ℕ → Option ℕ
-table_slot None a = None
-table_slot (Some s) a = Some (slot_of s a)
+-- In the following, p is the number of production q, x is a rule of q with its number, and y is an argument of this rule with its
+-- number.
 
--- the dependency of a rule's target at place j on argument i, which has slot k and place `from`; `head` is a strike of the target
--- by this rule
-abbrev pub dependency_of : Strike → (j i k from : ℕ) → Dependency
-dependency_of head j i k from = record { strike = record head { arg = i }; place = j; argument = k; from = from }
+-- the dependency of the rule's target, an attribute of symbol s, on the argument, an attribute of symbol t
+abbrev pub dependency_of : ℕ → ℕ × Rule → ℕ × Target → (s t : ℕ) → Dependency
+dependency_of p x y s t = record {
+  strike = record { symbol = s; attr = x.1.target.attr; production = p; rule = x.0; arg = y.0 };
+  place = x.1.target.place;
+  argument = slot_of t y.1.attr;
+  from = y.1.place;
+}
 
--- for some index i of the list xs and the element x there, the relation R holds of i, x and y
-abbrev pub OfEach : {X Y : Type 0} → (ℕ → X → Y → Type 0) → List X → Y → Type 0
-OfEach {X} R xs y = (i : ℕ) × (x : X) × (slice_get xs i ≡ Some x) × R i x y
+-- the dependency of the rule's target on the argument, if both are attributes of symbols
+abbrev pub dependency_on : ℕ → Production → ℕ × Rule → ℕ × Target → Option Dependency
+dependency_on p q x y =
+    option_and_then (λ s. option_and_then (λ t. Some (dependency_of p x y s t)) (symbol_of (item_at q y.1.place)))
+    (symbol_of (item_at q x.1.target.place))
 
--- for some index i below n of the list xs and the element x there, the relation R holds of i, x and y
-abbrev pub OfPrefix : {X Y : Type 0} → (ℕ → X → Y → Type 0) → List X → ℕ → Y → Type 0
-OfPrefix {X} R xs n y = (i : ℕ) × (x : X) × (i < n) × (slice_get xs i ≡ Some x) × R i x y
+-- the dependencies of the rule's target on the rule's arguments
+abbrev pub dependencies_of_rule : ℕ → Production → ℕ × Rule → List Dependency
+dependencies_of_rule p q x = filter_map (dependency_on p q x) (enumerate_from 0 x.1.args)
 
--- the members of the second list are those of the first, and those with property P
-pub record Adds {X : Type 0} (P : X → Type 0) (old new : List X) : Type 0 where
-  pub kept : (x : X) → Has old x → Has new x
-  pub all : (x : X) → P x → Has new x
-  pub only : (x : X) → Has new x → Has old x ⊎ P x
+-- the dependencies of the rules of a production, which is given with its number
+abbrev pub dependencies_of_production : ℕ × Production → List Dependency
+dependencies_of_production x = flat_map (dependencies_of_rule x.0 x.1) (enumerate_from 0 x.1.rules)
 
--- u is the dependency of the target at place j on argument i, which is o and an attribute of a symbol. `places` has the item at
--- each place, and `head` is a strike of the target by its rule.
-abbrev pub IsByArgument : List Item → Strike → ℕ → ℕ → Target → Dependency → Type 0
-IsByArgument places head j i o u =
-    (k : ℕ) × (table_slot (symbol_of (slice_get places o.place)) o.attr ≡ Some k) × (u ≡ dependency_of head j i k o.place)
-
--- the strike of the target of rule r of production p, an attribute of symbol s, by argument 0
-abbrev pub head_of : ℕ → ℕ → Rule → ℕ → Strike
-head_of p r rule s = record { symbol = s; attr = rule.target.attr; production = p; rule = r; arg = 0 }
-
--- u is a dependency of `rule`, which is rule r of production p; `places` has the item at each place of the production
-abbrev pub IsByRule : List Item → ℕ → ℕ → Rule → Dependency → Type 0
-IsByRule places p r rule u =
-    (s : ℕ) × (symbol_of (slice_get places rule.target.place) ≡ Some s)
-    × OfEach (IsByArgument places (head_of p r rule s) rule.target.place) rule.args u
-
--- u is a dependency of q, which is production p
-abbrev pub IsByProduction : ℕ → Production → Dependency → Type 0
-IsByProduction p q u = OfEach (IsByRule (places_of q) p) q.rules u
-
--- u is a dependency of some productions
-abbrev pub IsDependency : List Production → Dependency → Type 0
-IsDependency productions u = OfEach IsByProduction productions u
-
--- a list has the dependencies of some productions, and no others
-abbrev pub AreDependencies : List Production → List Dependency → Type 0
-AreDependencies productions all = (u : Dependency) → Has all u ↔ IsDependency productions u
+-- all dependencies of some productions, in the order of productions, rules and arguments
+abbrev pub dependencies_of : List Production → List Dependency
+dependencies_of productions = flat_map dependencies_of_production (enumerate_from 0 productions)

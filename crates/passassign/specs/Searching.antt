@@ -17,7 +17,7 @@ use Rattle.passassign.specs.declared.stuck.Strike.{Strike}
 use Rattle.passassign.specs.declared.table.State.{State}
 use Rattle.passassign.specs.declared.table.State.TheVariants.{Open}
 use Rattle.passassign.specs.Certificate.{AreGood, IsSameOrLater}
-use Rattle.passassign.specs.Dependencies.{AreDependencies}
+use Rattle.passassign.specs.Dependencies.{dependencies_of}
 use Rattle.passassign.specs.Making.{IsOpen, AreFinished}
 use Rattle.passassign.specs.Tables.{slot_of, state_at, is_marked, table_passes, IsTable}
 
@@ -74,7 +74,7 @@ IsStruckAt xs k = (x : Strike) × Has xs x × (struck_slot x ≡ k)
 -- one without.
 pub record BelongTo (g : Grammar) (all : List Dependency) (states : List State) : Type 0 where
   pub accepted : IsAccepted g
-  pub dependencies : AreDependencies g.productions all
+  pub dependencies : all ≡ dependencies_of g.productions
   pub table : IsTable g.symbols states
   pub led : (u : Dependency) → Has all u → state_at states u.argument ≡ Open → state_at states (target_of u) ≡ Open
 

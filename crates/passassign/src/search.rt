@@ -1,12 +1,12 @@
 //! The attributes that a pass can't compute: they are struck one after the other, until no other
 //! can be.
 
-ghost use Rattle.std.specs.Prelude.{◌≡◌, ◌*◌, ◌↔◌, Some, IfOk, IsTrue, OnOk, length, map};
+ghost use Rattle.std.specs.Prelude.{◌≡◌, ◌*◌, ◌↔◌, Some, IfOk, IsTrue, length, map};
 ghost use Rattle.ag_grammar.specs.Lists.{Each};
 ghost use Rattle.ag_grammar.specs.grammars.Accepted.{IsAccepted, max_attributes};
 ghost use Rattle.ag_grammar.specs.grammars.AttributeGrammar.{Grammar as Plain};
 ghost use Rattle.passassign.specs.Certificate.{IsSameOrLater};
-ghost use Rattle.passassign.specs.Dependencies.{Adds, AreDependencies};
+ghost use Rattle.passassign.specs.Dependencies.{dependencies_of};
 ghost use Rattle.passassign.specs.Searching.{edge_of, target_of, dependency_by, IsBarred, AreBarred};
 ghost use Rattle.passassign.specs.Searching.{AreReady, AreStrikesBy, IsSearched};
 ghost use Rattle.passassign.specs.declared.dependency.Dependency.{Dependency as PlainDependency};
@@ -60,7 +60,7 @@ impl Dependencies {
     ) -> Result<Dependencies, NoMemory>
         requires accepted { (g : Plain) × IsAccepted g × (g.productions ≡ productions.now)
             × (count ≡ length g.symbols * max_attributes) }
-        ensures all { IfOk result (λ found. AreDependencies productions.now found.all.items) }
+        ensures all { IfOk result (λ found. found.all.items ≡ dependencies_of productions.now) }
         ensures ready { IfOk result (λ found. AreReady found count) }
     {
         let all = all_dependencies(alloc, productions)?;
@@ -100,22 +100,6 @@ fn is_barred(direction: Direction, states: &[State], one: Dependency) -> bool
     is_same_or_later(direction, one.place, one.from) && has_no_pass(look_up(states, one.argument))
 }
 
-/// Appends a dependency if it bars its target from a pass.
-fn append_barred(
-    barred: &mut Vec<Dependency>,
-    direction: Direction,
-    states: &[State],
-    one: Dependency,
-) -> Result<(), NoMemory>
-    ensures { OnOk result (Adds (λ u. (u ≡ one) × IsBarred direction states.now u)
-        barred.old.items barred.new.items) }
-{
-    if is_barred(direction, states, one) {
-        barred.push(one)?;
-    }
-    Ok(())
-}
-
 /// Returns the dependencies that bar their targets from a pass, in the order of `all`.
 fn barred_dependencies(
     alloc: Global,
@@ -127,7 +111,9 @@ fn barred_dependencies(
 {
     let mut barred = Vec::new(alloc);
     for one in all {
-        append_barred(&mut barred, direction, states, *one)?;
+        if is_barred(direction, states, *one) {
+            barred.push(*one)?;
+        }
     }
     Ok(barred)
 }

@@ -2,7 +2,7 @@
 use Rattle.passassign.proofs.Common
 use Common.{ℕ, ◌≡◌, ◌+◌, ◌<◌, ◌≤◌, nat_lt, List, [], ◌∷◌, Some, None, zero, suc, ◌⊎◌, slice_get, get_or, length, unwrap_or, inl}
 use Common.{inr, refl, ◌∙◌, arith, cases_lt, cases_Bool, lt-ltb, ltb-true, slice_get_within, slice_get_past, slice_get-get_or}
-use Common.{get_or-eq_default, Production, Symbol, Grammar, Synthesized, symbol_kinds, AreDependencies, partial_of, IsLeast}
+use Common.{get_or-eq_default, Production, Symbol, Grammar, Synthesized, symbol_kinds, dependencies_of, partial_of, IsLeast}
 use Common.{IsMade, start, IsAcceptedWith, IsProgress, open_count, max_passes, passes_of, AreWithinMaxPasses, BelongTo, slot_of}
 use Common.{state_at, state_of, pass_of_state, first_state, attribute_count, table_passes, IsFirstTable, IsTable, IsDeclared}
 use Common.{AreRowsOfTable, PassesSoFar, Dependency, State, Absent, Open, Assigned}
@@ -70,16 +70,17 @@ module _ (symbols : List Symbol) (states : List State) (first : IsFirstTable sym
   }
 
 pub with_of : {symbols : List Symbol} {productions : List Production} {g : Grammar} {all : List Dependency} {states : List State}
-    → IsAcceptedWith symbols productions g → AreDependencies productions all → IsFirstTable symbols states → BelongTo g all states
+    → IsAcceptedWith symbols productions g → all ≡ dependencies_of productions → IsFirstTable symbols states
+    → BelongTo g all states
 with_of {g = g} {all} {states} w are first =
     let f : IsFirstTable g.symbols states = rw w.symbols_are first in
-    let of_g : AreDependencies g.productions all = rw w.productions_are are in
+    let of_g : all ≡ dependencies_of g.productions = rw w.productions_are are in
     record {
       accepted = w.accepted;
       dependencies = of_g;
       table = first_is_table g.symbols states f (λ s a is. attribute_within g s a w.accepted is);
       led = λ u h e.
-          let is = target_is w.accepted (parts g u ((of_g u).0 h)) in
+          let is = target_is w.accepted (parts g u (rw of_g at h)) in
           let within = attribute_within g u.strike.symbol u.strike.attr w.accepted is in
           f.at u.strike.symbol u.strike.attr within.0 within.1
           ∙ first_state_open (attribute_count (slice_get g.symbols u.strike.symbol)) u.strike.attr

@@ -1,11 +1,15 @@
 -- The slots of a table and the dependencies in a list, for a grammar's attributes and arguments.
 use Rattle.passassign.proofs.Common
-use Common.{ℕ, zero, suc, ◌≡◌, ◌<◌, ◌*◌, List, Option, Some, None, slice_get, length, map, refl, ap, ◌∙◌, sym, arith, lt-ltb}
+use Common.{ℕ, ◌≡◌, ◌<◌, ◌*◌, List, Option, Some, None, slice_get, length, map, refl, ap, ◌∙◌, arith, lt-ltb}
 use Common.{slice_get_within, length-map, length-append, Has, Item, Production, Rule, Symbol, Target, IsAccepted, Grammar}
-use Common.{Synthesized, Inherited, IsProduction, item_at, used_kind, defined_kind, symbol_kinds, symbol_names, places_of}
-use Common.{symbol_of, table_slot, IsDependency, AreDependencies, IsAttribute, IsOpen, BelongTo, target_of, slot_of, state_at}
-use Common.{state_of, pass_of_state, table_passes, Dependency, State, Absent, Open, Assigned}
+use Common.{Synthesized, Inherited, IsProduction, item_at, used_kind, defined_kind, symbol_kinds, symbol_names}
+use Common.{dependencies_of, dependencies_of_production, dependencies_of_rule, dependency_of, dependency_on, symbol_of}
+use Common.{IsAttribute, IsOpen, BelongTo, target_of, slot_of, state_at, state_of, pass_of_state, table_passes, Dependency, State}
+use Common.{Absent, Open, Assigned}
 use Common.item
+use Rattle.std.proofs.lemmas.Option.{option_and_then_some}
+use Rattle.closure.proofs.Positions.{element_at, position_of_element}
+use Rattle.passassign.proofs.slots.Lists.{found_from, found_has, joined_from, joined_has, numbered_at, numbered_has}
 
 -- a symbol has as many kinds as names
 pub kinds_names : (s : Option Symbol) → length (symbol_kinds s) ≡ length (symbol_names s)
@@ -59,18 +63,10 @@ open_state {g} {states = states} of s a i =
     let lt = (attribute_within g s a of.accepted i.0).0 in
     let now = is_open_state (state_of states s a) i.1 ((of.table.there s a).1 i.0) in (lt, cc (state_in states s a lt))
 
-pub places_item : (q : Production) (j : ℕ) → slice_get (places_of q) j ≡ item_at q j
-places_item q zero = refl
-places_item q (suc j) = refl
-
 pub symbol_is : (x : Option Item) (s : ℕ) → symbol_of x ≡ Some s → x ≡ Some (item.Symbol s)
 symbol_is None s e = cc
 symbol_is (Some (item.Symbol t)) s e = let f : t ≡ s = cc in cc
 symbol_is (Some (item.Terminal t)) s e = cc
-
-slot_symbol : (y : Option ℕ) (a k : ℕ) → table_slot y a ≡ Some k → (s : ℕ) × (y ≡ Some s) × (k ≡ slot_of s a)
-slot_symbol None a k e = cc
-slot_symbol (Some s) a k e = (s, refl, cc)
 
 -- The parts of a dependency in its grammar.
 pub record Parts (g : Grammar) (u : Dependency) : Type 0 where
@@ -88,24 +84,41 @@ pub record Parts (g : Grammar) (u : Dependency) : Type 0 where
   pub is_symbol : item_at production argument.place ≡ Some (item.Symbol of)
   pub at : u.argument ≡ slot_of of argument.attr
 
-pub parts : (g : Grammar) (u : Dependency) → IsDependency g.productions u → Parts g u
-parts g u (p, q, is_q, (r, rule, is_rule, (s, is_s, (i, o, is_o, (k, is_k, e))))) =
-    let w = slot_symbol (symbol_of (slice_get (places_of q) o.place)) o.attr k is_k in
-    rw e (record {
-      production = q;
-      rule = rule;
-      argument = o;
-      of = w.0;
-      is_production = is_q;
-      is_rule = is_rule;
-      is_argument = is_o;
-      symbol = sym (places_item q rule.target.place) ∙ symbol_is (slice_get (places_of q) rule.target.place) s is_s;
+pub parts : (g : Grammar) (u : Dependency) → Has (dependencies_of g.productions) u → Parts g u
+parts g u (n, at) =
+    let (x, in_all, of_q) = joined_from dependencies_of_production _ u (element_at _ n u at) in
+    let (y, in_q, of_rule) = joined_from (dependencies_of_rule x.0 x.1) _ u of_q in
+    let (z, in_rule, is) = found_from (dependency_on x.0 x.1 y) _ u of_rule in
+    option_and_then_some _ (symbol_of (item_at x.1 y.1.target.place)) u is (λ s is_s of_s.
+    option_and_then_some _ (symbol_of (item_at x.1 z.1.place)) u of_s (λ t is_t of_t.
+    let same : dependency_of x.0 y z s t ≡ u = cc in
+    rw (← same) (record {
+      production = x.1;
+      rule = y.1;
+      argument = z.1;
+      of = t;
+      is_production = numbered_at g.productions x in_all;
+      is_rule = numbered_at x.1.rules y in_q;
+      is_argument = numbered_at y.1.args z in_rule;
+      symbol = symbol_is (item_at x.1 y.1.target.place) s is_s;
       attr = refl;
       place = refl;
       from = refl;
-      is_symbol = sym (places_item q o.place) ∙ symbol_is (slice_get (places_of q) o.place) w.0 w.1;
-      at = w.2;
-    })
+      is_symbol = symbol_is (item_at x.1 z.1.place) t is_t;
+      at = refl;
+    })))
+
+-- the dependency of a rule's target, an attribute of symbol s, on an argument of the rule, an attribute of symbol t
+pub has_dependency : (g : Grammar) (x : ℕ × Production) (y : ℕ × Rule) (z : ℕ × Target) (s t : ℕ)
+    → IsProduction g x.0 x.1 → slice_get x.1.rules y.0 ≡ Some y.1 → slice_get y.1.args z.0 ≡ Some z.1
+    → item_at x.1 y.1.target.place ≡ Some (item.Symbol s) → item_at x.1 z.1.place ≡ Some (item.Symbol t)
+    → Has (dependencies_of g.productions) (dependency_of x.0 y z s t)
+has_dependency g x y z s t is_q is_rule is_argument target argument =
+    let u = dependency_of x.0 y z s t in
+    position_of_element _ u
+    (joined_has dependencies_of_production _ u x (numbered_has g.productions x is_q)
+    (joined_has (dependencies_of_rule x.0 x.1) _ u y (numbered_has x.1.rules y is_rule)
+    (found_has (dependency_on x.0 x.1 y) _ u z (numbered_has y.1.args z is_argument) (rw (target, argument) refl))))
 
 module _ {g : Grammar} {u : Dependency} (accepted : IsAccepted g) (p : Parts g u) where
   -- the target of a dependency is an attribute, and so is its argument
@@ -135,6 +148,6 @@ module _ {g : Grammar} {u : Dependency} (accepted : IsAccepted g) (p : Parts g u
       let at = p.at in
       (omega arith, omega arith)
 
-pub all_in_table : (g : Grammar) (all : List Dependency) → IsAccepted g → AreDependencies g.productions all → (count : ℕ)
+pub all_in_table : (g : Grammar) (all : List Dependency) → IsAccepted g → all ≡ dependencies_of g.productions → (count : ℕ)
     → count ≡ length g.symbols * 16 → (u : Dependency) → Has all u → (u.argument < count) × (target_of u < count)
-all_in_table g all accepted are count e u h = in_table accepted (parts g u ((are u).0 h)) count e
+all_in_table g all accepted are count e u h = in_table accepted (parts g u (rw are at h)) count e

@@ -1,10 +1,10 @@
 -- The strikes that `search` returns are good. Each is that of a dependency, which is the reason of an addition of `closure`.
 use Rattle.passassign.proofs.Common
 use Common.{ℕ, zero, suc, ◌≡◌, ◌<◌, ◌≤◌, ◌+◌, ◌⊎◌, ◌↔◌, Bool, true, List, [], ◌∷◌, ◌++◌, Some, All, map, take, slice_get, length}
-use Common.{get_or, inl, inr, refl, ◌∙◌, arith, cases_eq, take_all, slice_get-get_or, slice_get_within, get_or_from_slice_get}
-use Common.{Has, Grammar, item_at, Direction, Addition, IsStruckBy, IsGood, AreGood, dependency_of, head_of, IsOpen, target_of}
-use Common.{edge_of, IsBarred, IsStrikeOf, IsStruckAt, BelongTo, IsSearch, slot_of, state_at, is_marked, table_passes, Dependency}
-use Common.{Strike, State, Open}
+use Common.{get_or, inl, inr, subst, ◌∙◌, arith, cases_eq, take_all, slice_get-get_or, slice_get_within}
+use Common.{get_or_from_slice_get, Has, Grammar, item_at, Direction, Addition, IsStruckBy, IsGood, AreGood, dependency_of}
+use Common.{IsOpen, target_of, edge_of, IsBarred, IsStrikeOf, IsStruckAt, BelongTo, IsSearch, slot_of, state_at, is_marked}
+use Common.{table_passes, Dependency, Strike, State, Open}
 use Common.item
 use Rattle.std.proofs.Math.Seq.{take-suc}
 use Rattle.std.proofs.lemmas.List.Elements.{All-head, All-map}
@@ -22,7 +22,7 @@ use Rattle.passassign.proofs.slots.Lists.{get_push_end, get_push_front}
 use Rattle.passassign.proofs.strikes.Following.{strikes_open, has_strikes, struck_at, at_struck, good_by}
 use Rattle.passassign.proofs.strikes.Growing.{strikes_grow}
 use Rattle.passassign.proofs.strikes.Reasons.{one_is}
-use Rattle.passassign.proofs.slots.Linked.{parts, attribute_within, open_there, open_state, places_item, target_is}
+use Rattle.passassign.proofs.slots.Linked.{parts, has_dependency, attribute_within, open_there, open_state, target_is}
 
 -- a strike and an addition for places past the end of a list
 abbrev no_strike : Strike
@@ -146,7 +146,7 @@ module _ (all barred : List Dependency) (d : Direction) (states : List State) (b
           let s = t.u.strike.symbol in
           let a = t.u.strike.attr in
           let same : t.u.strike ≡ y = cc in
-          let p = parts g t.u ((of.dependencies t.u).0 t.among) in
+          let p = parts g t.u (subst (λ ys. Has ys t.u) of.dependencies t.among) in
           let is = attribute_within g s a of.accepted (target_is of.accepted p) in
           let argument : state_at states t.u.argument ≡ Open =
           elim t.why [
@@ -202,29 +202,12 @@ module _ (all barred : List Dependency) (d : Direction) (states : List State) (b
       module _ (g : Grammar) (of : BelongTo g all states) (x : Strike) (is : IsOpen g (table_passes states) x.symbol x.attr)
           (good : IsGood g d (IsOpen g (table_passes states)) xs x) where
         abbrev one : ℕ → Dependency
-        one s =
-            dependency_of (head_of x.production x.rule good.rule x.symbol) good.rule.target.place x.arg
-            (slot_of s good.argument.attr) good.argument.place
+        one t = dependency_of x.production (x.rule, good.rule) (x.arg, good.argument) x.symbol t
 
-        among : (s : ℕ) → item_at good.production good.argument.place ≡ Some (item.Symbol s) → Has all (one s)
-        among s e =
-            let target = places_item good.production good.rule.target.place in
-            let from = places_item good.production good.argument.place in
-            (of.dependencies (one s)).1 (
-              x.production,
-              good.production,
-              good.is_production,
-              (
-                x.rule,
-                good.rule,
-                good.is_rule,
-                (
-                  x.symbol,
-                  rw (target, good.symbol),
-                  (x.arg, good.argument, good.is_argument, (slot_of s good.argument.attr, rw (from, e), refl)),
-                ),
-              ),
-            )
+        among : (t : ℕ) → item_at good.production good.argument.place ≡ Some (item.Symbol t) → Has all (one t)
+        among t e = rw of.dependencies
+            (has_dependency g (x.production, good.production) (x.rule, good.rule) (x.arg, good.argument) x.symbol t
+            good.is_production good.is_rule good.is_argument good.symbol e)
 
         finished_at : IsStruckBy xs x.symbol x.attr
         finished_at =
