@@ -8,7 +8,7 @@ ghost use Rattle.passassign.specs.Dependencies.{dependencies_of_production, depe
 ghost use Rattle.passassign.specs.Dependencies.{AreAccepted, IsAcceptedProduction};
 
 use crate::stuck::Strike;
-use crate::table::slot;
+use crate::table::AttributeIndex;
 use ag_grammar::{Item, Production, Rule, Target, occurrences};
 use ag_value::NoMemory;
 use std::alloc::Global;
@@ -16,14 +16,14 @@ use std::alloc::Global;
 /// A dependency of a rule's target on an argument of the rule (Knuth 1968). Both are attributes of
 /// symbols. An argument that is the text of a token is known before all passes, so the target does
 /// not depend on it.
-#[derive(Clone, Copy, PartialEq, Eq)]
+#[derive(Clone, Copy)]
 pub(crate) struct Dependency {
     /// The strike of the target by this argument.
     pub strike: Strike,
     /// The target's place.
     pub place: u16,
-    /// The argument's slot: its index in a table of all attributes (`slot` of `table.rt`).
-    pub argument: usize,
+    /// The argument.
+    pub argument: AttributeIndex,
     /// The argument's place.
     pub from: u16,
 }
@@ -70,7 +70,7 @@ impl<'a> NumberedRule<'a> {
                 arg: index,
             },
             place: target.place,
-            argument: slot(of, argument.attr),
+            argument: AttributeIndex::new(of, argument.attr),
             from: argument.place,
         })
     }
@@ -112,7 +112,7 @@ fn append_production(
     number: u16,
     production: &Production,
 ) -> Result<(), NoMemory>
-    requires accepted { IsAcceptedProduction production.now }
+    requires { IsAcceptedProduction production.now }
     ensures { OnOk result (found.new.items
         ≡ found.old.items ++ dependencies_of_production (number, production.now)) }
 {
@@ -135,7 +135,7 @@ pub(crate) fn all_dependencies(
     alloc: Global,
     productions: &[Production],
 ) -> Result<Vec<Dependency>, NoMemory>
-    requires accepted { AreAccepted productions.now }
+    requires { AreAccepted productions.now }
     ensures { IfOk result (λ all. all.items ≡ dependencies_of productions.now) }
 {
     let mut found = Vec::new(alloc);

@@ -13,7 +13,7 @@ ghost use Rattle.passassign.specs.declared.dependency.Dependency.{Dependency as 
 
 use crate::dependency::{Dependency, all_dependencies};
 use crate::stuck::Strike;
-use crate::table::{State, has_no_pass, look_up, slot};
+use crate::table::{AttributeIndex, State, has_no_pass, look_up};
 use ag_grammar::{Direction, Production};
 use ag_value::NoMemory;
 use closure::{Addition, Clauses, Edge, Reason};
@@ -29,11 +29,11 @@ pub(crate) struct Dependencies {
     pub edges: Clauses,
 }
 
-/// Returns the slot of a dependency's target.
-fn target_slot(one: Dependency) -> usize
+/// Returns the index of a dependency's target.
+fn target_of(one: Dependency) -> AttributeIndex
     ensures { result ≡ target_of one }
 {
-    slot(one.strike.symbol, one.strike.attr)
+    AttributeIndex::new(one.strike.symbol, one.strike.attr)
 }
 
 /// Returns the dependencies as edges from the argument's slot to the target's.
@@ -43,8 +43,8 @@ fn edges(alloc: Global, all: &[Dependency]) -> Result<Vec<Edge>, NoMemory>
     let mut edges = Vec::new(alloc);
     for one in all {
         edges.push(Edge {
-            from: one.argument,
-            to: target_slot(*one),
+            from: one.argument.as_usize(),
+            to: target_of(*one).as_usize(),
         })?;
     }
     Ok(edges)
@@ -124,7 +124,7 @@ fn target_slots(alloc: Global, dependencies: &[Dependency]) -> Result<Vec<usize>
 {
     let mut targets = Vec::new(alloc);
     for one in dependencies {
-        targets.push(target_slot(*one))?;
+        targets.push(target_of(*one).as_usize())?;
     }
     Ok(targets)
 }

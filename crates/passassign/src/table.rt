@@ -17,6 +17,7 @@ use ag_grammar::Symbol;
 use ag_grammar::limits::MAX_ATTRIBUTES;
 use ag_value::NoMemory;
 use std::alloc::Global;
+use std::marker::Model;
 
 /// The state of a slot of the table.
 #[derive(Clone, Copy, PartialEq, Eq)]
@@ -29,21 +30,63 @@ pub(crate) enum State {
     Assigned(u16),
 }
 
-/// Returns the slot of an attribute: the index of its state in the table.
-pub(crate) fn slot(symbol: u16, attr: u16) -> usize
-    ensures { result ≡ slot_of symbol attr }
-{
-    symbol as usize * MAX_ATTRIBUTES + attr as usize
+/// The slot of an attribute: the index of its state in the table. Contracts see it as a number.
+#[derive(Clone, Copy)]
+pub(crate) struct AttributeIndex {
+    slot: usize,
 }
 
-/// Returns the state of a slot, `Absent` if the table has no such slot.
-pub(crate) fn look_up(states: &[State], slot: usize) -> State
-    ensures { result ≡ state_at states.now slot }
+impl Model for AttributeIndex {
+    ghost Value = { ℕ };
+
+    ghost view = { λ index. index.slot };
+
+    ghost inverse = { λ slot. record { slot = slot } };
+}
+
+impl AttributeIndex {
+    /// Returns the index of attribute `attr` of a symbol. If `attr` is below `MAX_ATTRIBUTES`, the
+    /// methods `symbol` and `attr` of this index return the same two numbers.
+    pub(crate) fn new(symbol: u16, attr: u16) -> AttributeIndex
+        ensures slot { result ≡ slot_of symbol attr }
+        ensures inverse { attr < max_attributes
+            → (result / max_attributes ≡ symbol) × (result % max_attributes ≡ attr) }
+    {
+        AttributeIndex {
+            slot: symbol as usize * MAX_ATTRIBUTES + attr as usize,
+        }
+    }
+
+    /// Returns the number of the attribute's symbol.
+    fn symbol(self) -> u16
+        requires { self < 2 ^ 16 * max_attributes }
+        ensures { result ≡ self / max_attributes }
+    {
+        (self.slot / MAX_ATTRIBUTES) as u16
+    }
+
+    /// Returns the number of the attribute in its symbol.
+    fn attr(self) -> u16
+        ensures { result ≡ self % max_attributes }
+    {
+        (self.slot % MAX_ATTRIBUTES) as u16
+    }
+
+    /// Returns the slot as an index of a list.
+    pub(crate) fn as_usize(self) -> usize
+        ensures { result ≡ self }
+    {
+        self.slot
+    }
+}
+
+/// Returns the state of an attribute, `Absent` if the table has no such slot.
+pub(crate) fn look_up(states: &[State], index: AttributeIndex) -> State
+    ensures { result ≡ state_at states.now index }
 {
-    if slot < states.len() {
-        states[slot]
-    } else {
-        State::Absent
+    match states.get(index.slot) {
+        Some(state) => *state,
+        None => State::Absent,
     }
 }
 
@@ -96,29 +139,28 @@ pub(crate) fn open_table(alloc: Global, symbols: &[Symbol]) -> Result<Vec<State>
     Ok(states)
 }
 
-/// Returns the pass in a slot, 0 if there is none.
-fn pass_at(states: &[State], slot: usize) -> u16
-    ensures { result ≡ unwrap_or (pass_of_state (state_at states.now slot)) 0 }
+/// Returns the pass of an attribute, 0 if it has none.
+fn pass_at(states: &[State], index: AttributeIndex) -> u16
+    ensures { result ≡ unwrap_or (pass_of_state (state_at states.now index)) 0 }
 {
-    match look_up(states, slot) {
+    match look_up(states, index) {
         State::Assigned(pass) => pass,
         State::Open => 0,
         State::Absent => 0,
     }
 }
 
-/// Returns the passes in `count` slots of a table from slot `from` on, 0 for a slot that has none.
-/// The limit of `from` excludes an overflow of the index.
-fn row(alloc: Global, states: &[State], from: usize, count: usize) -> Result<Vec<u16>, NoMemory>
-    requires from { from < 2 ^ 32 }
-    requires count { count ≤ max_attributes }
+/// Returns the passes of the first `count` attributes of a symbol, 0 for an attribute that has
+/// none.
+fn row(alloc: Global, states: &[State], symbol: u16, count: usize) -> Result<Vec<u16>, NoMemory>
+    requires { count ≤ max_attributes }
     ensures len { IfOk result (λ row. length row.items ≡ count) }
-    ensures passes { IfOk result (λ row. (a : ℕ) → a < count
-        → slice_get row.items a ≡ Some (unwrap_or (pass_of_state (state_at states.now (from + a))) 0)) }
+    ensures passes { IfOk result (λ row. (a : ℕ) → a < count → slice_get row.items a
+        ≡ Some (unwrap_or (pass_of_state (state_at states.now (slot_of symbol a))) 0)) }
 {
     let mut row = Vec::new(alloc);
     for attr in 0..count {
-        row.push(pass_at(states, from + attr))?;
+        row.push(pass_at(states, AttributeIndex::new(symbol, attr as u16)))?;
     }
     Ok(row)
 }
@@ -136,30 +178,26 @@ pub(crate) fn rows(
 {
     let mut rows = Vec::new(alloc);
     for (index, symbol) in symbols.iter().enumerate() {
-        rows.push(row(
-            alloc,
-            states,
-            index * MAX_ATTRIBUTES,
-            symbol.attribute_count(),
-        )?)?;
+        rows.push(row(alloc, states, index as u16, symbol.attribute_count())?)?;
     }
     Ok(rows)
 }
 
-/// Appends the attribute of a slot if `state`, the state of the slot, is `Open`. The attribute is
-/// appended as the number of its symbol and its own number in the symbol.
-fn append_open(found: &mut Vec<(u16, u16)>, state: State, slot: usize) -> Result<(), NoMemory>
-    requires { slot < 2 ^ 16 * max_attributes }
+/// Appends an attribute if `state`, its state, is `Open`. The attribute is appended as the number
+/// of its symbol and its own number in the symbol.
+fn append_open(
+    found: &mut Vec<(u16, u16)>,
+    state: State,
+    index: AttributeIndex,
+) -> Result<(), NoMemory>
+    requires { index < 2 ^ 16 * max_attributes }
     ensures puts { OnOk result (is_open state ≡ true
         → found.new.items
-        ≡ found.old.items ++ (slot / max_attributes, slot % max_attributes) ∷ []) }
+        ≡ found.old.items ++ (index / max_attributes, index % max_attributes) ∷ []) }
     ensures other { OnOk result (is_open state ≡ false → found.new.items ≡ found.old.items) }
 {
     if has_no_pass(state) {
-        found.push((
-            (slot / MAX_ATTRIBUTES) as u16,
-            (slot % MAX_ATTRIBUTES) as u16,
-        ))?;
+        found.push((index.symbol(), index.attr()))?;
     }
     Ok(())
 }
@@ -173,8 +211,8 @@ pub(crate) fn open_attributes(alloc: Global, states: &[State]) -> Result<Vec<(u1
     ensures ordered { IfOk result (λ found. IsInDeclaredOrder found.items) }
 {
     let mut found = Vec::new(alloc);
-    for (index, state) in states.iter().enumerate() {
-        append_open(&mut found, *state, index)?;
+    for (slot, state) in states.iter().enumerate() {
+        append_open(&mut found, *state, AttributeIndex { slot })?;
     }
     Ok(found)
 }
@@ -195,11 +233,11 @@ fn after(state: State, pass: u16, is_struck: bool) -> State
     }
 }
 
-/// Returns whether a slot is marked; false if `marks` ends before it.
-pub(crate) fn has_mark(marks: &[bool], slot: usize) -> bool
-    ensures { result ≡ is_marked marks.now slot }
+/// Returns whether an attribute is marked; false if `marks` ends before its slot.
+fn has_mark(marks: &[bool], index: AttributeIndex) -> bool
+    ensures { result ≡ is_marked marks.now index }
 {
-    slot < marks.len() && marks[slot]
+    index.slot < marks.len() && marks[index.slot]
 }
 
 /// Assigns pass `pass` to each attribute that has none and is not marked.
@@ -209,7 +247,7 @@ pub(crate) fn assign_passes(states: &mut Vec<State>, marks: &[bool], pass: u16)
         ≡ after_pass pass (state_at states.old.items k) (is_marked marks.now k) }
 {
     for slot in 0..states.len() {
-        let state = after(states[slot], pass, has_mark(marks, slot));
+        let state = after(states[slot], pass, has_mark(marks, AttributeIndex { slot }));
         states[slot] = state;
     }
 }

@@ -4,7 +4,7 @@ use Rattle.passassign.proofs.dependency.append_production.Goals as goal
 
 pub overflow_cast-rule : goal.overflow_cast-rule
 overflow_cast-rule c =
-    let (g, p, accepted, is) = c.requires.accepted in
+    let (g, p, accepted, is) = c.requires in
     record { fits = omega (arith, few_rules g accepted p c.args.production.now is, ap length c.as_slice-rules.ensures) }
 
 pub append_dependencies-requires-clause-rule : goal.append_dependencies-requires-clause-rule

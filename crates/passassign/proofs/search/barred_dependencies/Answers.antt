@@ -6,10 +6,10 @@ use Rattle.passassign.proofs.search.barred_dependencies.Goals.{then-is_barred+in
 pub loop-one-preserved : goal.loop-one-preserved
 loop-one-preserved c = elim c.if-is_barred.branch [
   | then-is_barred+in_ok-push w ↦ rw w.barred-is
-      (with_next _ _ _ _ _ c.loop-one-test.true c.loop-one.invariant _ w.in_ok-push.ensures.items
+      (with_next _ _ _ _ _ c.loop-one-test.true c.one-item.is c.loop-one.invariant _ w.in_ok-push.ensures.items
       (c.is_barred.ensures.0 w.if-is_barred.true))
   | else-is_barred w ↦ rw w.barred-is
-      (without_next _ _ _ _ _ c.loop-one-test.true c.loop-one.invariant
+      (without_next _ _ _ _ _ c.loop-one-test.true c.one-item.is c.loop-one.invariant
       (λ bars. let is = c.is_barred.ensures.1 bars in cc (w.if-is_barred.false)))
 ]
 

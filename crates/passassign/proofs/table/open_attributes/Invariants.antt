@@ -1,5 +1,5 @@
 use Rattle.passassign.proofs.slots.OpenOnes.{AreOpenOnes}
 use Rattle.passassign.proofs.table.open_attributes.Given as goal
 
-abbrev pub invariant-loop-index : goal.invariant-loop-index
-invariant-loop-index l = AreOpenOnes l.states l.index l.found.items
+abbrev pub invariant-loop-slot : goal.invariant-loop-slot
+invariant-loop-slot l = AreOpenOnes l.states l.slot l.found.items
