@@ -5,7 +5,5 @@ mod comparing;
 mod copying;
 mod joining;
 mod rope;
-#[cfg(test)]
-mod tests;
 
 pub use rope::Rope;

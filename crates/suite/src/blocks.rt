@@ -4,6 +4,7 @@
 
 ghost use Rattle.std.specs.Prelude.{[], false};
 
+use crate::checking::check_equal;
 use backreader::Back;
 use std::alloc::{AllocError, Global};
 use std::test::Fail;
@@ -205,9 +206,11 @@ fn names_of_many_letters(rt: HostRuntime) -> Result<(), Fail> {
         let bytes = file_of_name(alloc, letters)?;
         write_bodies_of_file(alloc, FileVersion::Two, bytes, &mut lines)?;
     }
-    assert_eq!(rt;
+    check_equal(
+        &rt,
+        "lengths of bodies",
         lines.as_str(),
-        "3 12 Ok(None)\n3 4092 Ok(None)\n3 4093 Ok(None)\n3 65543 Ok(None)\n"
+        "3 12 Ok(None)\n3 4092 Ok(None)\n3 4093 Ok(None)\n3 65543 Ok(None)\n",
     );
     Ok(())
 }
@@ -222,11 +225,13 @@ fn frames_at_the_start_of_the_buffer(rt: HostRuntime) -> Result<(), Fail> {
         let bytes = file_of_lengths(alloc, FileVersion::Two, &[10, length, 1996])?;
         write_bodies_of_file(alloc, FileVersion::Two, bytes, &mut lines)?;
     }
-    assert_eq!(rt;
+    check_equal(
+        &rt,
+        "lengths of bodies",
         lines.as_str(),
         "1996 2087 10 Ok(None)\n1996 2088 10 Ok(None)\n1996 2091 10 Ok(None)\n\
          1996 2092 10 Ok(None)\n1996 2093 10 Ok(None)\n1996 2096 10 Ok(None)\n\
-         1996 2097 10 Ok(None)\n"
+         1996 2097 10 Ok(None)\n",
     );
     Ok(())
 }
@@ -247,10 +252,12 @@ fn bodies_of_many_lengths(rt: HostRuntime) -> Result<(), Fail> {
         let bytes = file_of_lengths(alloc, FileVersion::Two, lengths)?;
         write_bodies_of_file(alloc, FileVersion::Two, bytes, &mut lines)?;
     }
-    assert_eq!(rt;
+    check_equal(
+        &rt,
+        "lengths of bodies",
         lines.as_str(),
         "4092 4092 3 Ok(None)\n3 4092 4091 Ok(None)\n4093 4092 4093 Ok(None)\n\
-         12000 8000 65543 Ok(None)\n16777220 3 Ok(None)\n"
+         12000 8000 65543 Ok(None)\n16777220 3 Ok(None)\n",
     );
     Ok(())
 }
@@ -265,9 +272,11 @@ fn files_of_version_1(rt: HostRuntime) -> Result<(), Fail> {
         let bytes = file_of_lengths(alloc, FileVersion::One, lengths)?;
         write_bodies_of_file(alloc, FileVersion::One, bytes, &mut lines)?;
     }
-    assert_eq!(rt;
+    check_equal(
+        &rt,
+        "lengths of bodies",
         lines.as_str(),
-        "16777219 4093 4092 3 Ok(None)\nErr(Damaged(16777237))\n"
+        "16777219 4093 4092 3 Ok(None)\nErr(Damaged(16777237))\n",
     );
     // a reader of version 2 on a file of version 1, and vice versa
     let mut old = device_of(file_of_lengths(alloc, FileVersion::One, &[3])?);
@@ -292,10 +301,12 @@ fn one_read_for_a_block(rt: HostRuntime) -> Result<(), Fail> {
     }
     let odd = file_of_frames(alloc, b"AGT2\0\0\x07", 2000)?;
     write_frames(alloc, odd, &mut lines)?;
-    assert_eq!(rt;
+    check_equal(
+        &rt,
+        "records and reads",
         lines.as_str(),
         "0 Ok(None) 1\n1 Ok(None) 2\n584 Ok(None) 2\n585 Ok(None) 2\n586 Ok(None) 3\n\
-         1170 Ok(None) 3\n1171 Ok(None) 4\n65536 Ok(None) 114\n2000 Err(Damaged(7)) 5\n"
+         1170 Ok(None) 3\n1171 Ok(None) 4\n65536 Ok(None) 114\n2000 Err(Damaged(7)) 5\n",
     );
     Ok(())
 }

@@ -1,5 +1,6 @@
 //! Tests of cursors: over the tokens of a text, and at a character that begins no token.
 
+use crate::checking::check_equal;
 use ag_expr::{Cursor, GrammarToken, Punctuation, unescaped};
 use std::test::Fail;
 
@@ -15,15 +16,20 @@ fn tokens_one_by_one(rt: HostRuntime) -> Result<(), Fail> {
         (GrammarToken::Text("b\\n"), 9),
         (GrammarToken::Punctuation(Punctuation::Semicolon), 15),
     ] {
-        assert_eq!(rt; cursor.peek(), Some(token));
-        assert_eq!(rt; cursor.offset(), at);
+        check_equal(&rt, "token", cursor.peek(), Some(token));
+        check_equal(&rt, "offset", cursor.offset(), at);
         assert!(rt; !cursor.is_at_end());
         cursor.bump();
     }
-    assert_eq!(rt; cursor.peek(), None);
-    assert_eq!(rt; cursor.offset(), 16);
+    check_equal(&rt, "token at the end", cursor.peek(), None);
+    check_equal(&rt, "offset of the end", cursor.offset(), 16);
     assert!(rt; cursor.is_at_end());
-    assert_eq!(rt; unescaped(rt.alloc(), "b\\n")?.as_str(), "b\n");
+    check_equal(
+        &rt,
+        "unescaped text",
+        unescaped(rt.alloc(), "b\\n")?.as_str(),
+        "b\n",
+    );
     Ok(())
 }
 
@@ -33,8 +39,8 @@ fn bump_where_no_token_begins(rt: HostRuntime) -> Result<(), Fail> {
     let mut cursor = Cursor::new("a @ b");
     cursor.bump();
     cursor.bump();
-    assert_eq!(rt; cursor.peek(), None);
-    assert_eq!(rt; cursor.offset(), 2);
+    check_equal(&rt, "token", cursor.peek(), None);
+    check_equal(&rt, "offset", cursor.offset(), 2);
     assert!(rt; !cursor.is_at_end());
     Ok(())
 }

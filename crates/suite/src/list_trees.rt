@@ -1,6 +1,7 @@
 //! Tests of list trees: that each call succeeds, and that the trees are balanced, which no clause
 //! states. The other assertions repeat clauses.
 
+use crate::checking::check_equal;
 use ag_value::{NoMemory, Value, ValueFault, decode};
 use list_tree::ListTree;
 use std::alloc::Global;
@@ -62,11 +63,21 @@ fn rebuilt(alloc: Global, list: &ListTree) -> Result<ListTree, NoMemory> {
 fn a_list_has_what_was_appended(rt: HostRuntime) -> Result<(), ValueFault> {
     let alloc = rt.alloc();
     let list = numbers(alloc, 300)?;
-    assert_eq!(rt; (list.len(), list.weight()), (300, 2705));
+    check_equal(
+        &rt,
+        "length and weight",
+        (list.len(), list.weight()),
+        (300, 2705),
+    );
     assert!(rt; matches!(list.get(0), Some(Value::Num(0))));
     assert!(rt; matches!(list.get(299), Some(Value::Num(299))));
     assert!(rt; list.get(300).is_none());
-    assert_eq!(rt; list.to_list(alloc)?.as_slice().len(), 300);
+    check_equal(
+        &rt,
+        "length of the flat list",
+        list.to_list(alloc)?.as_slice().len(),
+        300,
+    );
     Ok(())
 }
 
@@ -86,7 +97,7 @@ fn an_encoding_is_that_of_the_flat_list(rt: HostRuntime) -> Result<(), ValueFaul
     }
     let mut part = [9; 3];
     list.copy_part(3, &mut part);
-    assert_eq!(rt; part, [0, 2, 0]);
+    check_equal(&rt, "part of the encoding", part, [0, 2, 0]);
     Ok(())
 }
 
@@ -111,7 +122,7 @@ fn other_versions_stay(rt: HostRuntime) -> Result<(), ValueFault> {
     let alloc = rt.alloc();
     let old = numbers(alloc, 20)?;
     let new = joined(alloc, &old, &single(alloc, 20)?)?;
-    assert_eq!(rt; (old.len(), new.len()), (20, 21));
+    check_equal(&rt, "lengths", (old.len(), new.len()), (20, 21));
     compare_versions(&rt, alloc, &old, &new)
 }
 
@@ -138,14 +149,19 @@ fn trees_are_balanced(rt: HostRuntime) -> Result<(), ValueFault> {
     // these are lower
     assert!(rt; at_end.height() <= 17 && at_beginning.height() <= 17);
     // a new tree has the least height
-    assert_eq!(rt; rebuilt(alloc, &at_end)?.height(), 13);
+    check_equal(
+        &rt,
+        "height of a new tree",
+        rebuilt(alloc, &at_end)?.height(),
+        13,
+    );
     let short = numbers(alloc, 3)?;
     let mixed = joined(
         alloc,
         &joined(alloc, &short, &at_end)?,
         &joined(alloc, &at_beginning, &short)?,
     )?;
-    assert_eq!(rt; mixed.len(), 8198);
+    check_equal(&rt, "length of the joined list", mixed.len(), 8198);
     assert!(rt; mixed.height() <= 18);
     Ok(())
 }

@@ -5,6 +5,7 @@ ghost use Rattle.treefile.specs.framing.Backward.{ReadsBack};
 ghost use Rattle.treefile.specs.devices.Device.{WhenHonest};
 ghost use Rattle.treefile.specs.records.TreeFile.{version_two};
 
+use crate::checking::check_equal;
 use backreader::Back;
 use std::alloc::{AllocError, Global};
 use std::process::Abort;
@@ -101,10 +102,15 @@ fn reads_all<D: Device>(rt: &impl Abort, alloc: Global, device: &mut D) -> Resul
     let Some((fault, again, records)) = refusal_of(alloc, device)? else {
         return Ok(true);
     };
-    assert_eq!(rt; fault, FrameFault::Device);
+    check_equal(rt, "fault", fault, FrameFault::Device);
     assert!(rt; again.is_none() || again == Some(fault));
     assert!(rt; records < 3);
-    assert_eq!(rt; bodies_back(alloc, device)?.len(), 3);
+    check_equal(
+        rt,
+        "number of bodies of a new reader",
+        bodies_back(alloc, device)?.len(),
+        3,
+    );
     Ok(false)
 }
 
@@ -129,8 +135,13 @@ fn a_device_that_lies(rt: HostRuntime) -> Result<(), Fail> {
     let mut device = LyingDevice {};
     let mut back = Back::start(rt.alloc(), &mut device)?;
     for _turn in 0..2 {
-        assert_eq!(rt; back.back(&mut device), Err(FrameFault::Damaged(1 << 63)));
+        check_equal(
+            &rt,
+            "fault",
+            back.back(&mut device),
+            Err(FrameFault::Damaged(1 << 63)),
+        );
     }
-    assert_eq!(rt; back.records(), 0);
+    check_equal(&rt, "number of records", back.records(), 0);
     Ok(())
 }

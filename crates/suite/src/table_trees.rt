@@ -1,6 +1,7 @@
 //! Tests of table trees: that each call succeeds, and that the trees are balanced, which no clause
 //! states. The other assertions repeat clauses.
 
+use crate::checking::check_equal;
 use ag_value::{NoMemory, Value};
 use std::alloc::Global;
 use table_tree::{PutFault, TableTree};
@@ -37,16 +38,26 @@ fn rebuilt(alloc: Global, table: &TableTree) -> Result<TableTree, NoMemory> {
 fn a_table_has_what_was_put(rt: HostRuntime) -> Result<(), PutFault> {
     let alloc = rt.alloc();
     let table = table_of(alloc, &[5, 1, 3, 5])?;
-    assert_eq!(rt; (table.len(), table.weight(), table.depth()), (3, 56, 1));
+    check_equal(
+        &rt,
+        "length, weight and depth",
+        (table.len(), table.weight(), table.depth()),
+        (3, 56, 1),
+    );
     assert!(rt; table.has("0003") && !table.has("0004"));
     assert!(rt; matches!(table.get("0005"), Some(Value::Num(7))));
     assert!(rt; table.get("0002").is_none());
     let Some(first) = table.entry_at(0) else {
         return Err(PutFault::TooDeep);
     };
-    assert_eq!(rt; first.key(), "0001");
+    check_equal(&rt, "first key", first.key(), "0001");
     assert!(rt; table.entry_at(3).is_none());
-    assert_eq!(rt; table.keys(alloc)?.as_slice().len(), 3);
+    check_equal(
+        &rt,
+        "number of keys",
+        table.keys(alloc)?.as_slice().len(),
+        3,
+    );
     Ok(())
 }
 
@@ -91,7 +102,12 @@ fn trees_are_balanced(rt: HostRuntime) -> Result<(), PutFault> {
     for (first, step) in [(0, 1), (4096, 65_535), (0, 31_161)] {
         let table = stepped(rt.alloc(), first, step)?;
         assert!(rt; table.height() <= 17);
-        assert_eq!(rt; rebuilt(rt.alloc(), &table)?.height(), 13);
+        check_equal(
+            &rt,
+            "height of a new tree",
+            rebuilt(rt.alloc(), &table)?.height(),
+            13,
+        );
     }
     Ok(())
 }
