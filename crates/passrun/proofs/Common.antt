@@ -69,20 +69,20 @@ pub use Rattle.passcode.specs.declared.phase.Phase.{Phase}
 pub use Rattle.passcode.specs.declared.phase.Phase.TheVariants.{Between, Ended, Gone, Got}
 pub use Rattle.passrun.specs.Damage.{AreRecords, ArrivesAt, ExceedsDepth, ExceedsNodes, IsDamaged, IsReadable, source}
 pub use Rattle.passrun.specs.Laws.{CountsPass}
-pub use Rattle.passrun.specs.Passed.{IsPassed, IsRunning}
+pub use Rattle.passrun.specs.Passed.{IsPassed}
 pub use Rattle.passrun.specs.declared.last.Last.{Last}
 pub use Rattle.passrun.specs.declared.last.Last.TheVariants.{A, B}
 pub use Rattle.passrun.specs.declared.passing.ends.Passed.{Passed}
 pub use Rattle.passrun.specs.declared.passing.machine.Machine.{Machine}
 pub use Rattle.passrun.specs.passing.Ahead.{IsRunFault, children_of, following, goes_next, pending, pending_of_child}
 pub use Rattle.passrun.specs.passing.Change.{node_table, with_row}
-pub use Rattle.passrun.specs.passing.Ends.{RunsBetween}
 pub use Rattle.passrun.specs.passing.Putting.{AddsFrames, HasPut, LeavesFrames}
-pub use Rattle.passrun.specs.passing.RunInvariant.{AreHeld, ContinuesAs, Expects, IsActive, IsConsistent, IsCurrent}
+pub use Rattle.passrun.specs.passing.RunInvariant.{AreHeld, ContinuesAs, Entry, Expects, IsActive, IsConsistent, IsCurrent}
 pub use Rattle.passrun.specs.passing.RunInvariant.{IsEvaluatedTree, IsGone, IsHeld, IsOpenNode, IsReady, IsRootReady, Keeps}
 pub use Rattle.passrun.specs.passing.RunInvariant.{RunInvariant, Transcript, Visited, after_reading, below, put_of, root_body}
 pub use Rattle.passrun.specs.passing.RunInvariant.{root_number, rules_at, rules_left, state_of}
-pub use Rattle.passrun.specs.passing.Running.{LeadsFrom, LeadsTo, Runs, RunsFrom, RunsRuleNext, RunsSomehow, stack_of}
+pub use Rattle.passrun.specs.passing.Running.{Preserves, Runs, RunsRuleNext, World, any_world, between, first_device, meter_at}
+pub use Rattle.passrun.specs.passing.Running.{second_device, stack_of}
 pub use Rattle.passrun.specs.reading.Fetching.{HasFetched, IsMissing, IsUnfetched}
 pub use Rattle.treefile.proofs.framing.Backward.{back_is_file, damage_is_there, never_no_file, none_at_header, reads_on}
 pub use Rattle.treefile.proofs.framing.Backward.{reads_whole}

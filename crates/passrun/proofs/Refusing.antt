@@ -3,8 +3,8 @@ use Rattle.passrun.proofs.Common
 use Common.{option_map, IsTrue, ℕ, suc, ◌≡◌, ◌+◌, ◌-◌, Bool, true, List, [], ◌∷◌, ◌++◌, Option, Some, None, Ok, Err, is_some, Bor}
 use Common.{length, drop, reverse, refl, sym, arith, length-reverse, Value, FrameFault, next_before, pass_in, WhenHonest, ReadsAs}
 use Common.{version_two, Pending, values_up_to, damage_is_there, never_no_file, BackState, Setting, IsSound, PlaceRow, Machine}
-use Common.{OpenNode, RunFault, IsRunFault, ArrivesAt, IsDamaged, IsReadable, source, RunsBetween, run_fault_of_frame, HasFetched}
-use Common.{IsUnfetched, copied_passes, Agrees, read_values, RunsFrom}
+use Common.{OpenNode, RunFault, IsRunFault, ArrivesAt, IsDamaged, IsReadable, source, Runs, World, run_fault_of_frame, HasFetched}
+use Common.{IsUnfetched, copied_passes, Agrees, read_values}
 use Common.item
 use Common.frame_fault
 use Common.instr
@@ -33,52 +33,50 @@ record FirstCome (c : Setting) (content : List ℕ) (m : Machine) (x : OpenNode)
 
 module _ {c : Setting} (sound : IsSound c) where
   -- At a `Get`, the child is the first to be read (`FirstCome`).
-  first_come : {honest : Bool} {content : List ℕ} {m : Machine} {x : OpenNode} {j : ℕ} {row : PlaceRow}
-      → RunsFrom c honest content m (Some x) → IsNext c x (instr.Get j)
-      → Answers c x j (Some row) → honest ≡ true → FirstCome c content m x j row
-  first_come {m} {x} {row} (to_honest, to, meter, r) at is w =
+  first_come : {w : World} {m : Machine} {x : OpenNode} {j : ℕ} {row : PlaceRow} → Runs c w m (Some x)
+      → IsNext c x (instr.Get j) → Answers c x j (Some row) → w.first.honest ≡ true → FirstCome c w.first.content m x j row
+  first_come {m} {x} {row} r at is honest =
       let xs = reverse m.waiting.items in
-      let i = got_place (to_honest, to, meter, r) at is in
-      let first = get_first sound m.root xs (record { next = at; there = i.there; occurs = i.occurs }) r.running.invariant in
+      let i = got_place r at is in
+      let first = get_first sound m.root xs (record { next = at; there = i.there; occurs = i.occurs }) r.invariant in
       let l = length-reverse m.waiting.items in
       let level : suc (suc (length xs)) ≡ suc (length m.waiting.items + 1) = omega arith in
       record {
         values = first.0;
         left = first.1;
-        readable = r.running.readable w;
+        readable = r.readable honest;
         here = record {
-          bodies = r.running.transcript.read;
-          read = r.running.read w;
+          bodies = r.transcript.read;
+          read = r.read honest;
           records =
-              rw (first.2, level) at r.running.ahead;
-          few = r.running.few;
+              rw (first.2, level) at r.ahead;
+          few = r.few;
         };
-        count = r.running.records;
+        count = r.records;
         found = λ more. let z = first.3 more in (z.0, cc);
       }
 
-  pub get_refused : {honest : Bool} {content : List ℕ} {m : Machine} {x : OpenNode} {j n : ℕ} {row : PlaceRow} (f : RunFault)
-      → RunsFrom c honest content m (Some x) → IsNext c x (instr.Get j)
-      → Answers c x j (Some row) → n ≡ length m.waiting.items + 1
-      → WhenHonest honest (IsUnfetched c row.item n content m.back f) → WhenHonest honest (IsRunFault c content f)
-  get_refused {content} {m} {n} {row} f runs at is count h w =
-      let z = first_come runs at is w in
+  pub get_refused : {w : World} {m : Machine} {x : OpenNode} {j n : ℕ} {row : PlaceRow} (f : RunFault)
+      → Runs c w m (Some x) → IsNext c x (instr.Get j) → Answers c x j (Some row) → n ≡ length m.waiting.items + 1
+      → w.first.honest ≡ true → IsUnfetched c row.item n w.first.content m.back f → IsRunFault c w.first.content f
+  get_refused {m} {n} {row} f r at is count honest h =
+      let z = first_come r at is honest in
       unfetched sound (Some (values_up_to c.read (copied_passes c row.item) z.values))
       (length m.waiting.items + 1) m.back z.left f z.readable z.here z.count
-      (rw count at (h w))
+      (rw count at h)
 
   -- If the record of a child does not agree with the child's copy, the content is damaged.
-  pub get_differs : {honest : Bool} {content : List ℕ} {m : Machine} {x : OpenNode} {j p n : ℕ} {row : PlaceRow}
-      {back : BackState} {read ours theirs : List Value} {from start : ℕ} (answer : Bool) → RunsFrom c honest content m (Some x)
+  pub get_differs : {w : World} {honest : Bool} {m : Machine} {x : OpenNode} {j p n : ℕ} {row : PlaceRow}
+      {back : BackState} {read ours theirs : List Value} {from start : ℕ} (answer : Bool) → Runs c w m (Some x)
       → IsNext c x (instr.Get j) → Answers c x j (Some row)
       → n ≡ length m.waiting.items + 1
-      → HasFetched c row.item p n honest content m.back back m.values.items read → Agrees c row.item ours theirs answer
+      → HasFetched c row.item p n honest w.first.content m.back back m.values.items read → Agrees c row.item ours theirs answer
       → (IsTrue answer → ⊥) → ours ≡ drop from read → theirs ≡ drop start read → from ≡ x.base + row.start
       → start ≡ length m.values.items
-      → WhenHonest honest (IsDamaged (source c) content m.back.progress.at)
-  get_differs {m} {x} {p} {n} {row} {read} {start} answer runs at is level h agrees not_true ours_are
-      theirs_are from_is start_is w =
-      let z = first_come runs at is w in
+      → (honest ≡ true → w.first.honest ≡ true) → WhenHonest honest (IsDamaged (source c) w.first.content m.back.progress.at)
+  get_differs {m} {x} {p} {n} {row} {read} {start} answer r at is level h agrees not_true ours_are
+      theirs_are from_is start_is before honest =
+      let z = first_come r at is (before honest) in
       let back_row = begins_so c row.item p h.body m.values.items read h.taken in
       let more = fetched_row h in
       let found = z.found more.0 in
@@ -89,7 +87,7 @@ module _ {c : Setting} (sound : IsSound c) where
       agrees z.values (read_values c row.item p h.body m.values.items read h.taken) found.0 back_row.0 (cc (more.1, found.1))
       (cc) in
       disagreed sound p m.values.items read
-      h.taken z.values (λ same. not_true (other.1 same)) z.readable z.here (omega arith) (omega arith) (h.found w)
+      h.taken z.values (λ same. not_true (other.1 same)) z.readable z.here (omega arith) (omega arith) (h.found honest)
 
   -- If reading the header fails, the fault is true of the content: it does not begin as a tree file.
   pub not_started : (content : List ℕ) (view : BackState → ℕ) (f : FrameFault)
@@ -127,23 +125,14 @@ module _ {c : Setting} (sound : IsSound c) where
   end_refused content at view frame_fault.NoMemory readable here exact = tt
 
   -- When the root is done, no child is to be read.
-  pub end_come : {honest : Bool} {content : List ℕ} {to_honest : Bool} {to : List ℕ} {m : Machine}
-      → RunsBetween c honest content to_honest to m None
-      → WhenHonest honest (IsReadable (source c) content × ArrivesAt (source c) content m.back.progress.at [])
-  end_come (meter, r) w = (
-    r.running.readable w,
+  pub end_come : {w : World} {m : Machine} → Runs c w m None → w.first.honest ≡ true
+      → IsReadable (source c) w.first.content × ArrivesAt (source c) w.first.content m.back.progress.at []
+  end_come r honest = (
+    r.readable honest,
     record {
-      bodies = r.running.transcript.read;
-      read = r.running.read w;
-      records = rw r.running.invariant.nothing at r.running.ahead;
-      few = r.running.few;
+      bodies = r.transcript.read;
+      read = r.read honest;
+      records = rw r.invariant.nothing at r.ahead;
+      few = r.few;
     },
   )
-
-  pub end_version : {honest : Bool} {content : List ℕ} {to_honest : Bool} {to : List ℕ} {m : Machine}
-      → RunsBetween c honest content to_honest to m None → m.back.progress.version ≡ version_two
-  end_version (meter, r) = r.running.version
-
-  pub end_unbroken : {honest : Bool} {content : List ℕ} {to_honest : Bool} {to : List ℕ} {m : Machine}
-      → RunsBetween c honest content to_honest to m None → m.back.progress.fault ≡ None
-  end_unbroken (meter, r) = r.running.unbroken

@@ -9,5 +9,4 @@ pub mod Ruled
 pub mod Running
 pub mod EntersNone
 pub mod Steps
-pub mod Supposed
 pub mod MachineSteps

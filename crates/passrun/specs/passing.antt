@@ -1,7 +1,6 @@
 -- A running pass.
 pub mod Ahead
 pub mod Change
-pub mod Ends
 pub mod RunInvariant
 pub mod Putting
 pub mod Running

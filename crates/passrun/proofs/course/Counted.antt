@@ -4,7 +4,7 @@ use Common.{ℕ, suc, ◌≡◌, ◌+◌, ◌*◌, ◌<◌, ◌≤◌, List, [],
 use Common.{length-append, Value, Production, Direction, max_rules, Grammar, stored_items, Passes, Valuation, children, Tree}
 use Common.{Forest, leaf, node, none, more, node_count, node_counts, is_of_pass, pass_rule_count, rules_of_pass, totals, postfix}
 use Common.{postfix_all, prefix, prefix_all, Pending, bodies_of, bodies_of_all, node_body, version_two, Phase, Between, Got, Gone}
-use Common.{Ended, Setting, pass_direction, IsSound, OpenNode, Transcript, Expects, IsCurrent, RunInvariant, IsRootReady}
+use Common.{Ended, Setting, pass_direction, IsSound, OpenNode, Transcript, Entry, Expects, IsCurrent, RunInvariant, IsRootReady}
 use Common.{IsOpenNode, below, after_reading, put_of, rules_at, Table, copies, in_children, bodies_count, bodies_counts}
 use Rattle.std.proofs.lemmas.List.Sums.{count_by-le-length}
 use Rattle.passcode.specs.Course.{State, place_of}
@@ -50,40 +50,39 @@ module _ {c : Setting} (sound : IsSound c) where
         omega (arith, rules_bound t, rules_bound_all ts)
 
   -- The counts after the visited children of a node whose record was read.
-  stays_counted : {s : ℕ} {f : ℕ → Value} {level p : ℕ} {q : Production} {state : State} {e : Table} {ts : Forest}
-      {ws : ℕ → Valuation} {old new : Transcript} (before opened : ℕ)
-      → IsOpenNode c s f level p q state e ts ws old new
-      → length old.put + opened ≡ length old.read → before ≤ 65536 * length old.read
-      → (length new.put + suc opened ≡ length new.read) × (before + rules_at c q ts ≤ 65536 * length new.read)
-  stays_counted {f} {p} {q} {e} {ts} {ws} {old} before opened is_open balanced few =
+  stays_counted : {entry : Entry} {level p : ℕ} {q : Production} {state : State} {e : Table} {ts : Forest}
+      {ws : ℕ → Valuation} {new : Transcript} (opened : ℕ)
+      → IsOpenNode c entry level p q state e ts ws new
+      → length entry.old.put + opened ≡ length entry.old.read → entry.before ≤ 65536 * length entry.old.read
+      → (length new.put + suc opened ≡ length new.read) × (entry.before + rules_at c q ts ≤ 65536 * length new.read)
+  stays_counted {entry} {p = p} {q} {e = e} {ts} {ws} opened is_open balanced few =
       let pre = count_of_all (pass_direction c) c.grammar c.passes c.read ts ws in
       let post = post_of_all (pass_direction c) c.grammar c.passes c.write ts ws in
       let a = ap length is_open.visits.read in
       let b =
-      length-append (after_reading c p f (copies c c.read (stored_items q.items) (in_children e)) old).read
+      length-append (after_reading c p entry.own (copies c c.read (stored_items q.items) (in_children e)) entry.old).read
       (prefix_all (pass_direction c) (bodies_of_all version_two c.grammar c.passes c.read ts ws)) in
       let d =
-      length-append old.read
-      (node_body version_two c.grammar c.passes c.read p f (copies c c.read (stored_items q.items) (in_children e))
+      length-append entry.old.read
+      (node_body version_two c.grammar c.passes c.read p entry.own (copies c c.read (stored_items q.items) (in_children e))
       ∷ []) in
       let e' = ap length is_open.visits.put in
       let f' =
-      length-append old.put (postfix_all (pass_direction c) (bodies_of_all version_two c.grammar c.passes c.write ts ws)) in
+      length-append entry.old.put (postfix_all (pass_direction c) (bodies_of_all version_two c.grammar c.passes c.write ts ws)) in
       let rules = rules_bound_all ts in
       let most = few_of p (Some q) is_open.there in
       (omega arith, omega arith)
 
-  waits_counted : (root : ℕ) (xs : List OpenNode) (s p : ℕ) (f : ℕ → Value) (under : List Value) (old : Transcript) (before : ℕ)
-      (others : Pending) → Expects c root xs s p f under old before others
-      → (length old.put + length xs ≡ length old.read) × (before ≤ 65536 * length old.read)
-  waits_counted root [] s p f under old before others w =
+  waits_counted : (root : ℕ) (xs : List OpenNode) (p : ℕ) (entry : Entry) → Expects c root xs p entry
+      → (length entry.old.put + length xs ≡ length entry.old.read) × (entry.before ≤ 65536 * length entry.old.read)
+  waits_counted root [] p entry w =
       let a = ap (λ z. length z.put) w.3 in
       let b = ap (λ z. length z.read) w.3 in
       let n = w.4 in
       (omega arith, omega arith)
-  waits_counted root (x ∷ xs) s p f under old before others (s', f', under', old', before', others', waits, z) =
-      let h = waits_counted root xs s' x.production f' under' old' before' others' waits in
-      let k = stays_counted before' (length xs) z.is_open h.0 h.1 in
+  waits_counted root (x ∷ xs) p entry (outer, waits, z) =
+      let h = waits_counted root xs x.production outer waits in
+      let k = stays_counted (length xs) z.is_open h.0 h.1 in
       let n = z.counted in
       let m = k.1 in
       (k.0, omega arith)
@@ -130,9 +129,9 @@ module _ {c : Setting} (sound : IsSound c) where
   pub passing_counted : (root : ℕ) {x : OpenNode} (xs : List OpenNode) {values : List Value} {t : Transcript} {now : ℕ}
       {todo : Pending} → RunInvariant c root (x ∷ xs) values t now todo
       → (length t.put < length t.read) × (now ≤ 65536 * length t.read)
-  passing_counted root {x} xs {t} (s, f, under, old, before, others, waits, ph, o) =
-      let h = waits_counted root xs s x.production f under old before others waits in
-      let m = stays_counted before (length xs) o.is_open h.0 h.1 in
+  passing_counted root {x} xs {t} (entry, waits, ph, o) =
+      let h = waits_counted root xs x.production entry waits in
+      let m = stays_counted (length xs) o.is_open h.0 h.1 in
       let k = current_counted o.production ph o.i (suc (length xs)) x.child o.table o.of_child o.row o.mid t o.count o.current in
       let n = o.counted in
       let a = m.0 in

@@ -1,15 +1,14 @@
 -- A pass whose root is done evaluated at most 2^36 rules, for any devices.
 use Rattle.passrun.proofs.Common
-use Common.{ℕ, ◌+◌, ◌^◌, ◌≤◌, Bool, List, None, Result, Ok, Err, length, ap, arith, OnOk, Setting, pass_direction, IsSound}
-use Common.{Passed, Machine, RunFault, Runs}
+use Common.{◌+◌, ◌^◌, ◌≤◌, None, Result, Ok, Err, length, ap, arith, OnOk, Setting, pass_direction, IsSound}
+use Common.{Passed, Machine, RunFault, Runs, World}
 use Rattle.passrun.proofs.course.Counted.{rules_bound}
 use Rattle.passrun.proofs.course.Finish.{count_of}
 
 pub meter_few : {c : Setting} → IsSound c
-    → {honest : Bool} {content : List ℕ} {to_honest : Bool} {to : List ℕ} {meter : ℕ} {m : Machine}
-    → Runs c honest content to_honest to meter m None → (m.begun ≤ meter) × (meter ≤ m.begun + 2 ^ 36)
+    → {w : World} {m : Machine} → Runs c w m None → (m.begun ≤ w.meter) × (w.meter ≤ m.begun + 2 ^ 36)
 meter_few {c} sound r =
-    let h = r.running.invariant in (
+    let h = r.invariant in (
       r.begun,
       omega (
         arith,
@@ -17,7 +16,7 @@ meter_few {c} sound r =
         count_of (pass_direction c) c.grammar c.passes c.read h.tree h.valuation,
         rules_bound sound h.tree,
         h.counted,
-        r.running.few,
+        r.few,
         r.begun,
       ),
     )

@@ -5,7 +5,7 @@ use Common.{sym, arith, length-append, length-drop, drop_at, slice_get_within, V
 use Common.{IsProduction, item_at, stored_items, item_passes, nth, Pending, count_up_to, values_up_to, Instr, Phase, Between}
 use Common.{Gone, Setting, list_at, pass_direction, IsSound, OpenNode, goes_next, IsCurrent, Transcript, RunInvariant, state_of}
 use Common.{Table, copied_passes, rest_of, stored, argument_slot, copied_all, copied_before, copied_width, copy_start, IsActive}
-use Common.{stored_width, target_slot}
+use Common.{Entry, stored_width, target_slot}
 use Common.item
 use Common.instr
 use Rattle.passcode.specs.Course.{MayCompute, Runs, arity, place_of}
@@ -83,23 +83,23 @@ copies_in c x q i f e {x'} under row occurs base is =
       ap length is,
     )
 
-has_place : {c : Setting} {s : ℕ} {f : ℕ → Value} {level : ℕ} {x : OpenNode} {under : List Value} {old : Transcript} {before : ℕ}
-    {others : Pending} {ph : Phase} {values : List Value} {t : Transcript} {now : ℕ} {todo : Pending} {j : ℕ} {x' : Item}
-    (o : IsActive c s f level x under old before others ph values t now todo) → j ≡ place_of o.production c.write o.i
-    → item_at o.production (place_of o.production c.write o.i) ≡ Some x' → HasPlace c x j values
-has_place {c} {x = x} {under = under} {x' = x'} o place occurs = record {
+has_place : {c : Setting} {entry : Entry} {level : ℕ} {x : OpenNode} {ph : Phase} {values : List Value} {t : Transcript} {now : ℕ}
+    {todo : Pending} {j : ℕ} {x' : Item} (o : IsActive c entry level x ph values t now todo)
+    → j ≡ place_of o.production c.write o.i → item_at o.production (place_of o.production c.write o.i) ≡ Some x'
+    → HasPlace c x j values
+has_place {c} {entry} {x = x} {x' = x'} o place occurs = record {
   production = o.production;
   there = o.is_open.there;
   item = x';
   occurs = cc;
   some = omega arith;
-  within = rw place (copies_in c x o.production o.i (o.table 0) o.copied under o.row occurs o.base o.values_are);
+  within = rw place (copies_in c x o.production o.i (o.table 0) o.copied entry.under o.row occurs o.base o.values_are);
 }
 
 module _ {c : Setting} (root : ℕ) {x : OpenNode} (xs : List OpenNode) {values : List Value} {t : Transcript} {now : ℕ}
     {todo : Pending} where
   pub here : RunInvariant c root (x ∷ xs) values t now todo → IsHere c x
-  here (s, f, under, old, before, others, waits, ph, o) =
+  here (entry, waits, ph, o) =
       let some = some_left ph (rest_of c x) o.runs o.current in
       let n = length-drop x.at (list_at c x.production) in
       record { production = o.production; there = o.is_open.there; next = omega arith }
@@ -110,22 +110,22 @@ module _ {c : Setting} (root : ℕ) {x : OpenNode} (xs : List OpenNode) {values 
       some_left ph (z ∷ zs) runs current = omega arith
 
   pub put_place : {j : ℕ} → IsNext c x (instr.Put j) → RunInvariant c root (x ∷ xs) values t now todo → HasPlace c x j values
-  put_place at (s, f, under, old, before, others, waits, ph, here) =
+  put_place at (entry, waits, ph, here) =
       let o = at_put here at in has_place o (runs_next o at).0.place o.current.0.occurs
 
   pub get_place : {j : ℕ} → IsNext c x (instr.Get j) → RunInvariant c root (x ∷ xs) values t now todo → HasPlace c x j values
-  get_place at (s, f, under, old, before, others, waits, ph, here) =
+  get_place at (entry, waits, ph, here) =
       let o = at_get here at in
       let turn = (runs_next o at).0 in
       has_place o turn.place (is_stored_child o.production c.write o.i turn.within).1.1
 
   -- When a node ends, its row is the last one.
   pub own_row : IsNext c x instr.End → RunInvariant c root (x ∷ xs) values t now todo → HasOwn c x values
-  own_row at (s, f, under, old, before, others, waits, ph, here) =
+  own_row at (entry, waits, ph, here) =
       let o = at_end here at in
       let q = o.production in
       let n = length_stored c q (o.table 0) o.copied in
-      let a = length-append under (stored c q (o.table 0) o.copied ++ o.row) in
+      let a = length-append entry.under (stored c q (o.table 0) o.copied ++ o.row) in
       let b = length-append (stored c q (o.table 0) o.copied) o.row in
       let d = ap length o.current.2 in
       let e = ap length o.values_are in
@@ -135,7 +135,7 @@ module _ {c : Setting} (root : ℕ) {x : OpenNode} (xs : List OpenNode) {values 
   -- After a `Put` the pass does not enter a child next.
   pub put_stays : {j : ℕ} → IsNext c x (instr.Put j) → RunInvariant c root (x ∷ xs) values t now todo
       → goes_next (drop (x.at + 1) (list_at c x.production)) ≡ false
-  put_stays at (s, f, under, old, before, others, waits, ph, o) =
+  put_stays at (entry, waits, ph, o) =
       let next = runs_next o at in
       goes_nowhere c o.production (state_of Between (suc o.i) o.done) (drop (x.at + 1) (list_at c x.production)) (λ e. cc) next.1
 
@@ -145,29 +145,29 @@ pub waited : {c : Setting} (root : ℕ) {x y : OpenNode} (ys : List OpenNode) {v
 waited {c} root {x} {y} ys {values} {t} {now} {todo} at h = go (own_row root (y ∷ ys) at h) h
   where
     go : HasOwn c x values → RunInvariant c root (x ∷ y ∷ ys) values t now todo → HasWaited c y x.base values
-    go own (s, f, under, old, before, others, (s', f', under', old', before', others', waits, z), ph, o) =
+    go own (entry, (outer, waits, z), ph, o) =
         let same : Some o.production ≡ Some own.production = cc own.there in
         let one : o.production ≡ own.production = cc in
-        let left : own.production.left ≡ s = cc in
-        let within = copies_in c y z.production z.i (z.table 0) z.copied under' [] z.occurs z.base refl in
-        let n = length-append under' (stored c z.production (z.table 0) z.copied ++ []) in
-        let m = length-append under' (stored c z.production (z.table 0) z.copied) in
+        let left : own.production.left ≡ entry.symbol = cc in
+        let within = copies_in c y z.production z.i (z.table 0) z.copied outer.under [] z.occurs z.base refl in
+        let n = length-append outer.under (stored c z.production (z.table 0) z.copied ++ []) in
+        let m = length-append outer.under (stored c z.production (z.table 0) z.copied) in
         let l = length-append (stored c z.production (z.table 0) z.copied) [] in
         let u = ap length z.under_is in
         let k = o.base in
         let before_it : y.base
-        + (copy_start c z.production (place_of z.production c.write z.i) + copied_width c (item.Symbol s)) ≤ x.base =
+        + (copy_start c z.production (place_of z.production c.write z.i) + copied_width c (item.Symbol entry.symbol)) ≤ x.base =
         omega arith in
-        let few = begins_with_copy c (item.Symbol s) (o.table 0) in
-        let share = values_up_to c.write (copied_passes c (item.Symbol s)) (o.table 0) in
+        let few = begins_with_copy c (item.Symbol entry.symbol) (o.table 0) in
+        let share = values_up_to c.write (copied_passes c (item.Symbol entry.symbol)) (o.table 0) in
         let r = ap length few.1 ∙ length-append share few.0 in
-        let w = length_row c.write (copied_passes c (item.Symbol s)) (o.table 0) in
-        let v = length_row c.write (c.passes s) (o.table 0) ∙ ap (λ s. count_up_to c.write (c.passes s)) (sym left) in
+        let w = length_row c.write (copied_passes c (item.Symbol entry.symbol)) (o.table 0) in
+        let v = length_row c.write (c.passes entry.symbol) (o.table 0) ∙ ap (λ s. count_up_to c.write (c.passes s)) (sym left) in
         let own_is = own.within in
         record {
           production = z.production;
           there = z.is_open.there;
-          item = item.Symbol s;
+          item = item.Symbol entry.symbol;
           occurs = cc;
           some = omega (arith, z.place_is);
           within = rw z.place_is before_it;
@@ -180,7 +180,7 @@ pub waits_stay : {c : Setting} (root : ℕ) {x : OpenNode} (xs : List OpenNode) 
     → goes_next (rest_of c y) ≡ false
 waits_stay root [] e p = absurd cc
 waits_stay {c} root (w ∷ ws) {y = y} e
-    (s, f, under, old, before, others, (s', f', under', old', before', others', waits, z), ph, o) =
+    (entry, (outer, waits, z), ph, o) =
     let same : w ≡ y = cc in
     rw (← same)
     (goes_nowhere c z.production (state_of Gone z.i z.done) (rest_of c w) (λ e. cc) z.runs)
@@ -188,7 +188,7 @@ waits_stay {c} root (w ∷ ws) {y = y} e
 pub given_rule : {c : Setting} → IsSound c → (root : ℕ) {x : OpenNode} (xs : List OpenNode) {values : List Value} {t : Transcript}
     {now : ℕ} {todo : Pending} {j a r : ℕ} {z : Instr} → IsGivingOf j a r z → IsNext c x z
     → RunInvariant c root (x ∷ xs) values t now todo → HasRule c x j a r values
-given_rule {c} sound root {x} xs {values} {t} {j = j} {a = a} {r = r} giving at (s, f, under, old, before, others, waits, ph, o) =
+given_rule {c} sound root {x} xs {values} {t} {j = j} {a = a} {r = r} giving at (entry, waits, ph, o) =
     record {
       production = q;
       there = o.is_open.there;
@@ -217,14 +217,14 @@ given_rule {c} sound root {x} xs {values} {t} {j = j} {a = a} {r = r} giving at 
         omega (
           arith,
           slice_get_within row (argument_slot c q t.place t.attr) (o.table t.place t.attr) at,
-          ap length (ap (drop x.base) o.values_are ∙ drop_at under row x.base (sym o.base)),
+          ap length (ap (drop x.base) o.values_are ∙ drop_at entry.under row x.base (sym o.base)),
         )
 
-    whole : length values ≡ length under + (stored_width c q + length o.row)
+    whole : length values ≡ length entry.under + (stored_width c q + length o.row)
     whole =
         omega (
           arith,
-          length-append under (stored c q (o.table 0) o.copied ++ o.row),
+          length-append entry.under (stored c q (o.table 0) o.copied ++ o.row),
           length-append (stored c q (o.table 0) o.copied) o.row,
           length_stored c q (o.table 0) o.copied,
           ap length o.values_are,

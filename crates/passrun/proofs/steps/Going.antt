@@ -16,14 +16,14 @@ pub record HasChild (c : Setting) (p : ℕ) (values : List Value) : Type 0 where
 
 pub child_of : {c : Setting} {x : OpenNode} (xs : List OpenNode) {values : List Value} {j : ℕ} → IsNext c x (instr.Go j)
     → IsConsistent c (x ∷ xs) values → HasChild c x.child values
-child_of {c} xs at (root, t, now, todo, (s, f, under, old, before, others, waits, ph, here)) =
+child_of {c} xs at (root, t, now, todo, (entry, waits, ph, here)) =
     let o = at_go here at in
     let q = o.production in
     let g = o.current.0 in
     let row = stored c g.production (o.table (place_of q c.write o.i)) o.of_child in
     let n = length_stored c g.production (o.table (place_of q c.write o.i)) o.of_child in
     let m = ap length o.current.2 in
-    let a = length-append under (stored c q (o.table 0) o.copied ++ o.row) in
+    let a = length-append entry.under (stored c q (o.table 0) o.copied ++ o.row) in
     let b = length-append (stored c q (o.table 0) o.copied) o.row in
     let e = ap length o.values_are in
     record { production = g.production; there = g.there; width = omega arith }

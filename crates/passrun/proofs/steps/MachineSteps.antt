@@ -1,29 +1,30 @@
 -- The steps of a machine: from the effect of a part of the code to a running machine.
 use Rattle.passrun.proofs.Common
-use Common.{Vec, option_to_list, IfOk, IsTrue, MatchOption, ℕ, suc, zero, ◌≡◌, ◌+◌, ◌-◌, ◌^◌, ◌<◌, ◌≤◌, nat_le, if◌then◌else◌}
-use Common.{false, Bool, List, [], ◌∷◌, ◌++◌, Option, Some, None, Result, Ok, Err, All, slice_get, slice_index, get_or, length}
+use Common.{Vec, option_to_list, IsTrue, MatchOption, ℕ, suc, zero, ◌≡◌, ◌+◌, ◌-◌, ◌^◌, ◌<◌, ◌≤◌, nat_le, if◌then◌else◌}
+use Common.{Bool, List, [], ◌∷◌, ◌++◌, Option, Some, None, All, slice_get, slice_index, get_or, length}
 use Common.{take, drop, reverse, set, refl, ap, ◌∙◌, sym, arith, append_assoc, append-nil, true, le-leb, get_or_from_slice_get}
-use Common.{slice_get-get_or, slice_get_within, All-from_get_or, drop_at, length-reverse, reverse-append, Value, Text, IsWell}
+use Common.{All-append, All-drop, All-from_get_or, All-set, All-take}
+use Common.{slice_get-get_or, slice_get_within, drop_at, length-reverse, reverse-append, Value, Text, IsWell}
 use Common.{Item, Production, Rule, Literal, Class, Target, IsArgument, IsProduction, item_at, stored_items, value_of, Node}
 use Common.{Token, LeavesContent, values_up_to, BackState, Setting, IsSound, PlaceRow, ProductionRow, RuleSlots, Machine}
 use Common.{OpenNode, HasFetched, AreSlotsOf, IsRowAt, IsRowOf, after_step, ContinuesAs, IsConsistent, copied_passes, copies}
-use Common.{kept_values, HasPut, Agrees, IsRead, read_values, RunsRuleNext, RunsFrom, RunsSomehow, LeadsFrom, LeadsTo, stack_of}
+use Common.{kept_values, HasPut, Agrees, IsRead, read_values, Runs, World, Preserves, any_world}
+use Common.{RunsRuleNext, first_device, meter_at, second_device, stack_of}
 use Common.{argument_slot, copied_width, copy_start, known_width, target_slot, count_of_values, place_is, place_within}
 use Common.{slots_found, some_at, empty_is}
 use Common.item
 use Common.writing
 use Common.instr
 use Rattle.std.proofs.lemmas.List.{nil_from_length}
-use Rattle.ag_value.specs.declared.fault.NoMemory.{NoMemory}
 use Rattle.ag_grammar.specs.declared.grammar.Terminal.{Terminal}
 use Rattle.pass_rows.specs.layouts.BuiltLayouts.{place_rows}
-use Rattle.passrun.specs.passing.Running.{RunsAt, Leads, LeadsAt}
 use Rattle.passrun.proofs.course.Counted.{passing_counted}
 use Rattle.passrun.proofs.steps.Facts.{HasOwn, HasPlace, HasRule, HasWaited, given_rule, get_place, own_row, put_place, waited}
-use Rattle.passrun.proofs.steps.Ruled.{rule_named}
-use Rattle.passrun.proofs.steps.Running.{ended_runs, given_runs, gone_runs, got_runs, put_runs}
+use Rattle.passrun.proofs.steps.Ruled.{rule_named, step_give}
+use Rattle.passrun.proofs.steps.Running.{gone_runs, kept_well, put_on, read_more, still_runs}
 use Rattle.passrun.proofs.places.Slots.{begins_with_copy}
-use Rattle.passrun.proofs.steps.Steps.{HasAgreed, IsNext, same_production, step_end_root, step_put_node}
+use Rattle.passrun.proofs.steps.Steps.{HasAgreed, IsNext, same_production, step_end, step_end_root, step_put_leaf, step_put_node}
+use Rattle.passrun.proofs.steps.Steps.{step_read}
 use Rattle.passrun.proofs.places.Tables.{text_row}
 
 -- The answer is the description (`PlaceRow`) of place j in the layout of the production of the node x, if there is such a place.
@@ -157,54 +158,46 @@ pub are_slots : {c : Setting} {m : Machine} {x : OpenNode} {r : ℕ} {q : Produc
     → slots ≡ get_or xs r slots → AreSlotsOf c q u slots
 are_slots h is same at = slots_found _ _ _ _ _ _ _ _ is h.numbered same at
 
-pub entered : (c : Setting) (m : Machine) (x : OpenNode) (waiting : Vec OpenNode) {values : List Value}
-    (result : Result OpenNode NoMemory) → values ≡ m.values.items
-    → IfOk result (λ child. ContinuesAs c (x ∷ reverse m.waiting.items) values (child ∷ reverse waiting.items) values)
-    → IfOk result (λ child. Leads c m (record m { waiting = waiting }) (Some x) (Some child))
-entered c m x waiting (Err e) vs goes = goes
-entered c m x waiting (Ok child) vs goes = λ meter honest content to_honest to r.
-    record {
-      running = gone_runs r.running (rw vs at goes);
-      begun = r.begun;
-      low = r.low;
-    }
+pub entered : {c : Setting} {m : Machine} {x child : OpenNode} {waiting : Vec OpenNode} {values : List Value}
+    → values ≡ m.values.items
+    → ContinuesAs c (x ∷ reverse m.waiting.items) values (child ∷ reverse waiting.items) values
+    → Preserves c any_world any_world m (record m { waiting = waiting }) (Some x) (Some child)
+entered vs goes w r = gone_runs r (rw vs at goes)
 
 module _ {c : Setting} where
-  get_at : {honest : Bool} {content : List ℕ} {m : Machine} {x : OpenNode} {j : ℕ} → RunsFrom c honest content m (Some x)
-      → IsNext c x (instr.Get j) → HasPlace c x j m.values.items
-  get_at {m} (to_honest, to, meter, r) at = get_place m.root (reverse m.waiting.items) at r.running.invariant
+  get_at : {w : World} {m : Machine} {x : OpenNode} {j : ℕ} → Runs c w m (Some x) → IsNext c x (instr.Get j)
+      → HasPlace c x j m.values.items
+  get_at {m} r at = get_place m.root (reverse m.waiting.items) at r.invariant
 
-  pub item_within : {honest : Bool} {content : List ℕ} {m : Machine} {x : OpenNode} {j : ℕ} (row : ProductionRow)
-      → RunsFrom c honest content m (Some x) → IsNext c x (instr.Get j)
-      → IsRowAt c x.production row → j < length row.places
-  item_within {x} {j} row runs at is = let h = get_at runs at in
+  pub item_within : {w : World} {m : Machine} {x : OpenNode} {j : ℕ} (row : ProductionRow) → Runs c w m (Some x)
+      → IsNext c x (instr.Get j) → IsRowAt c x.production row → j < length row.places
+  item_within {x} {j} row r at is = let h = get_at r at in
       place_within c x.production h.production row j h.item (is h.production h.there) h.occurs
 
   -- The returned row is that of the place.
-  pub got_place : {honest : Bool} {content : List ℕ} {m : Machine} {x : OpenNode} {j : ℕ} {row : PlaceRow}
-      → RunsFrom c honest content m (Some x) → IsNext c x (instr.Get j)
-      → Answers c x j (Some row) → IsPlace c x j row m.values.items
-  got_place runs at is = the_place (get_at runs at) is
+  pub got_place : {w : World} {m : Machine} {x : OpenNode} {j : ℕ} {row : PlaceRow} → Runs c w m (Some x)
+      → IsNext c x (instr.Get j) → Answers c x j (Some row) → IsPlace c x j row m.values.items
+  got_place r at is = the_place (get_at r at) is
 
-  put_at : {m : Machine} {x : OpenNode} {j : ℕ} → RunsSomehow c m (Some x) → IsNext c x (instr.Put j)
+  put_at : {w : World} {m : Machine} {x : OpenNode} {j : ℕ} → Runs c w m (Some x) → IsNext c x (instr.Put j)
       → HasPlace c x j m.values.items
-  put_at {m} (honest, content, to_honest, to, meter, r) at = put_place m.root (reverse m.waiting.items) at r.running.invariant
+  put_at {m} r at = put_place m.root (reverse m.waiting.items) at r.invariant
 
-  pub row_within : {m : Machine} {x : OpenNode} {j : ℕ} (row : ProductionRow) → RunsSomehow c m (Some x)
+  pub row_within : {w : World} {m : Machine} {x : OpenNode} {j : ℕ} (row : ProductionRow) → Runs c w m (Some x)
       → IsNext c x (instr.Put j) → IsRowAt c x.production row → j < length row.places
-  row_within {x = x} {j = j} row runs at is = let h = put_at runs at in
+  row_within {x = x} {j = j} row r at is = let h = put_at r at in
       place_within c x.production h.production row j h.item (is h.production h.there) h.occurs
 
-  pub put_is : {m : Machine} {x : OpenNode} {j : ℕ} {row : PlaceRow} → RunsSomehow c m (Some x)
+  pub put_is : {w : World} {m : Machine} {x : OpenNode} {j : ℕ} {row : PlaceRow} → Runs c w m (Some x)
       → IsNext c x (instr.Put j) → Answers c x j (Some row) → IsPlace c x j row m.values.items
-  put_is runs at is = the_place (put_at runs at) is
+  put_is r at is = the_place (put_at r at) is
 
   -- A token's text is among the values.
-  pub text_within : {m : Machine} {x : OpenNode} {j : ℕ} {row : PlaceRow} (t : Terminal) → RunsSomehow c m (Some x)
+  pub text_within : {w : World} {m : Machine} {x : OpenNode} {j : ℕ} {row : PlaceRow} (t : Terminal) → Runs c w m (Some x)
       → IsNext c x (instr.Put j) → Answers c x j (Some row) → row.item ≡ item.Terminal t
       → x.base + row.start + 1 ≤ length m.values.items
-  text_within {j} {row} t runs at is token =
-      let i = put_is runs at is in
+  text_within {j} {row} t r at is token =
+      let i = put_is r at is in
       let d = class_at i.production j t (cc) in
       let one : copied_width c row.item ≡ 1 = cc (token_width d.0) in
       omega (arith, i.within, i.start)
@@ -213,26 +206,22 @@ module _ {c : Setting} where
       token_width d = let one : ◌≡◌ {A = ℕ} (if nat_le 0 c.write then 1 else 0) 1 =
           cc (le-leb 0 c.write (omega arith)) in omega arith
 
-  pub whole_of : {m : Machine} {next : Option OpenNode} → RunsSomehow c m next
-      → (m.writer.is_broken ≡ false) × All IsWell m.values.items
-  whole_of (honest, content, to_honest, to, meter, r) = (r.running.whole, r.running.well)
-
-  pub is_passing : {m : Machine} {x : OpenNode} {values : List Value} → values ≡ m.values.items → RunsSomehow c m (Some x)
-      → IsConsistent c (x ∷ reverse m.waiting.items) values
-  is_passing {m} vs (honest, content, to_honest, to, meter, r) =
-      rw vs (m.root, r.running.transcript, meter - m.begun, r.running.todo, r.running.invariant)
+  pub is_passing : {w : World} {m : Machine} {x : OpenNode} {values : List Value} → values ≡ m.values.items
+      → Runs c w m (Some x) → IsConsistent c (x ∷ reverse m.waiting.items) values
+  is_passing {w} {m} vs r = rw vs (m.root, r.transcript, w.meter - m.begun, r.todo, r.invariant)
 
   -- When a node ends, its row is the last one.
-  pub own_of : {m : Machine} {x : OpenNode} → RunsSomehow c m (Some x) → IsNext c x instr.End → HasOwn c x m.values.items
-  own_of {m} (honest, content, to_honest, to, meter, r) at = own_row m.root (reverse m.waiting.items) at r.running.invariant
+  pub own_of : {w : World} {m : Machine} {x : OpenNode} → Runs c w m (Some x) → IsNext c x instr.End
+      → HasOwn c x m.values.items
+  own_of {m} r at = own_row m.root (reverse m.waiting.items) at r.invariant
 
   -- When a node ends, the copies of its values come before its row, in the row of the node that waits.
-  pub waited_for : {m : Machine} (waiting : List OpenNode) {x y : OpenNode} → RunsSomehow c m (Some x)
+  pub waited_for : {w : World} {m : Machine} (waiting : List OpenNode) {x y : OpenNode} → Runs c w m (Some x)
       → IsNext c x instr.End → m.waiting.items ≡ waiting ++ y ∷ []
       → HasWaited c y x.base m.values.items
-  waited_for {m} waiting {y = y} (honest, content, to_honest, to, meter, r) at is =
+  waited_for {m} waiting {y = y} r at is =
       let stack : reverse m.waiting.items ≡ y ∷ reverse waiting = cc (reverse-append waiting (y ∷ [])) in
-      waited m.root (reverse waiting) at (rw stack at r.running.invariant)
+      waited m.root (reverse waiting) at (rw stack at r.invariant)
 
   pub waited_within : {y : OpenNode} {base : ℕ} {values : List Value} (row : ProductionRow) → HasWaited c y base values
       → IsRowAt c y.production row → y.place < length row.places
@@ -263,117 +252,100 @@ module _ {c : Setting} where
         h.arguments o.0 (k, o.1),
       ))
 
-  pub well_of : {m : Machine} {next : Option OpenNode} {meter : ℕ} → RunsAt c meter m next → All IsWell m.values.items
-  well_of (honest, content, to_honest, to, runs) = runs.running.well
-
 module _ {c : Setting} (sound : IsSound c) where
   pub got_leads : {m : Machine} {back : BackState} {values : Vec Value} {honest honest' : Bool} {content content' : List ℕ}
       {x next : OpenNode} {j p n : ℕ} {row : PlaceRow} {read : List Value}
       → IsNext c x (instr.Get j) → Answers c x j (Some row)
-      → (h : HasFetched c row.item p n honest content m.back back m.values.items read) → n ≡ length m.waiting.items + 1
+      → (h : HasFetched c row.item p n honest' content m.back back m.values.items read) → n ≡ length m.waiting.items + 1
       → ((q : Production) → IsProduction c.grammar x.production q → row.start ≡ copy_start c q j
       → HasAgreed c q x j row.item read (read_values c row.item p h.body m.values.items read h.taken))
-      → values.items ≡ kept_values row.item m.values.items read → honest' ≡ honest → LeavesContent honest content content'
-      → next ≡ after_step x p
-      → LeadsFrom c honest honest' content content' m (record m { back = back; values = values }) (Some x) (Some next)
-  got_leads {m} {back} {honest = honest} {content = content} {p = p} {n} {row} {read} at is h count agreed kept same leaves on
-      to_honest to meter r =
-      let i = got_place (to_honest, to, meter, r) at is in
-      let levels : n ≡ suc (length (reverse m.waiting.items)) = omega (arith, length-reverse m.waiting.items) in
-      let run =
-      got_runs sound row.item (record { next = at; there = i.there; occurs = i.occurs }) h levels
-      (agreed i.production i.there i.start) same leaves r.running in
-      record {
-        running = rw (on, kept) run;
-        begun = r.begun;
-        low = r.low;
-      }
+      → values.items ≡ kept_values row.item m.values.items read → (honest' ≡ true → honest ≡ true)
+      → LeavesContent honest' content content' → next ≡ after_step x p
+      → Preserves c (first_device honest content) (first_device honest' content')
+      m (record m { back = back; values = values }) (Some x) (Some next)
+  got_leads {m} {p = p} {row = row} {read = read} at is h count agreed kept before leaves on rest r =
+      let i = got_place r at is in
+      let on_it =
+      step_read sound m.root (reverse m.waiting.items) p h.body read h.taken
+      (record { next = at; there = i.there; occurs = i.occurs })
+      (omega (arith, h.deep, count, length-reverse m.waiting.items)) (agreed i.production i.there i.start) r.invariant in
+      read_more r on_it.0 h before leaves (rw kept (kept_well row.item h r.well)) (rw (on, kept) on_it.2) (on_it.1 r.ahead)
 
-  pub put_room : {m : Machine} {x : OpenNode} → RunsSomehow c m (Some x) → m.writer.written < 2 ^ 64 - 1
-  put_room {m} (honest, content, to_honest, to, meter, r) =
-      let n = passing_counted sound m.root (reverse m.waiting.items) r.running.invariant in
-      omega (arith, n.0, r.running.few, r.running.written)
+  pub put_room : {w : World} {m : Machine} {x : OpenNode} → Runs c w m (Some x) → m.writer.written < 2 ^ 64 - 1
+  put_room {m} r =
+      let n = passing_counted sound m.root (reverse m.waiting.items) r.invariant in
+      omega (arith, n.0, r.few, r.written)
 
   pub put_leads : {m : Machine} {out : writing.Progress} {honest honest' : Bool} {content content' : List ℕ} {x next : OpenNode}
       {j : ℕ} {row : PlaceRow} (t : Terminal) {text : List Value}
-      → RunsSomehow c m (Some x) → IsNext c x (instr.Put j) → Answers c x j (Some row)
+      → IsNext c x (instr.Put j) → Answers c x j (Some row)
       → row.item ≡ item.Terminal t → text ≡ take 1 (drop (x.base + row.start) m.values.items)
-      → HasPut Token x.child text honest content content' m.writer out → honest' ≡ honest → next ≡ after_step x x.child
-      → LeadsTo c honest honest' content content' m (record m { writer = out }) (Some x) (Some next)
-  put_leads {m} {x = x} {j = j} t runs at is token text_is h same on from_honest from meter r =
-      let i = put_is runs at is in
+      → HasPut Token x.child text honest' content content' m.writer out → (honest' ≡ true → honest ≡ true)
+      → next ≡ after_step x x.child
+      → Preserves c (second_device honest content) (second_device honest' content')
+      m (record m { writer = out }) (Some x) (Some next)
+  put_leads {m} {x = x} {j = j} t at is token text_is h before on rest r =
+      let i = put_is r at is in
       let d = class_at i.production j t (cc) in
       let occurs : item_at i.production j ≡ Some (item.Terminal (Class d.0)) = cc in
-      record {
-        running =
-            rw on (put_runs sound (record { next = at; there = i.there; occurs = occurs })
-            (cc) h same r.running);
-        begun = r.begun;
-        low = r.low;
-      }
+      put_on r h before r.well
+      (rw on (step_put_leaf sound m.root (reverse m.waiting.items) (record { next = at; there = i.there; occurs = occurs })
+      (cc) r.invariant))
 
-  pub left_leads : {m : Machine} {honest : Bool} {content : List ℕ} {x next : OpenNode} {j : ℕ} (s : ℕ) {row : PlaceRow}
-      → RunsSomehow c m (Some x) → IsNext c x (instr.Put j) → Answers c x j (Some row)
-      → row.item ≡ item.Symbol s → next ≡ after_step x x.child
-      → LeadsTo c honest honest content content m m (Some x) (Some next)
-  left_leads {m} {x = x} s runs at is node on from_honest from meter r =
-      let i = put_is runs at is in
+  pub left_leads : {w : World} {m : Machine} {x next : OpenNode} {j : ℕ} (s : ℕ) {row : PlaceRow}
+      → IsNext c x (instr.Put j) → Answers c x j (Some row) → row.item ≡ item.Symbol s → next ≡ after_step x x.child
+      → Runs c w m (Some x) → Runs c w m (Some next)
+  left_leads {m} {x = x} s at is node on r =
+      let i = put_is r at is in
       let goes : ContinuesAs c (x ∷ reverse m.waiting.items) m.values.items (after_step x x.child ∷ reverse m.waiting.items)
       m.values.items = λ root t now todo.
       step_put_node sound root (reverse m.waiting.items) {s' = s}
       (record { next = at; there = i.there; occurs = cc }) in
-      record {
-        running = rw on (gone_runs r.running goes);
-        begun = r.begun;
-        low = r.low;
-      }
+      rw on (gone_runs r goes)
 
   pub ended_leads : {m : Machine} {values : Vec Value} {waiting : Vec OpenNode} {out : writing.Progress} {honest honest' : Bool}
       {content content' : List ℕ} {x y : OpenNode} {row : PlaceRow} {put : List Value} {from : ℕ}
-      → RunsSomehow c m (Some x) → IsNext c x instr.End
+      → IsNext c x instr.End
       → m.waiting.items ≡ waiting.items ++ y ∷ [] → Answers c y y.place (Some row) → from ≡ y.base + row.start
-      → put ≡ drop x.base m.values.items → HasPut Node x.production put honest content content' m.writer out → honest' ≡ honest
+      → put ≡ drop x.base m.values.items → HasPut Node x.production put honest' content content' m.writer out
+      → (honest' ≡ true → honest ≡ true)
       → values.items ≡ take from m.values.items
       ++ (take row.width (drop x.base m.values.items) ++ drop (from + row.width) (take x.base m.values.items))
-      → LeadsTo c honest honest' content content' m
+      → Preserves c (second_device honest content) (second_device honest' content') m
       (record m { writer = out; values = values; waiting = waiting }) (Some x) (Some y)
-  ended_leads {m} {waiting = waiting} {y = y} {row} runs at pushed is from_is put_is' h same vs from_honest from meter r =
-      let w = waited_for waiting.items runs at pushed in
+  ended_leads {m} {waiting = waiting} {x} {y} {row} {from = from} at pushed is from_is put_is' h before vs rest r =
+      let xs = m.values.items in
+      let w = waited_for waiting.items r at pushed in
       let stack : reverse m.waiting.items ≡ y ∷ reverse waiting.items = cc (reverse-append waiting.items (y ∷ [])) in
-      let running = rw stack at r.running in
-      record {
-        running =
-            ended_runs sound at
-            (λ q x' there occurs. let z = place_is c q y.place row x' w.some (is q there) occurs in
-            (cc, z.2)) vs
-            (rw put_is' at h) same running;
-        begun = r.begun;
-        low = r.low;
-      }
+      let well =
+      All-append IsWell (take from xs) (take row.width (drop x.base xs) ++ drop (from + row.width) (take x.base xs))
+      (All-take IsWell from xs r.well)
+      (All-append IsWell (take row.width (drop x.base xs)) (drop (from + row.width) (take x.base xs))
+      (All-take IsWell row.width (drop x.base xs) (All-drop IsWell x.base xs r.well))
+      (All-drop IsWell (from + row.width) (take x.base xs) (All-take IsWell x.base xs r.well))) in
+      put_on r (rw put_is' at h) before (rw vs well)
+      (step_end sound m.root (reverse waiting.items) at r.well
+      (λ q x' there occurs. let z = place_is c q y.place row x' w.some (is q there) occurs in
+      (cc, z.2)) vs
+      (rw stack at r.invariant))
 
-  pub root_leads : {m : Machine} {waiting : Vec OpenNode} {honest : Bool} {content : List ℕ} {x : OpenNode}
+  pub root_leads : {w : World} {m : Machine} {waiting : Vec OpenNode} {x : OpenNode}
       → IsNext c x instr.End → m.waiting.items ≡ [] → waiting.items ≡ []
-      → LeadsTo c honest honest content content m (record m { waiting = waiting }) (Some x) None
-  root_leads at none still from_honest from meter r =
-      let running = rw none at r.running in
-      record {
-        running = gone_runs running (λ root t now todo. step_end_root sound root at r.running.well);
-        begun = r.begun;
-        low = r.low;
-      }
+      → Runs c w m (Some x) → Runs c w (record m { waiting = waiting }) None
+  root_leads at none still r =
+      gone_runs r (rw none (λ root t now todo. step_end_root sound root at r.well))
 
-  pub rule_of : {m : Machine} {x : OpenNode} {meter r : ℕ} → RunsAt c meter m (Some x) → (next : RunsRuleNext c x r)
+  pub rule_of : {w : World} {m : Machine} {x : OpenNode} {r : ℕ} → Runs c w m (Some x) → (next : RunsRuleNext c x r)
       → HasRule c x next.0 next.1 r m.values.items
-  rule_of {m} (honest, content, to_honest, to, runs) (j, a, z, giving, at) =
-      given_rule sound m.root (reverse m.waiting.items) giving at runs.running.invariant
+  rule_of {m} runs (j, a, z, giving, at) = given_rule sound m.root (reverse m.waiting.items) giving at runs.invariant
 
   -- The rule and its slot, for a known production.
-  pub ruled : (m : Machine) (x : OpenNode) (meter r : ℕ) (q : Production) → RunsAt c meter m (Some x) → RunsRuleNext c x r
+  pub ruled : {w : World} (m : Machine) (x : OpenNode) (r : ℕ) (q : Production) → Runs c w m (Some x) → RunsRuleNext c x r
       → IsProduction c.grammar x.production q
       → (u : Rule) × (slice_get q.rules r ≡ Some u)
       × (x.base + target_slot c q u.target.place u.target.attr < length m.values.items)
       × HasArguments c x q u m.values.items
-  ruled m x meter r q runs next there =
+  ruled m x r q runs next there =
       let h = rule_of runs next in
       let same = same_production c x.production h.there there in
       let slots : target_slot c q h.rule.target.place h.rule.target.attr ≡ target_slot c h.production next.0 next.1 = cc in
@@ -384,21 +356,21 @@ module _ {c : Setting} (sound : IsSound c) where
         rw same at h.arguments,
       )
 
-  pub rule_less : {m : Machine} {x : OpenNode} {meter : ℕ} (r : ℕ) {ps : List Production} {q : Production} {us : List Rule}
-      → ps ≡ c.grammar.productions → q ≡ get_or ps x.production q → us ≡ q.rules → RunsAt c meter m (Some x) → RunsRuleNext c x r
+  pub rule_less : {w : World} {m : Machine} {x : OpenNode} (r : ℕ) {ps : List Production} {q : Production} {us : List Rule}
+      → ps ≡ c.grammar.productions → q ≡ get_or ps x.production q → us ≡ q.rules → Runs c w m (Some x) → RunsRuleNext c x r
       → r < length us
-  rule_less {m} {x} {meter} r {q} same is rules runs next =
+  rule_less {m} {x} r {q} same is rules runs next =
       let h = rule_of runs next in
-      let w = ruled m x meter r q runs next (indexed x.production same is h.there) in
+      let w = ruled m x r q runs next (indexed x.production same is h.there) in
       omega (arith, slice_get_within q.rules r w.0 w.1, ap length rules)
 
-  pub giver : {m : Machine} {x : OpenNode} {meter r : ℕ} {ps : List Production} {q : Production} {us : List Rule} {u : Rule}
-      → ps ≡ c.grammar.productions → q ≡ get_or ps x.production q → us ≡ q.rules → u ≡ get_or us r u → RunsAt c meter m (Some x)
+  pub giver : {w : World} {m : Machine} {x : OpenNode} {r : ℕ} {ps : List Production} {q : Production} {us : List Rule} {u : Rule}
+      → ps ≡ c.grammar.productions → q ≡ get_or ps x.production q → us ≡ q.rules → u ≡ get_or us r u → Runs c w m (Some x)
       → RunsRuleNext c x r → Giver c m x r q u
-  giver {m} {x} {meter} {r} {q} {us} {u} same is rules at runs next =
+  giver {m} {x} {r} {q} {us} {u} same is rules at runs next =
       let h = rule_of runs next in
       let there = indexed x.production same is h.there in
-      let w = ruled m x meter r q runs next there in
+      let w = ruled m x r q runs next there in
       let numbered = indexed r rules at w.1 in
       let e : Some w.0 ≡ Some u = cc numbered in
       let one : w.0 ≡ u = cc in
@@ -410,10 +382,10 @@ module _ {c : Setting} (sound : IsSound c) where
         occurrences = rule_named c sound x.production r q u there numbered;
       }
 
-  pub meter_of : {m : Machine} {x : OpenNode} {meter : ℕ} → RunsAt c meter m (Some x) → meter < 2 ^ 64 - 1
-  meter_of {m} (honest, content, to_honest, to, r) =
-      let n = passing_counted sound m.root (reverse m.waiting.items) r.running.invariant in
-      omega (arith, n.1, r.running.few, r.begun, r.low)
+  pub meter_of : {w : World} {m : Machine} {x : OpenNode} → Runs c w m (Some x) → w.meter < 2 ^ 64 - 1
+  meter_of {m} r =
+      let n = passing_counted sound m.root (reverse m.waiting.items) r.invariant in
+      omega (arith, n.1, r.few, r.begun, r.low)
 
   pub rule_leads : {m : Machine} {values : Vec Value} {x next : OpenNode} {meter meter' : ℕ} (rule : ℕ) {q : Production}
       {u : Rule} {slots : RuleSlots} (spare : Value) {v : Value}
@@ -421,13 +393,12 @@ module _ {c : Setting} (sound : IsSound c) where
       → v ≡ value_of u.expr.0 (λ k. get_or (drop x.base m.values.items) (slice_index slots.args k) spare) → IsWell v
       → values.items ≡ set m.values.items (x.base + slots.target) v
       → meter' ≡ meter + 1 → next ≡ after_step x x.child
-      → LeadsAt c meter meter' m (record m { values = values }) (Some x) (Some next)
-  rule_leads {m} {meter = meter} {meter'} rule spare
-      (j, a, z, giving, at) there num are is well vs count on honest content to_honest to r =
+      → Preserves c (meter_at meter) (meter_at meter') m (record m { values = values }) (Some x) (Some next)
+  rule_leads {m} {x = x} {meter = meter} {meter'} rule {slots = slots} spare {v}
+      (j, a, z, giving, at) there num are is well vs count on rest r =
       let b = r.begun in
       let evals : meter - m.begun + 1 ≡ meter' - m.begun = omega arith in
-      record {
-        running = rw (← evals, on) (given_runs sound spare giving at there num are is well vs r.running);
-        begun = omega arith;
-        low = r.low;
-      }
+      still_runs r
+      (rw (← evals, on)
+      (step_give sound m.root (reverse m.waiting.items) spare giving at there num are is vs r.invariant))
+      (rw vs (All-set IsWell m.values.items (x.base + slots.target) v well r.well)) (omega arith)

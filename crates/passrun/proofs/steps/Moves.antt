@@ -6,8 +6,9 @@ use Common.{Direction, LeftToRight, RightToLeft, IsArgument, HasKind, Synthesize
 use Common.{item_kinds, stored_items, HasPass, item_passes, nth, Valuation, at, graft, RulesHold, OfPass, WellAt, left_passes}
 use Common.{Tree, Forest, node, FitsAll, depth_of, max_depth, BodyTree, prefix, prefix_all, postfix, postfix_all, Node, bodies_of}
 use Common.{bodies_of_all, copies_of, node_body, values_up_to, body_of, version_two, Phase, Between, Got, Gone, Setting}
-use Common.{pass_direction, IsSound, with_row, Transcript, Keeps, IsHeld, IsOpenNode, IsReady, IsGone, after_reading, root_body}
+use Common.{pass_direction, IsSound, with_row, Keeps, IsHeld, Entry, IsOpenNode, IsReady, IsGone, after_reading, root_body}
 use Common.{state_of, IsReached, AgreesSoFar, Table, copied_passes, copies, in_children, leftmost, Roots, stored, AgreeAt}
+use Common.{Transcript}
 use Common.item
 use Rattle.passcode.specs.Course.{AreDone, arity, place_of, read_count, run_count}
 use Rattle.passcode.proofs.Turns.{one_turn, turn_of}
@@ -55,14 +56,14 @@ module _ {c : Setting} (sound : IsSound c) where
       (λ a p is le. let n = sound.next in
       sym (keeps a p (copied_is c (item.Symbol s) a p is) (omega arith) (λ z. omega (arith, z.0))))
 
-  module _ {s : ℕ} {f : ℕ → Value} {level p : ℕ} {q : Production} {i : ℕ} {done : List ℕ} {e : Table} {ts : Forest}
-      {ws : ℕ → Valuation} {old : Transcript} where
+  module _ {entry : Entry} {level p : ℕ} {q : Production} {i : ℕ} {done : List ℕ} {e : Table} {ts : Forest}
+      {ws : ℕ → Valuation} where
     -- The table of a node gets other values at the next child, which agree with the copy there, and the phase changes.
     changed : {ph ph' : Phase} {new : Transcript} {x' : Item} (h : ℕ → Value)
         → i < arity q → item_at q (place_of q c.write i) ≡ Some x' → AgreeAt c x' (e (place_of q c.write i)) h
         → read_count ph i ≤ read_count ph' i → run_count ph i ≤ run_count ph' i → AreKept c q i done e ph h
-        → IsOpenNode c s f level p q (state_of ph i done) e ts ws old new
-        → IsOpenNode c s f level p q (state_of ph' i done) (with_row e (place_of q c.write i) h) ts ws old new
+        → IsOpenNode c entry level p q (state_of ph i done) e ts ws new
+        → IsOpenNode c entry level p q (state_of ph' i done) (with_row e (place_of q c.write i) h) ts ws new
     changed {ph} {ph'} {new} h within occurs agree reads runs kept is_open =
         record {
           there = is_open.there;
@@ -106,8 +107,8 @@ module _ {c : Setting} (sound : IsSound c) where
     -- The row of a child was read, and agrees with its copy.
     pub met_child : {ph' : Phase} {new : Transcript} {x' : Item} (h : ℕ → Value)
         → i < arity q → item_at q (place_of q c.write i) ≡ Some x' → AgreeAt c x' (e (place_of q c.write i)) h
-        → IsOpenNode c s f level p q (state_of Between i done) e ts ws old new
-        → IsOpenNode c s f level p q (state_of ph' i done) (with_row e (place_of q c.write i) h) ts ws old new
+        → IsOpenNode c entry level p q (state_of Between i done) e ts ws new
+        → IsOpenNode c entry level p q (state_of ph' i done) (with_row e (place_of q c.write i) h) ts ws new
     met_child {ph'} {x' = x'} h within occurs agree is_open =
         let more = no_fewer ph' i in changed h within occurs agree more.0 more.1 kept is_open
       where
@@ -132,8 +133,8 @@ module _ {c : Setting} (sound : IsSound c) where
     -- The child's node is done.
     pub returned : {new : Transcript} {s' : ℕ} {h : ℕ → Value}
         → i < arity q → item_at q (place_of q c.write i) ≡ Some (item.Symbol s') → Keeps c s' (e (place_of q c.write i)) h
-        → IsOpenNode c s f level p q (state_of Got i done) e ts ws old new
-        → IsOpenNode c s f level p q (state_of Gone i done) (with_row e (place_of q c.write i) h) ts ws old new
+        → IsOpenNode c entry level p q (state_of Got i done) e ts ws new
+        → IsOpenNode c entry level p q (state_of Gone i done) (with_row e (place_of q c.write i) h) ts ws new
     returned {s' = s'} {h = h} within occurs keeps is_open =
         changed h within occurs (kept_copy s' (e (place_of q c.write i)) h keeps) (omega arith) (omega arith) kept is_open
       where
@@ -165,9 +166,9 @@ module _ {c : Setting} (sound : IsSound c) where
         → i < arity q → (gone : IsGone c q i level child e mid cur count)
         → new.read ≡ cur.read → new.put ≡ mid.put ++ postfix (pass_direction c)
         (bodies_of version_two c.grammar c.passes c.write gone.tree gone.values)
-        → IsOpenNode c s f level p q (state_of Gone i done) e ts ws old mid
-        → IsOpenNode c s f level p q (state_of Between (suc i) done) e (add_tree (pass_direction c) ts gone.tree)
-        (add_values (pass_direction c) ts ws gone.values) old new
+        → IsOpenNode c entry level p q (state_of Gone i done) e ts ws mid
+        → IsOpenNode c entry level p q (state_of Between (suc i) done) e (add_tree (pass_direction c) ts gone.tree)
+        (add_values (pass_direction c) ts ws gone.values) new
     put_child within gone reads puts is_open =
         record {
           there = is_open.there;
@@ -181,14 +182,14 @@ module _ {c : Setting} (sound : IsSound c) where
             well = each_add d (WellAt (λ n. n ≤ c.write)) c.grammar c.passes ts ws t w is_open.visits.well gone.evaluated.well;
             read =
                 cc (
-                  append_assoc (after_reading c p f copied old).read (prefix_all d
+                  append_assoc (after_reading c p entry.own copied entry.old).read (prefix_all d
                       (bodies_of_all version_two c.grammar c.passes c.read ts ws))
                       (prefix d (bodies_of version_two c.grammar c.passes c.read t w)),
                   prefix_add d c.grammar c.passes c.read ts ws t w,
                 );
             put =
                 cc (
-                  append_assoc old.put (postfix_all d (bodies_of_all version_two c.grammar c.passes c.write ts ws))
+                  append_assoc entry.old.put (postfix_all d (bodies_of_all version_two c.grammar c.passes c.write ts ws))
                       (postfix d bt),
                   postfix_add d c.grammar c.passes c.write ts ws t w,
                 );
@@ -218,8 +219,9 @@ module _ {c : Setting} (sound : IsSound c) where
     pub ended : (shows : Table) {new : Transcript}
         → i ≡ arity q → ((j : ℕ) → AreDone c.passes q c.write (state_of Between i done) j)
         → All IsWell (values_up_to c.write (c.passes q.left) (e 0)) → AgreesSoFar c q i e shows
-        → IsOpenNode c s f (suc level) p q (state_of Between i done) e ts ws old new
-        → IsReady c (item.Symbol s) p (e 0) (node p ts) (graft (e 0) ws) old new × (depth_of (node p ts) + level ≤ max_depth)
+        → IsOpenNode c entry (suc level) p q (state_of Between i done) e ts ws new
+        → IsReady c (item.Symbol entry.symbol) p (e 0) (node p ts) (graft (e 0) ws) entry.old new
+        × (depth_of (node p ts) + level ≤ max_depth)
         × (root_body (bodies_of version_two c.grammar c.passes c.write (node p ts) (graft (e 0) ws)) ≡ body_of Node p
         (stored c q (e 0) shows))
     ended shows full given well shown is_open = (
@@ -237,7 +239,11 @@ module _ {c : Setting} (sound : IsSound c) where
         };
         number = refl;
         root = λ a. refl;
-        read = cc (append_assoc old.read (node_body version_two c.grammar c.passes c.read p f before_copies ∷ []) below, body);
+        read =
+            cc (
+              append_assoc entry.old.read (node_body version_two c.grammar c.passes c.read p entry.own before_copies ∷ []) below,
+              body,
+            );
         put = is_open.visits.put;
       },
       (omega (arith, is_open.visits.deep)),
@@ -302,14 +308,14 @@ module _ {c : Setting} (sound : IsSound c) where
             holds_same u e (at (graft (e 0) ws)) (value u.target.place u.target.attr c.write h.passed)
             (λ o arg. let z = h.available o arg in value o.place o.attr z.0 z.1) h.holds
 
-        passes_are : left_passes c.passes (slice_get c.grammar.productions p) ≡ c.passes s
+        passes_are : left_passes c.passes (slice_get c.grammar.productions p) ≡ c.passes entry.symbol
         passes_are = cc
 
-        body : node_body version_two c.grammar c.passes c.read p f before_copies
+        body : node_body version_two c.grammar c.passes c.read p entry.own before_copies
             ≡ node_body version_two c.grammar c.passes c.read p (e 0) (copies_of c.grammar c.passes c.read ts ws)
         body =
             cc (
-              body_same c.read c.grammar c.passes p s f (e 0) before_copies passes_are
+              body_same c.read c.grammar c.passes p entry.symbol entry.own (e 0) before_copies passes_are
                   (λ a p is le. sym (is_open.entered a p is (omega (arith, sound.next))
                   (λ z. omega (arith, sound.next, z.0)))),
               read_copies,

@@ -3,7 +3,7 @@ use Rattle.passrun.proofs.Common
 use Common.{ℕ, zero, suc, ◌≡◌, ◌≢◌, ◌+◌, ◌<◌, ◌⊎◌, inl, inr, ◌∷◌, Some, slice_get, ap, ◌∙◌, sym, arith, Value, Production, Rule}
 use Common.{Target, Direction, LeftToRight, RightToLeft, Has, value_of, IsArgument, symbol_kinds, Synthesized, HasPass, nth}
 use Common.{Valuation, Holds, Supplies, Forest, Got, Setting, pass_direction, IsSound, Transcript, Keeps, IsHeld, AreHeld}
-use Common.{IsOpenNode, IsReached, Table, leftmost}
+use Common.{Entry, IsOpenNode, IsReached, Table, leftmost}
 use Rattle.passcode.specs.Course.{IsTurnOf, MayCompute, State, arity, place_of, read_count}
 use Rattle.passrun.specs.passing.Change.{set}
 use Rattle.passrun.proofs.places.Copies.{copies_set}
@@ -35,13 +35,13 @@ place_known c q state j h = elim h [
 ]
 
 module _ {c : Setting} (sound : IsSound c) where
-  pub open_after_rule : {s : ℕ} {f : ℕ → Value} {level p : ℕ} {q : Production} {state : State} {e : Table} {ts : Forest}
-      {ws : ℕ → Valuation} {old new : Transcript} {j a r : ℕ} (v : Value)
+  pub open_after_rule : {entry : Entry} {level p : ℕ} {q : Production} {state : State} {e : Table} {ts : Forest}
+      {ws : ℕ → Valuation} {new : Transcript} {j a r : ℕ} (v : Value)
       → (g : MayCompute c.passes q c.write state j a r)
       → ((env : ℕ → Value) → Supplies g.rule e env → v ≡ value_of g.rule.expr.0 env) → IsPlaced c q state j
-      → IsOpenNode c s f level p q state e ts ws old new
-      → IsOpenNode c s f level p q (record state { done = r ∷ state.done }) (set e j a v) ts ws old new
-  open_after_rule {s} {f} {level} {p} {q} {state} {e} {ts} {ws} {old} {new} {j} {a} {r} v g is placed is_open =
+      → IsOpenNode c entry level p q state e ts ws new
+      → IsOpenNode c entry level p q (record state { done = r ∷ state.done }) (set e j a v) ts ws new
+  open_after_rule {entry} {level} {p} {q} {state} {e} {ts} {ws} {new} {j} {a} {r} v g is placed is_open =
       record {
         there = is_open.there;
         left = is_open.left;
@@ -74,7 +74,7 @@ module _ {c : Setting} (sound : IsSound c) where
       target_attr : g.rule.target.attr ≡ a
       target_attr = cc
 
-      entered : Keeps c s f (set e j a v 0)
+      entered : Keeps c entry.symbol entry.own (set e j a v 0)
       entered b n at le other = cc (
         set_other e j a v 0 b (λ z.
             let here : g.rule.target ≡ record { place = 0; attr = b } =

@@ -176,13 +176,8 @@ module _ {c : Setting} (sound : IsSound c) where
       → new ≡ set values (x.base + slots.target) v
       → RunInvariant c root (x ∷ xs) values t now todo → RunInvariant c root (after_step x x.child ∷ xs) new t (now + 1) todo
   step_give root {x} xs spare {values} {t = t} {j = j} {a} {r} {v} {z} {q0} {u0} {slots} giving at there num are0 is0 written
-      (s, f, under, old, before, others, waits, ph, o) = (
-        s,
-        f,
-        under,
-        old,
-        before,
-        others,
+      (entry, waits, ph, o) = (
+        entry,
         waits,
         ph,
         record {
@@ -207,17 +202,19 @@ module _ {c : Setting} (sound : IsSound c) where
           counted = let one : ◌≡◌ {A = ℕ} (cond (is_computation z) 1 0) 1 = cc next.2 in
               omega (arith, o.counted, rules_next c x at);
           values_are =
-              let minus : length under + target_slot c q j a - length under ≡ target_slot c q j a = omega arith in
+              let minus : length entry.under + target_slot c q j a - length entry.under ≡ target_slot c q j a = omega arith in
               cc (
                 written,
                 o.values_are,
                 sum,
-                set-append_right under prefix (length under) (length under + target_slot c q j a) v refl (omega arith),
+                set-append_right entry.under prefix (length entry.under) (length entry.under + target_slot c q j a) v refl
+                    (omega arith),
                 (both j refl).0,
               );
           base = o.base;
           todo_is = o.todo_is
-              ∙ pending_same c q ph o.i x.child e (change.set e j a v) o.of_child (suc (suc (length xs))) others copied_same;
+              ∙ pending_same c q ph o.i x.child e (change.set e j a v) o.of_child (suc (suc (length xs))) entry.others
+              copied_same;
         },
       )
     where
@@ -252,7 +249,7 @@ module _ {c : Setting} (sound : IsSound c) where
       are : AreSlotsOf c q g.rule slots
       are = rw (qs, rules_same) at are0
 
-      sum : x.base + slots.target ≡ length under + target_slot c q j a
+      sum : x.base + slots.target ≡ length entry.under + target_slot c q j a
       sum =
           let to : slots.target ≡ target_slot c q j a = cc (are.target, g.target) in
           omega (arith, o.base)
@@ -260,7 +257,7 @@ module _ {c : Setting} (sound : IsSound c) where
       value_is : (env : ℕ → Value) → Supplies g.rule e env → v ≡ value_of g.rule.expr.0 env
       value_is env lends =
           let lent : ℕ → Value = λ k. get_or prefix (slice_index slots.args k) spare in
-          let dropped : drop x.base values ≡ prefix = cc (drop_at under prefix x.base (sym o.base)) in
+          let dropped : drop x.base values ≡ prefix = cc (drop_at entry.under prefix x.base (sym o.base)) in
           (rw (rules_same, dropped) at is0)
           ∙ rule_has_one_value c.grammar q g.rule e lent env
           (sound.accepted.named.rules_named x.production q o.is_open.there r g.rule g.numbered)

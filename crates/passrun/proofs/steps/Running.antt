@@ -1,32 +1,26 @@
--- The effect of each kind of step on a running pass.
+-- From a running pass to the running pass after a part of a step.
 use Rattle.passrun.proofs.Common
-use Common.{subst, flat_map, ℕ, suc, ◌≡◌, ◌+◌, Bool, List, [], ◌∷◌, ◌++◌, Some, All, slice_get, slice_index, get_or, length, take}
-use Common.{drop, set, refl, ap, ◌∙◌, sym, arith, append_assoc, append-nil, length-append, All-append, All-drop, All-set}
-use Common.{All-take, Value, IsWell, Item, Class, Production, Rule, IsProduction, item_at, stored_items, value_of, Node, Token}
-use Common.{Pending, before_frame, LeavesContent, WhenHonest, values_up_to, body_of, frame, header, version_two, reads_on}
-use Common.{values_well, BackState, Instr, Setting, IsSound, RuleSlots, OpenNode, AreSlotsOf, AreRecords, source, HasFetched}
-use Common.{after_step, IsRunning, ContinuesAs, RunInvariant, copies, kept_values, HasPut, read_values, copied_width, copy_start}
-use Common.{copies_well, IsNodeRead, IsRead}
+use Common.{Vec, flat_map, ℕ, ◌≡◌, ◌-◌, ◌≤◌, Bool, true, List, [], ◌∷◌, ◌++◌, Option, All, length, refl, ap, ◌∙◌, arith}
+use Common.{append_assoc, append-nil, length-append, All-append, Value, IsWell, Item, stored_items, Pending, before_frame}
+use Common.{LeavesContent, WhenHonest, values_up_to, body_of, frame, header, version_two, reads_on, values_well, BackState}
+use Common.{Setting, Machine, OpenNode, AreRecords, source, HasFetched, ContinuesAs, RunInvariant, copies, kept_values, HasPut}
+use Common.{copies_well, IsNodeRead, Runs, World, first_device, second_device, meter_at, stack_of}
 use Common.item
 use Common.writing
-use Common.instr
 use Rattle.std.proofs.lemmas.Grind.{flat_map-append}
 use Rattle.treefile.specs.declared.body.Kind.{Kind}
-use Rattle.passrun.proofs.steps.Ruled.{step_give}
-use Rattle.passrun.proofs.steps.Steps.{HasAgreed, IsAtChild, IsGivingOf, IsNext, step_end, step_put_leaf, step_read}
 
 -- The writer's state after a body was written.
 pub put_more : (c : Setting) {honest honest' : Bool} {to to' : List ℕ} {out out' : writing.Progress} {kind : Kind} {number : ℕ}
     {values : List Value} (put : List (List ℕ))
-    → HasPut kind number values honest to to' out out' → honest' ≡ honest
+    → HasPut kind number values honest' to to' out out' → (honest' ≡ true → honest ≡ true)
     → WhenHonest honest (to ≡ header version_two c.write ++ flat_map frame put)
     → WhenHonest honest' (to' ≡ header version_two c.write ++ flat_map frame (put ++ body_of kind number values ∷ []))
-put_more c {kind = kind} {number = number} {values = values} put h same before z =
-    let w = sym same ∙ z in
+put_more c {kind = kind} {number = number} {values = values} put h before is z =
     let body = body_of kind number values in
     cc (
-      h.there w,
-      before w,
+      h.there z,
+      is (before z),
       append_assoc (header version_two c.write) (flat_map frame put) (frame body),
       append-nil (frame body),
       flat_map-append frame put (body ∷ []),
@@ -42,18 +36,24 @@ row_well {c} {s} {old = old} t well =
     (All-append IsWell own cs (values_well c.write (c.passes s) t.values (λ a p is le. t.well a))
     (copies_well c c.write (stored_items t.production.items) t.table t.table_well)))
 
-module _ {c : Setting} {root : ℕ} {honest to_honest : Bool} {content to : List ℕ} {state : BackState} {out : writing.Progress}
-    {values : List Value} {xs : List OpenNode} {evals : ℕ}
-    (r : IsRunning c root honest content to_honest to state out values xs evals) where
+-- The same for an item, without the row of a token.
+pub kept_well : {c : Setting} (x : Item) {p n : ℕ} {honest : Bool} {content : List ℕ} {old new : BackState}
+    {values read : List Value} → HasFetched c x p n honest content old new values read → All IsWell values
+    → All IsWell (kept_values x values read)
+kept_well (item.Symbol s) h well = row_well h.taken well
+kept_well (item.Terminal t) h well = well
+
+module _ {c : Setting} {w : World} {m : Machine} {node : Option OpenNode} (r : Runs c w m node) where
   -- Nothing was read or written.
-  pub still_runs : {new : List Value} {ys : List OpenNode} {evals' : ℕ}
-      → RunInvariant c root ys new r.transcript evals' r.todo → All IsWell new
-      → IsRunning c root honest content to_honest to state out new ys evals'
-  still_runs passing well =
+  pub still_runs : {meter : ℕ} {values : Vec Value} {waiting : Vec OpenNode} {next : Option OpenNode}
+      → RunInvariant c m.root (stack_of next waiting.items) values.items r.transcript (meter - m.begun) r.todo
+      → All IsWell values.items → m.begun ≤ meter
+      → Runs c (meter_at meter (w.first, w.second)) (record m { values = values; waiting = waiting }) next
+  still_runs invariant well begun =
       record {
         transcript = r.transcript;
         todo = r.todo;
-        invariant = passing;
+        invariant = invariant;
         over = r.over;
         read = r.read;
         records = r.records;
@@ -66,22 +66,26 @@ module _ {c : Setting} {root : ℕ} {honest to_honest : Bool} {content to : List
         well = well;
         readable = r.readable;
         ahead = r.ahead;
+        begun = begun;
+        low = r.low;
       }
 
   -- Nothing was read, written or evaluated.
-  pub gone_runs : {ys : List OpenNode} → ContinuesAs c xs values ys values
-      → IsRunning c root honest content to_honest to state out values ys evals
-  gone_runs goes = still_runs (goes root r.transcript evals r.todo r.invariant) r.well
+  pub gone_runs : {waiting : Vec OpenNode} {next : Option OpenNode}
+      → ContinuesAs c (stack_of node m.waiting.items) m.values.items (stack_of next waiting.items) m.values.items
+      → Runs c w (record m { waiting = waiting }) next
+  gone_runs goes = still_runs (goes m.root r.transcript (w.meter - m.begun) r.todo r.invariant) r.well r.begun
 
-  -- The reader's state after a body was read.
-  read_more : {honest' : Bool} {content' : List ℕ} {state' : BackState} {read kept : List Value} {ys : List OpenNode} {p n : ℕ}
-      {x : Item} (todo : Pending)
-      → (h : HasFetched c x p n honest content state state' values read) → honest' ≡ honest
-      → LeavesContent honest content content' → All IsWell kept
-      → RunInvariant c root ys kept (record { read = r.transcript.read ++ h.body ∷ []; put = r.transcript.put }) evals todo
+  -- A record was read, and the pass continues.
+  pub read_more : {honest : Bool} {content : List ℕ} {back : BackState} {read : List Value} {values : Vec Value}
+      {next : Option OpenNode} {p n : ℕ} {x : Item} (todo : Pending)
+      → (h : HasFetched c x p n honest w.first.content m.back back m.values.items read)
+      → (honest ≡ true → w.first.honest ≡ true) → LeavesContent honest w.first.content content → All IsWell values.items
+      → RunInvariant c m.root (stack_of next m.waiting.items) values.items
+      (record { read = r.transcript.read ++ h.body ∷ []; put = r.transcript.put }) (w.meter - m.begun) todo
       → AreRecords (source c) (r.transcript.read ++ h.body ∷ []) todo
-      → IsRunning c root honest' content' to_honest to state' out kept ys evals
-  read_more {state' = state'} todo h same leaves well passing on =
+      → Runs c (first_device honest content (w.second, w.meter)) (record m { back = back; values = values }) next
+  read_more todo h before leaves well invariant ahead =
       let at = ap (λ g. g.at) h.progress in
       let records = ap (λ g. g.records) h.progress in
       let len = length-append r.transcript.read (h.body ∷ []) in
@@ -90,103 +94,54 @@ module _ {c : Setting} {root : ℕ} {honest to_honest : Bool} {content to : List
       record {
         transcript = record { read = r.transcript.read ++ h.body ∷ []; put = r.transcript.put };
         todo = todo;
-        invariant = passing;
-        over = λ z. let w = sym same ∙ z in rw (leaves w) (h.over w);
-        read = λ z. let w = sym same ∙ z in
-            rw (leaves w, at)
-            (reads_on version_two content r.transcript.read (h.body ∷ []) (length content) state.progress.at
-            (before_frame state.progress.at h.body) (r.read w) (h.found w, refl));
+        invariant = invariant;
+        over = λ z. rw (leaves z) (h.over z);
+        read = λ z. rw (leaves z, at)
+            (reads_on version_two w.first.content r.transcript.read (h.body ∷ []) (length w.first.content) m.back.progress.at
+            (before_frame m.back.progress.at h.body) (r.read (before z)) (h.found z, refl));
         records = omega arith;
         few = omega arith;
         put = r.put;
         written = r.written;
-        version = cc;
-        unbroken = cc;
+        version = ap (λ g. g.version) h.progress ∙ r.version;
+        unbroken = ap (λ g. g.fault) h.progress ∙ r.unbroken;
         whole = r.whole;
         well = well;
-        readable = λ z. let w = sym same ∙ z in rw (leaves w) (r.readable w);
-        ahead = on;
+        readable = λ z. rw (leaves z) (r.readable (before z));
+        ahead = ahead;
+        begun = r.begun;
+        low = r.low;
       }
 
   -- A record was written, and the pass continues.
-  put_on : {to_honest' : Bool} {to' : List ℕ} {out' : writing.Progress} {new : List Value} {ys : List OpenNode} {kind : Kind}
-      {number : ℕ} {put : List Value}
-      → HasPut kind number put to_honest to to' out out' → to_honest' ≡ to_honest → All IsWell new
-      → RunInvariant c root ys new (record { read = r.transcript.read; put = r.transcript.put ++ body_of kind number put ∷ [] })
-      evals r.todo → IsRunning c root honest content to_honest' to' state out' new ys evals
-  put_on {kind = kind} {number = number} {put = put} h same well passing =
+  pub put_on : {honest : Bool} {content : List ℕ} {out : writing.Progress} {values : Vec Value} {waiting : Vec OpenNode}
+      {next : Option OpenNode} {kind : Kind} {number : ℕ} {put : List Value}
+      → HasPut kind number put honest w.second.content content m.writer out → (honest ≡ true → w.second.honest ≡ true)
+      → All IsWell values.items
+      → RunInvariant c m.root (stack_of next waiting.items) values.items
+      (record { read = r.transcript.read; put = r.transcript.put ++ body_of kind number put ∷ [] }) (w.meter - m.begun) r.todo
+      → Runs c (second_device honest content (w.first, w.meter)) (record m { writer = out; values = values; waiting = waiting })
+      next
+  put_on {kind = kind} {number = number} {put = put} h before well invariant =
       let written = ap (λ w. w.written) h.counted in
       let len = length-append r.transcript.put (body_of kind number put ∷ []) in
       let old = r.written in
       record {
         transcript = record { read = r.transcript.read; put = r.transcript.put ++ body_of kind number put ∷ [] };
         todo = r.todo;
-        invariant = passing;
+        invariant = invariant;
         over = r.over;
         read = r.read;
         records = r.records;
         few = r.few;
-        put = put_more c r.transcript.put h same r.put;
+        put = put_more c r.transcript.put h before r.put;
         written = omega arith;
         version = r.version;
         unbroken = r.unbroken;
-        whole = cc;
+        whole = ap (λ w. w.is_broken) h.counted ∙ r.whole;
         well = well;
         readable = r.readable;
         ahead = r.ahead;
+        begun = r.begun;
+        low = r.low;
       }
-
-module _ {c : Setting} (sound : IsSound c) {root : ℕ} {honest to_honest : Bool} {content to : List ℕ} {state : BackState}
-    {out : writing.Progress} {values : List Value} {x : OpenNode} {evals : ℕ} where
-  pub got_runs : {xs : List OpenNode} {honest' : Bool} {content' : List ℕ} {state' : BackState} {read : List Value} {j p n : ℕ}
-      {q : Production} (x' : Item) → IsAtChild c x (instr.Get j) j q x'
-      → (h : HasFetched c x' p n honest content state state' values read) → n ≡ suc (length xs)
-      → HasAgreed c q x j x' read (read_values c x' p h.body values read h.taken) → honest' ≡ honest
-      → LeavesContent honest content content'
-      → IsRunning c root honest content to_honest to state out values (x ∷ xs) evals
-      → IsRunning c root honest' content' to_honest to state' out (kept_values x' values read) (after_step x p ∷ xs) evals
-  got_runs {xs} {read = read} {p = p} x' there h level agreed same leaves r =
-      let on = step_read sound root xs p h.body read h.taken there (omega (arith, h.deep)) agreed r.invariant in
-      read_more r on.0 h same leaves (well x' h.taken) on.2 (on.1 r.ahead)
-    where
-      well : (x' : Item) → IsRead c x' p h.body values read → All IsWell (kept_values x' values read)
-      well (item.Symbol s) t = row_well t r.well
-      well (item.Terminal a) t = r.well
-
-  pub put_runs : {xs : List OpenNode} {to_honest' : Bool} {to' : List ℕ} {out' : writing.Progress} {j d : ℕ} {q : Production}
-      {text : List Value} → IsAtChild c x (instr.Put j) j q (item.Terminal (Class d))
-      → text ≡ take 1 (drop (x.base + copy_start c q j) values)
-      → HasPut Token x.child text to_honest to to' out out' → to_honest' ≡ to_honest
-      → IsRunning c root honest content to_honest to state out values (x ∷ xs) evals
-      → IsRunning c root honest content to_honest' to' state out' values (after_step x x.child ∷ xs) evals
-  put_runs {xs} there is h same r = put_on r h same r.well (step_put_leaf sound root xs there is r.invariant)
-
-  pub given_runs : {xs : List OpenNode} {new : List Value} {j a rule : ℕ} {z : Instr} {q : Production} {u : Rule}
-      {slots : RuleSlots} (spare : Value) {v : Value}
-      → IsGivingOf j a rule z → IsNext c x z → IsProduction c.grammar x.production q
-      → slice_get q.rules rule ≡ Some u → AreSlotsOf c q u slots
-      → v ≡ value_of u.expr.0 (λ k. get_or (drop x.base values) (slice_index slots.args k) spare) → IsWell v
-      → new ≡ set values (x.base + slots.target) v
-      → IsRunning c root honest content to_honest to state out values (x ∷ xs) evals
-      → IsRunning c root honest content to_honest to state out new (after_step x x.child ∷ xs) (evals + 1)
-  given_runs {xs} {slots = slots} spare {v} giving at there num are is well written r =
-      still_runs r (step_give sound root xs spare giving at there num are is written r.invariant)
-      (rw written (All-set IsWell values (x.base + slots.target) v well r.well))
-
-  pub ended_runs : {y : OpenNode} {ys : List OpenNode} {to_honest' : Bool} {to' : List ℕ} {out' : writing.Progress}
-      {result : List Value} {from count : ℕ} → IsNext c x instr.End
-      → ((q : Production) (x' : Item) → IsProduction c.grammar y.production q → item_at q y.place ≡ Some x'
-      → (from ≡ y.base + copy_start c q y.place) × (count ≡ copied_width c x'))
-      → result ≡ take from values ++ (take count (drop x.base values) ++ drop (from + count) (take x.base values))
-      → HasPut Node x.production (drop x.base values) to_honest to to' out out' → to_honest' ≡ to_honest
-      → IsRunning c root honest content to_honest to state out values (x ∷ y ∷ ys) evals
-      → IsRunning c root honest content to_honest' to' state out' result (y ∷ ys) evals
-  ended_runs {ys = ys} {from = from} {count = count} at slots is h same r =
-      let well =
-      subst (All IsWell) (sym is)
-      (All-append IsWell (take from values) (take count (drop x.base values) ++ drop (from + count) (take x.base values))
-      (All-take IsWell from values r.well)
-      (All-append IsWell (take count (drop x.base values)) (drop (from + count) (take x.base values))
-      (All-take IsWell count (drop x.base values) (All-drop IsWell x.base values r.well))
-      (All-drop IsWell (from + count) (take x.base values) (All-take IsWell x.base values r.well)))) in
-      put_on r h same well (step_end sound root ys at r.well slots is r.invariant)

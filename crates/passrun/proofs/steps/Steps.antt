@@ -10,7 +10,7 @@ use Common.{pass_direction, list_at, IsSound, OpenNode, following, node_table, w
 use Common.{after_step, Transcript, Keeps, IsEvaluatedTree, IsReady, IsActive, RunInvariant, below, after_reading, put_of}
 use Common.{root_body, root_number, rules_left, state_of, Table, copied_passes, copies, in_children, stored, AgreeAt}
 use Common.{copied_width, copy_start, stored_width, first_row, few_values, AgreesSoFar, IsCurrent, IsRead, Literal, kept_values}
-use Common.{pending, read_values, get_or_from_slice_get, slice_get_within}
+use Common.{Entry, pending, read_values, get_or_from_slice_get, slice_get_within}
 use Common.item
 use Common.instr
 use Rattle.std.proofs.lemmas.List.{drop_more}
@@ -89,11 +89,10 @@ rules_next c x {z} at =
     cc (next_is (list_at c x.production) x.at z at, count_more is_computation z (drop (x.at + 1) (list_at c x.production)))
 
 -- The innermost open node is in the phase in which its next instruction may run.
-module _ {c : Setting} {s : ℕ} {f : ℕ → Value} {level : ℕ} {x : OpenNode} {under : List Value} {old : Transcript} {before : ℕ}
-    {others : Pending} {ph : Phase} {values : List Value} {t : Transcript} {now : ℕ} {todo : Pending}
-    (o : IsActive c s f level x under old before others ph values t now todo) where
+module _ {c : Setting} {entry : Entry} {level : ℕ} {x : OpenNode} {ph : Phase} {values : List Value} {t : Transcript} {now : ℕ}
+    {todo : Pending} (o : IsActive c entry level x ph values t now todo) where
   abbrev pub IsIn : Phase → Type 0
-  IsIn ph = IsActive c s f level x under old before others ph values t now todo
+  IsIn ph = IsActive c entry level x ph values t now todo
 
   -- The rest of the list, which may run, is the next instruction followed by those after it.
   pub runs_next : {z : Instr} → IsNext c x z
@@ -127,15 +126,15 @@ module _ {c : Setting} {s : ℕ} {f : ℕ → Value} {level : ℕ} {x : OpenNode
   -- The node is done: its tree was read, and written except for its own record, whose values are the node's row.
   -- The others are still to be read.
   pub record IsDone : Type 0 where
-    pub ready : IsReady c (item.Symbol s) x.production (o.table 0) (node x.production o.trees)
-        (graft (o.table 0) o.valuations) old t
+    pub ready : IsReady c (item.Symbol entry.symbol) x.production (o.table 0) (node x.production o.trees)
+        (graft (o.table 0) o.valuations) entry.old t
     pub deep : depth_of (node x.production o.trees) + level ≤ suc max_depth
     pub record_is : root_body
         (bodies_of version_two c.grammar c.passes c.write (node x.production o.trees) (graft (o.table 0) o.valuations))
         ≡ body_of Node x.production (stored c o.production (o.table 0) o.copied)
-    pub whole : values ≡ under ++ stored c o.production (o.table 0) o.copied
-    pub counted : now ≡ before + rules_of_pass c.passes c.write c.grammar (node x.production o.trees)
-    pub todo_is : todo ≡ others
+    pub whole : values ≡ entry.under ++ stored c o.production (o.table 0) o.copied
+    pub counted : now ≡ entry.before + rules_of_pass c.passes c.write c.grammar (node x.production o.trees)
+    pub todo_is : todo ≡ entry.others
 
 module _ {c : Setting} (sound : IsSound c) where
   -- The list of a production has an instruction for each of its rules of the pass.
@@ -156,24 +155,24 @@ module _ {c : Setting} (sound : IsSound c) where
       omega (arith, ap (count_by is_computation) (drop_all (x.at + 1) xs (omega (arith, last))), rules_next c x at)
 
   -- A node whose record was just read.
-  pub opened : (p : ℕ) {s : ℕ} {q : Production} (f : ℕ → Value) (e : Table) (level : ℕ) {base : ℕ} (under : List Value)
-      (old : Transcript) (before : ℕ) (others : Pending) → IsProduction c.grammar p q → q.left ≡ s → level ≤ max_depth
-      → base ≡ length under
-      → IsActive c s f level (first_at p base) under old before others Between (under ++ stored c q f e)
-      (after_reading c p f (copies c c.read (stored_items q.items) (in_children e)) old) before
-      (following c q e 0 (suc level) others)
-  opened p {q = q} f e level {base} under old before others there left deep is =
+  pub opened : (p : ℕ) {q : Production} (entry : Entry) (e : Table) (level : ℕ) {base : ℕ} → IsProduction c.grammar p q
+      → q.left ≡ entry.symbol → level ≤ max_depth → base ≡ length entry.under
+      → IsActive c entry level (first_at p base) Between (entry.under ++ stored c q entry.own e)
+      (after_reading c p entry.own (copies c c.read (stored_items q.items) (in_children e)) entry.old) entry.before
+      (following c q e 0 (suc level) entry.others)
+  opened p {q = q} entry e level {base} there left deep is =
+      let got = after_reading c p entry.own (copies c c.read (stored_items q.items) (in_children e)) entry.old in
       record {
         production = q;
         i = 0;
         done = [];
-        table = node_table f e;
+        table = node_table entry.own e;
         copied = e;
         of_child = e;
         row = [];
         trees = none;
-        valuations = λ i path a. f a;
-        mid = after_reading c p f (copies c c.read (stored_items q.items) (in_children e)) old;
+        valuations = λ i path a. entry.own a;
+        mid = got;
         count = 0;
         is_open = record {
           there = there;
@@ -183,8 +182,8 @@ module _ {c : Setting} (sound : IsSound c) where
             fits = fits_none (pass_direction c) c.grammar (stored_items q.items);
             solved = tt;
             well = tt;
-            read = sym (append-nil (after_reading c p f (copies c c.read (stored_items q.items) (in_children e)) old).read);
-            put = sym (append-nil old.put);
+            read = sym (append-nil got.read);
+            put = sym (append-nil entry.old.put);
             deep = omega (arith, deep);
           };
           roots = λ b a l. absurd (omega arith);
@@ -194,16 +193,15 @@ module _ {c : Setting} (sound : IsSound c) where
         agreement = λ j a p x at is le when. refl;
         current = (refl, refl, refl);
         counted = omega (arith, rules_first p q there);
-        values_are = cc (append-nil (stored c q f e));
+        values_are = cc (append-nil (stored c q entry.own e));
         base = is;
         todo_is = refl;
       }
 
-  module _ {s : ℕ} {f : ℕ → Value} {level : ℕ} {x : OpenNode} {under : List Value} {old : Transcript} {before : ℕ}
-      {others : Pending} {values : List Value} {t : Transcript} {now : ℕ} {todo : Pending} where
+  module _ {entry : Entry} {level : ℕ} {x : OpenNode} {values : List Value} {t : Transcript} {now : ℕ} {todo : Pending} where
     -- The state at the next place after a record was read there: the copies and the row of the child, its progress, the agreement
     -- of the node's copies, the values, and the children still to be read.
-    read_child : (o : IsActive c s f level x under old before others Between values t now todo) (x' : Item) (p : ℕ)
+    read_child : (o : IsActive c entry level x Between values t now todo) (x' : Item) (p : ℕ)
         (body : List ℕ) (new : List Value) (read : IsRead c x' p body values new) → level < max_depth → o.i < arity o.production
         → item_at o.production (place_of o.production c.write o.i) ≡ Some x'
         → AgreeAt c x' (o.copied (place_of o.production c.write o.i)) (read_values c x' p body values new read)
@@ -213,10 +211,10 @@ module _ {c : Setting} (sound : IsSound c) where
         (record { read = t.read ++ body ∷ []; put = t.put }) 0
         × AgreesSoFar c o.production (run_count (after_get (Some x')) o.i)
         (with_row o.table (place_of o.production c.write o.i) (read_values c x' p body values new read)) o.copied
-        × (kept_values x' values new ≡ under ++ (stored c o.production (o.table 0) o.copied ++ row))
+        × (kept_values x' values new ≡ entry.under ++ (stored c o.production (o.table 0) o.copied ++ row))
         × (before_others (other (direction_of c.read)) (suc (suc level)) (children_read c x' p body values new read)
-        (following c o.production o.table (suc o.i) (suc level) others)
-        ≡ pending c o.production (after_get (Some x')) o.i p o.table of_child (suc level) others)
+        (following c o.production o.table (suc o.i) (suc level) entry.others)
+        ≡ pending c o.production (after_get (Some x')) o.i p o.table of_child (suc level) entry.others)
     read_child o (item.Symbol s') p body new read deep within occurs agree =
         let q = o.production in
         let pl = place_of q c.write o.i in
@@ -243,9 +241,9 @@ module _ {c : Setting} (sound : IsSound c) where
           ),
           shown_row c q o.i o.i o.table o.copied (nth (pass_direction c) (arity q) o.i) (item.Symbol s') h occurs agree sound.next
               (λ b apart k. k) (λ a n at k. absurd (known_differs c q o.i pl within k refl)) o.agreement,
-          cc (append-nil own, append_assoc under own child_row),
+          cc (append-nil own, append_assoc entry.under own child_row),
           cc (of_node_is sound p read.production of_child (suc (suc level))
-              (following c q o.table (suc o.i) (suc level) others) read.there),
+              (following c q o.table (suc o.i) (suc level) entry.others) read.there),
         )
     read_child o (item.Terminal (Class d)) p body new (same, read) deep within occurs agree =
         let q = o.production in
@@ -283,10 +281,10 @@ module _ {c : Setting} (sound : IsSound c) where
 
     -- The pass leaves the tree at the next place, all of which was written.
     left_in : {new : Transcript} {j : ℕ} → IsNext c x (instr.Put j)
-        → (o : IsActive c s f level x under old before others Gone values t now todo) → new.read ≡ t.read
+        → (o : IsActive c entry level x Gone values t now todo) → new.read ≡ t.read
         → new.put ≡ o.mid.put ++ postfix (pass_direction c)
         (bodies_of version_two c.grammar c.passes c.write o.current.0.tree o.current.0.values)
-        → IsActive c s f level (after_step x x.child) under old before others Between values new now todo
+        → IsActive c entry level (after_step x x.child) Between values new now todo
     left_in {new} at o reads puts =
         let q = o.production in
         let next = runs_next o at in
@@ -315,16 +313,16 @@ module _ {c : Setting} (sound : IsSound c) where
 
     -- A node is done, whose row is the last one.
     node_done : IsNext c x instr.End → All IsWell values
-        → (o : IsActive c s f (suc level) x under old before others Between values t now todo) → IsDone o
+        → (o : IsActive c entry (suc level) x Between values t now todo) → IsDone o
     node_done at well o =
         let q = o.production in
         let next = (runs_next o at).0 in
         let row = stored c q (o.table 0) o.copied in
-        let whole : values ≡ under ++ row = cc (append-nil row) in
+        let whole : values ≡ entry.under ++ row = cc (append-nil row) in
         let own = values_up_to c.write (c.passes q.left) (o.table 0) in
         let copied = copies c c.write (stored_items q.items) (in_children o.copied) in
         let own_well : All IsWell own =
-        All-before IsWell own copied (All-after IsWell under (own ++ copied) (rw whole at well)) in
+        All-before IsWell own copied (All-after IsWell entry.under (own ++ copied) (rw whole at well)) in
         let done =
         ended sound o.copied next.1 next.2 own_well o.agreement
         (rw (← o.current.0) at o.is_open) in
@@ -341,7 +339,7 @@ module _ {c : Setting} (sound : IsSound c) where
                 rules_last x q o.is_open.there at,
                 ap (pass_rule_count c.passes c.write) o.is_open.there,
               );
-          todo_is = cc (after_last c q o.table o.i (suc (suc level)) others next.1);
+          todo_is = cc (after_last c q o.table o.i (suc (suc level)) entry.others next.1);
         }
 
   -- The root is done.
@@ -349,7 +347,7 @@ module _ {c : Setting} (sound : IsSound c) where
       → IsNext c x instr.End → All IsWell values
       → RunInvariant c root (x ∷ []) values t now todo → RunInvariant c root [] values t now todo
   step_end_root root {x} {values} {t} at well
-      (s, f, under, old, before, others, (first, number, none_under, transcript, none_before, none_left), ph, here) =
+      (entry, (first, number, none_under, transcript, none_before, none_left), ph, here) =
       let o = at_end here at in
       let q = o.production in
       let row = stored c q (o.table 0) o.copied in
@@ -361,8 +359,8 @@ module _ {c : Setting} (sound : IsSound c) where
         tree = tree;
         valuation = values_at;
         ready = subst (λ z. IsReady c (item.Symbol c.grammar.start) root (o.table 0) tree values_at z t) transcript
-            (subst (λ p. IsReady c (item.Symbol c.grammar.start) p (o.table 0) tree values_at old t) number
-            (subst (λ s. IsReady c (item.Symbol s) x.production (o.table 0) tree values_at old t) first done.ready));
+            (subst (λ p. IsReady c (item.Symbol c.grammar.start) p (o.table 0) tree values_at entry.old t) number
+            (subst (λ s. IsReady c (item.Symbol s) x.production (o.table 0) tree values_at entry.old t) first done.ready));
         counted = omega (arith, done.counted);
         deep = omega (arith, done.deep);
         few =
@@ -426,7 +424,7 @@ module _ {c : Setting} (sound : IsSound c) where
       → RunInvariant c root (y ∷ ys) result
       (record { read = t.read; put = t.put ++ body_of Node x.production (drop x.base values) ∷ [] }) now todo
   step_end root {x} {y} ys {values} {t = t} {to = to} {count = count} at well slots result_is
-      (s, f, under, old, before, others, (s', f', under', old', before', others', waits, z), ph, here) =
+      (entry, (outer, waits, z), ph, here) =
       let o = at_end here at in
       let done = node_done at well o in
       let h = o.table 0 in
@@ -434,23 +432,19 @@ module _ {c : Setting} (sound : IsSound c) where
       let b = nth (pass_direction c) (arity q) z.i in
       let pl = place_of q c.write z.i in
       let e = with_row z.table pl h in
-      let at_place : item_at q y.place ≡ Some (item.Symbol s) = cc in
-      let slot = slots q (item.Symbol s) z.is_open.there at_place in
-      let begins = begins_with_copy c (item.Symbol s) h in
+      let at_place : item_at q y.place ≡ Some (item.Symbol entry.symbol) = cc in
+      let slot = slots q (item.Symbol entry.symbol) z.is_open.there at_place in
+      let begins = begins_with_copy c (item.Symbol entry.symbol) h in
       let child_row = stored c o.production h o.copied in
       let copied_rest = copies c c.write (stored_items o.production.items) (in_children o.copied) in
-      let share = values_up_to c.write (copied_passes c (item.Symbol s)) h in
+      let share = values_up_to c.write (copied_passes c (item.Symbol entry.symbol)) h in
       let row : child_row ≡ share ++ (begins.0 ++ copied_rest) = cc (append_assoc share begins.0 copied_rest) in
-      let to_is : to ≡ length under' + copy_start c q pl = cc in
-      let keeps' : Keeps c s (z.table pl) h = λ a n is le other. o.is_open.entered a n is le other ∙ sym (z.row_is a) in
-      let agree = kept_copy sound s (z.table pl) h keeps' in
+      let to_is : to ≡ length outer.under + copy_start c q pl = cc in
+      let keeps' : Keeps c entry.symbol (z.table pl) h =
+      λ a n is le other. o.is_open.entered a n is le other ∙ sym (z.row_is a) in
+      let agree = kept_copy sound entry.symbol (z.table pl) h keeps' in
       let bt = bodies_of version_two c.grammar c.passes c.write (node x.production o.trees) (graft h o.valuations) in (
-        s',
-        f',
-        under',
-        old',
-        before',
-        others',
+        outer,
         waits,
         Gone,
         record {
@@ -463,7 +457,7 @@ module _ {c : Setting} (sound : IsSound c) where
           row = [];
           trees = z.trees;
           valuations = z.values;
-          mid = old;
+          mid = entry.old;
           count = rules_of_pass c.passes c.write c.grammar (node x.production o.trees);
           is_open =
               returned sound z.within z.occurs keeps' z.is_open;
@@ -474,7 +468,7 @@ module _ {c : Setting} (sound : IsSound c) where
               z.agreement;
           current = (
             record {
-              item = item.Symbol s;
+              item = item.Symbol entry.symbol;
               occurs = z.occurs;
               tree = node x.production o.trees;
               values = graft h o.valuations;
@@ -486,8 +480,8 @@ module _ {c : Setting} (sound : IsSound c) where
                   cc (
                     done.whole,
                     done.record_is,
-                    drop_at under child_row x.base (sym o.base),
-                    append_assoc old.put (below (pass_direction c) bt) (root_body bt ∷ []),
+                    drop_at entry.under child_row x.base (sym o.base),
+                    append_assoc entry.old.put (below (pass_direction c) bt) (root_body bt ∷ []),
                     whole (pass_direction c) bt,
                   );
               counted = refl;
@@ -498,7 +492,7 @@ module _ {c : Setting} (sound : IsSound c) where
           counted = omega (arith, z.counted, done.counted);
           values_are =
               cc (
-                moved_copies q (z.table 0) z.copied under' (begins.0 ++ copied_rest) b h z.occurs to_is slot.1
+                moved_copies q (z.table 0) z.copied outer.under (begins.0 ++ copied_rest) b h z.occurs to_is slot.1
                     (o.base ∙ ap length z.under_is) row (done.whole ∙ ap (λ vs. vs ++ child_row) z.under_is),
                 stored_same c q (z.table 0) (e 0) (with_row z.copied pl h)
                     (λ a. sym (with_other z.table pl h 0 a (λ y. omega arith))),
@@ -518,7 +512,7 @@ module _ {c : Setting} (sound : IsSound c) where
         (read : IsRead c x' p body values new) → IsAtChild c x (instr.Get j) j q0 x' → suc (length xs) < max_depth
         → HasAgreed c q0 x j x' new (read_values c x' p body values new read) → RunInvariant c root (x ∷ xs) values t now todo
         → ReadsOn c root (after_step x p ∷ xs) (kept_values x' values new) t body now todo
-    step_read {j} {q0} {x'} p body new read there deep agreed (s, f, under, old, before, others, waits, ph, here) =
+    step_read {j} {q0} {x'} p body new read there deep agreed (entry, waits, ph, here) =
         let o = at_get here there.next in
         let level = suc (length xs) in
         let q = o.production in
@@ -534,16 +528,16 @@ module _ {c : Setting} (sound : IsSound c) where
         let occurs : item_at q pl ≡ Some x' = cc in
         let own = stored c q (o.table 0) o.copied in
         let more = read_row c x' p body values new read in
-        let whole : new ≡ under ++ (own ++ more.0) = cc (more.1, append-nil own, append_assoc under own more.0) in
-        let found = copies_there c q (o.table 0) o.copied under more.0 b o.base occurs in
+        let whole : new ≡ entry.under ++ (own ++ more.0) = cc (more.1, append-nil own, append_assoc entry.under own more.0) in
+        let found = copies_there c q (o.table 0) o.copied entry.under more.0 b o.base occurs in
         let slot : copy_start c q0 j ≡ copy_start c q pl = cc in
         let agree = agreed (o.copied pl) found.0 (cc whole) in
         let agree' = agree_table c q o.i o.table o.copied b x' h occurs sound.next o.agreement agree in
         let copied = copies_row c q o.table b h occurs agree' in
         let copy = values_up_to c.read (copied_passes c x') (o.table pl) in
-        let rest = following c q o.table (suc o.i) (suc level) others in
+        let rest = following c q o.table (suc o.i) (suc level) entry.others in
         let first : todo ≡ (suc level, (x', Some copy)) ∷ rest =
-        cc (after_next c q o.table o.i (suc level) others within occurs) in
+        cc (after_next c q o.table o.i (suc level) entry.others within occurs) in
         let ys = children_read c x' p body values new read in
         let child = read_child o x' p body new read deep within occurs agree in (
           before_others (other (direction_of c.read)) (suc (suc level)) ys rest,
@@ -551,12 +545,7 @@ module _ {c : Setting} (sound : IsSound c) where
               (pending_root c.grammar) rest (rw first at expected) (omega arith)
               (is_record c x' p body values new read (Some copy) (cc))),
           (
-            s,
-            f,
-            under,
-            old,
-            before,
-            others,
+            entry,
             waits,
             after_get (Some x'),
             record {
@@ -583,7 +572,7 @@ module _ {c : Setting} (sound : IsSound c) where
                   );
               base = o.base;
               todo_is =
-                  child.5 ∙ sym (pending_same c q (after_get (Some x')) o.i p e o.table child.0 (suc level) others copied);
+                  child.5 ∙ sym (pending_same c q (after_get (Some x')) o.i p e o.table child.0 (suc level) entry.others copied);
             },
           ),
         )
@@ -592,7 +581,7 @@ module _ {c : Setting} (sound : IsSound c) where
         → ((q : Production) → IsProduction c.grammar x.child q → base + stored_width c q ≡ length values)
         → RunInvariant c root (x ∷ xs) values t now todo
         → RunInvariant c root (first_at x.child base ∷ left_at x j ∷ xs) values t now todo
-    step_go {j} {base} at is (s, f, under, old, before, others, waits, ph, here) =
+    step_go {j} {base} at is (entry, waits, ph, here) =
         let o = at_go here at in
         let q = o.production in
         let next = runs_next o at in
@@ -600,9 +589,9 @@ module _ {c : Setting} (sound : IsSound c) where
         let g = o.current.0 in
         let h = o.table pl in
         let level = suc (length xs) in
-        let rest = under ++ stored c q (o.table 0) o.copied in
+        let rest = entry.under ++ stored c q (o.table 0) o.copied in
         let child_row = stored c g.production h o.of_child in
-        let vs : values ≡ rest ++ child_row = cc (append_assoc under (stored c q (o.table 0) o.copied) child_row) in
+        let vs : values ≡ rest ++ child_row = cc (append_assoc entry.under (stored c q (o.table 0) o.copied) child_row) in
         let base' : base ≡ length rest =
         omega (
           arith,
@@ -612,23 +601,15 @@ module _ {c : Setting} (sound : IsSound c) where
           ap length vs,
         ) in
         let deep = g.deep in
-        let following_it = following c q o.table (suc o.i) (suc level) others in
-        let child = opened x.child h o.of_child (suc level) rest o.mid now following_it g.there g.left (omega arith) base' in
+        let following_it = following c q o.table (suc o.i) (suc level) entry.others in
+        let inner : Entry =
+        record { symbol = g.symbol; own = h; under = rest; old = o.mid; before = now; others = following_it } in
+        let child = opened x.child inner o.of_child (suc level) g.there g.left (omega arith) base' in
         let same_todo : todo ≡ following c g.production o.of_child 0 (suc (suc level)) following_it =
         o.todo_is ∙ ap (λ p. pending_of_child c p o.of_child (suc (suc level)) following_it) g.there in (
-          g.symbol,
-          h,
-          rest,
-          o.mid,
-          now,
-          following_it,
+          inner,
           (
-            s,
-            f,
-            under,
-            old,
-            before,
-            others,
+            entry,
             waits,
             record {
               production = q;
@@ -655,13 +636,12 @@ module _ {c : Setting} (sound : IsSound c) where
           ),
           Between,
           subst
-              (λ (z : Pending). IsActive c g.symbol h (suc level)
-              (first_at x.child base) rest o.mid now following_it Between values t now z) (sym same_todo)
+              (λ (z : Pending). IsActive c inner (suc level) (first_at x.child base) Between values t now z) (sym same_todo)
               (subst
-              (λ t. IsActive c g.symbol h (suc level) (first_at x.child base) rest o.mid now following_it Between values t now
+              (λ t. IsActive c inner (suc level) (first_at x.child base) Between values t now
               (following c g.production o.of_child 0 (suc (suc level)) following_it)) (cc)
               (subst
-              (λ vs. IsActive c g.symbol h (suc level) (first_at x.child base) rest o.mid now following_it Between vs
+              (λ vs. IsActive c inner (suc level) (first_at x.child base) Between vs
               (after_reading c x.child h (copies c c.read (stored_items g.production.items) (in_children o.of_child)) o.mid)
               now (following c g.production o.of_child 0 (suc (suc level)) following_it)) (sym vs) child)),
         )
@@ -669,7 +649,7 @@ module _ {c : Setting} (sound : IsSound c) where
     -- At the `Put` of a child that is a node nothing is written: its whole tree was written before.
     pub step_put_node : {j s' : ℕ} {q0 : Production} → IsAtChild c x (instr.Put j) j q0 (item.Symbol s')
         → RunInvariant c root (x ∷ xs) values t now todo → RunInvariant c root (after_step x x.child ∷ xs) values t now todo
-    step_put_node {j} {s'} {q0} there (s, f, under, old, before, others, waits, ph, here) =
+    step_put_node {j} {s'} {q0} there (entry, waits, ph, here) =
         let o = at_put here there.next in
         let q = o.production in
         let place = (runs_next o there.next).0.place in
@@ -677,12 +657,7 @@ module _ {c : Setting} (sound : IsSound c) where
         let same : q0 ≡ q = same_production c x.production there.there o.is_open.there in
         let items : Some g.item ≡ Some (item.Symbol s') = cc there.occurs in
         let is : g.item ≡ item.Symbol s' = cc in (
-          s,
-          f,
-          under,
-          old,
-          before,
-          others,
+          entry,
           waits,
           Between,
           left_in there.next o refl
@@ -701,7 +676,7 @@ module _ {c : Setting} (sound : IsSound c) where
         → RunInvariant c root (x ∷ xs) values t now todo
         → RunInvariant c root (after_step x x.child ∷ xs) values
         (record { read = t.read; put = t.put ++ body_of Token x.child text ∷ [] }) now todo
-    step_put_leaf {j} {d} {q0} {text} there is (s, f, under, old, before, others, waits, ph, here) =
+    step_put_leaf {j} {d} {q0} {text} there is (entry, waits, ph, here) =
         let o = at_put here there.next in
         let q = o.production in
         let place = (runs_next o there.next).0.place in
@@ -713,7 +688,7 @@ module _ {c : Setting} (sound : IsSound c) where
         let occurs : item_at q pl ≡ Some (item.Terminal (Class d)) = cc there.occurs in
         let items : Some g.item ≡ Some (item.Terminal (Class d)) = cc occurs in
         let item_is : g.item ≡ item.Terminal (Class d) = cc in
-        let found = copies_there c q (o.table 0) o.copied under o.row b o.base occurs in
+        let found = copies_there c q (o.table 0) o.copied entry.under o.row b o.base occurs in
         let slot : copy_start c q0 j ≡ copy_start c q pl = cc in
         let first : text ≡ o.copied pl 0 ∷ [] =
         is ∙ ap (λ n. take 1 (drop (x.base + n) values)) slot
@@ -722,12 +697,7 @@ module _ {c : Setting} (sound : IsSound c) where
         let shown : o.copied pl 0 ≡ o.table pl 0 =
         o.agreement b 0 0 x' occurs refl (omega arith) (inr (known_here c q o.i pl refl)) in
         let evaluated = rw item_is at g.evaluated in (
-          s,
-          f,
-          under,
-          old,
-          before,
-          others,
+          entry,
           waits,
           Between,
           left_in there.next o refl
@@ -751,7 +721,7 @@ module _ {c : Setting} (sound : IsSound c) where
         × (todo ≡ (suc (suc (length xs)), (x', Some (values_up_to c.read (copied_passes c x') f))) ∷ left)
         × ((row : List Value) → (rest : List Value)
         × (drop (x.base + copy_start c q0 j) (values ++ row) ≡ values_up_to c.write (copied_passes c x') f ++ rest))
-    get_first {j} {q0} {x'} there (s, f, under, old, before, others, waits, ph, here) =
+    get_first {j} {q0} {x'} there (entry, waits, ph, here) =
         let o = at_get here there.next in
         let q = o.production in
         let level = suc (suc (length xs)) in
@@ -762,13 +732,14 @@ module _ {c : Setting} (sound : IsSound c) where
         let occurs : item_at q pl ≡ Some x' = cc there.occurs in
         let same_copies = agree_table c q o.i o.table o.copied b x' (o.copied pl) occurs sound.next o.agreement refl in
         let slot : copy_start c q0 j ≡ copy_start c q pl = cc in
-        let kept : values ≡ under ++ stored c q (o.table 0) o.copied = cc (append-nil (stored c q (o.table 0) o.copied)) in (
+        let kept : values ≡ entry.under ++ stored c q (o.table 0) o.copied =
+        cc (append-nil (stored c q (o.table 0) o.copied)) in (
           o.copied pl,
-          following c q o.table (suc o.i) level others,
-          cc (after_next c q o.table o.i level others turn.within occurs, same_copies),
+          following c q o.table (suc o.i) level entry.others,
+          cc (after_next c q o.table o.i level entry.others turn.within occurs, same_copies),
           (λ row.
-              let found = copies_there c q (o.table 0) o.copied under row b o.base occurs in (
+              let found = copies_there c q (o.table 0) o.copied entry.under row b o.base occurs in (
                 found.0,
-                cc (append_assoc under (stored c q (o.table 0) o.copied) row),
+                cc (append_assoc entry.under (stored c q (o.table 0) o.copied) row),
               )),
         )

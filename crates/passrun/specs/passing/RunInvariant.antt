@@ -4,7 +4,7 @@
 --   i: the number of visited children of a node. level: the level of the node
 --   f: the values of a node by attribute. e: the table of the values at a node and its children, by place and attribute
 --   t, ts: a tree, trees. w, ws: their values. x, xs: an open node, open nodes
---   old, new: a transcript before and after. under: the values in memory before the row of a node
+--   old, new: a transcript before and after
 -- The phases (of `passcode`) of a node are: Between, before the `Get` of a child, or after the last child; Got, from the `Get` of
 -- a child that is a node to its `Go`; Gone, from that `Go`, or from the `Get` of a token, to the `Put`; Ended, after `End`.
 use Rattle.std.specs.Prelude.{ℕ, suc, ◌≡◌, ◌+◌, ◌<◌, ◌≤◌, List, [], ◌∷◌, ◌++◌, Some, slice_get, length}
@@ -151,16 +151,26 @@ pub record IsHeld (c : Setting) (q : Production) (state : State) (e : Table) (u 
 abbrev pub AreHeld : Setting → Production → State → Table → Type 0
 AreHeld c q state e = (r : ℕ) (u : Rule) → Has state.done r → slice_get q.rules r ≡ Some u → IsHeld c q state e u
 
--- A node of production p and symbol s is open and in a state. Before its record was read, the transcript was `old`. When the node
--- was entered, its own values were f: those of its record, and the inherited ones of this pass. Now the table e has the values of
--- the node and its children. The trees `ts` of the visited children were read and written since.
-pub record IsOpenNode (c : Setting) (s : ℕ) (f : ℕ → Value) (level p : ℕ) (q : Production) (state : State) (e : Table)
-    (ts : Forest) (ws : ℕ → Valuation) (old new : Transcript) : Type 0 where
+-- What a node was entered with: its symbol; its own values (those of its record, and the inherited ones of this pass); the values
+-- in memory before its row; the transcript before its record was read; the number of rules that were evaluated before; and the
+-- children that are still to be read after its tree.
+pub record Entry : Type 0 where
+  pub symbol : ℕ
+  pub own : ℕ → Value
+  pub under : List Value
+  pub old : Transcript
+  pub before : ℕ
+  pub others : Pending
+
+-- A node of production p, which was entered with `entry`, is open and in a state. The table e has the values of the node and its
+-- children. The trees `ts` of the visited children were read and written since the node's record was read.
+pub record IsOpenNode (c : Setting) (entry : Entry) (level p : ℕ) (q : Production) (state : State) (e : Table) (ts : Forest)
+    (ws : ℕ → Valuation) (new : Transcript) : Type 0 where
   pub there : IsProduction c.grammar p q
-  pub left : q.left ≡ s
-  pub entered : Keeps c s f (e 0)
+  pub left : q.left ≡ entry.symbol
+  pub entered : Keeps c entry.symbol entry.own (e 0)
   pub visits : Visited c q state.turn level ts ws
-      (after_reading c p f (copies c c.read (stored_items q.items) (in_children e)) old) new
+      (after_reading c p entry.own (copies c c.read (stored_items q.items) (in_children e)) entry.old) new
   pub roots : Roots (pass_direction c) (arity q) state.turn ws e
   pub held : AreHeld c q state e
 
@@ -172,15 +182,11 @@ rules_at c q ts = pass_rule_count c.passes c.write (Some q) + totals (pass_rule_
 abbrev pub rules_left : Setting → OpenNode → ℕ
 rules_left c x = count_by is_computation (rest_of c x)
 
--- An open node x waits for its child, a node of production p and symbol s. s', f', under' and `old` belong to x; s, f and `under`
--- belong to the child. `new` is the transcript before the record of the child was read. `evals` rules were evaluated before the
--- child was entered, `evals_before` of them before x was entered. After the child's tree, the rest of x's list of instructions
--- runs to its end. After the child's tree `todo` is still to be read, and after x's tree `others`. Fields: i children of x are
--- complete, with the trees `trees` and their values `values`; the rules `done` were run at x; `table` has the values at x and its
--- children, and `copied` the copies in x's row.
-pub record Suspended (c : Setting) (s' : ℕ) (f' : ℕ → Value) (level : ℕ) (x : OpenNode) (under' : List Value) (old : Transcript)
-    (evals_before : ℕ) (others : Pending) (s p : ℕ) (f : ℕ → Value) (under : List Value) (new : Transcript) (evals : ℕ)
-    (todo : Pending) : Type 0 where
+-- An open node x, which was entered with `outer`, waits for its child, a node of production p, which was entered with `inner`.
+-- After the child's tree, the rest of x's list of instructions runs to its end. Fields: i children of x are complete, with the
+-- trees `trees` and their values `values`; the rules `done` were run at x; `table` has the values at x and its children, and
+-- `copied` the copies in x's row.
+pub record Suspended (c : Setting) (outer : Entry) (level : ℕ) (x : OpenNode) (p : ℕ) (inner : Entry) : Type 0 where
   pub production : Production
   pub i : ℕ
   pub done : List ℕ
@@ -188,41 +194,37 @@ pub record Suspended (c : Setting) (s' : ℕ) (f' : ℕ → Value) (level : ℕ)
   pub copied : Table
   pub trees : Forest
   pub values : ℕ → Valuation
-  pub is_open : IsOpenNode c s' f' level x.production production (state_of Got i done) table trees values old new
+  pub is_open : IsOpenNode c outer level x.production production (state_of Got i done) table trees values inner.old
   pub runs : course.Runs c.passes production c.write (state_of Gone i done) (rest_of c x)
-  pub counted : evals + rules_left c x ≡ evals_before + rules_at c production trees
+  pub counted : inner.before + rules_left c x ≡ outer.before + rules_at c production trees
   pub agreement : AgreesSoFar c production i table copied
   pub within : i < arity production
-  pub occurs : item_at production (place_of production c.write i) ≡ Some (item.Symbol s)
+  pub occurs : item_at production (place_of production c.write i) ≡ Some (item.Symbol inner.symbol)
   pub place_is : x.place ≡ place_of production c.write i
   pub number : x.child ≡ p
-  pub row_is : (a : ℕ) → table (place_of production c.write i) a ≡ f a
-  pub under_is : under ≡ under' ++ stored c production (table 0) copied
-  pub base : x.base ≡ length under'
+  pub row_is : (a : ℕ) → table (place_of production c.write i) a ≡ inner.own a
+  pub under_is : inner.under ≡ outer.under ++ stored c production (table 0) copied
+  pub base : x.base ≡ length outer.under
   pub deep : level < max_depth
-  pub todo_is : todo ≡ following c production table (suc i) (suc level) others
+  pub todo_is : inner.others ≡ following c production table (suc i) (suc level) outer.others
 
--- The open nodes, the innermost first, wait for a node of production p and symbol s; if there are none, this node is the root.
--- f, `under` and `new` belong to this node, and s', f', under' and `old` to the innermost open node x. `root` is the number of
--- the root's production. `evals` rules were evaluated before this node was entered. After this node's tree `todo` is still
--- to be read.
-abbrev pub Expects : Setting → ℕ → List OpenNode → ℕ → ℕ → (ℕ → Value) → List Value → Transcript → ℕ → Pending → Type 0
-Expects c root [] s p f under new evals todo =
-    (s ≡ c.grammar.start) × (p ≡ root) × (under ≡ []) × (new ≡ record { read = []; put = [] }) × (evals ≡ 0) × (todo ≡ [])
-Expects c root (x ∷ xs) s p f under new evals todo =
-    (s' : ℕ) × (f' : ℕ → Value) × (under' : List Value) × (old : Transcript) × (evals_before : ℕ) × (others : Pending)
-    × Expects c root xs s' x.production f' under' old evals_before others
-    × Suspended c s' f' (suc (length xs)) x under' old evals_before others s p f under new evals todo
+-- The open nodes, the innermost first, wait for a node of production p that was entered with `entry`; if there are none, this
+-- node is the root. `root` is the number of the root's production.
+abbrev pub Expects : Setting → ℕ → List OpenNode → ℕ → Entry → Type 0
+Expects c root [] p entry =
+    (entry.symbol ≡ c.grammar.start) × (p ≡ root) × (entry.under ≡ []) × (entry.old ≡ record { read = []; put = [] })
+    × (entry.before ≡ 0) × (entry.others ≡ [])
+Expects c root (x ∷ xs) p entry =
+    (outer : Entry) × Expects c root xs x.production outer × Suspended c outer (suc (length xs)) x p entry
 
--- The innermost open node x is in this phase, and `current` is the progress at its next place. The rest of its list of
--- instructions runs from there to the end. `evals` rules were evaluated, `evals_before` of them before x was entered. After x's
--- tree the others are still to be read. The fields: i children are complete, with the trees `trees` and their values
--- `valuations`; the rules `done` were run at x; `table` has the values at x and its children, and `copied` the copies in x's row.
--- When the i children were complete, the transcript was `mid`. Of the child at the next place, `row` is the row, if it is in
--- memory, `of_child` has the copies in this row, and `count` rules were run in its tree.
-pub record IsActive (c : Setting) (s : ℕ) (f : ℕ → Value) (level : ℕ) (x : OpenNode) (under : List Value) (old : Transcript)
-    (evals_before : ℕ) (others : Pending) (phase : Phase) (values : List Value) (new : Transcript) (evals : ℕ)
-    (todo : Pending) : Type 0 where
+-- The innermost open node x, which was entered with `entry`, is in this phase, and `current` is the progress at its next place.
+-- The rest of its list of instructions runs from there to the end. `evals` rules were evaluated, and the children `todo` are
+-- still to be read. The fields: i children are complete, with the trees `trees` and their values `valuations`; the rules `done`
+-- were run at x; `table` has the values at x and its children, and `copied` the copies in x's row. When the i children were
+-- complete, the transcript was `mid`. Of the child at the next place, `row` is the row, if it is in memory, `of_child` has the
+-- copies in this row, and `count` rules were run in its tree.
+pub record IsActive (c : Setting) (entry : Entry) (level : ℕ) (x : OpenNode) (phase : Phase) (values : List Value)
+    (new : Transcript) (evals : ℕ) (todo : Pending) : Type 0 where
   pub production : Production
   pub i : ℕ
   pub done : List ℕ
@@ -234,14 +236,14 @@ pub record IsActive (c : Setting) (s : ℕ) (f : ℕ → Value) (level : ℕ) (x
   pub valuations : ℕ → Valuation
   pub mid : Transcript
   pub count : ℕ
-  pub is_open : IsOpenNode c s f level x.production production (state_of phase i done) table trees valuations old mid
+  pub is_open : IsOpenNode c entry level x.production production (state_of phase i done) table trees valuations mid
   pub runs : course.Runs c.passes production c.write (state_of phase i done) (rest_of c x)
   pub agreement : AgreesSoFar c production (run_count phase i) table copied
   pub current : IsCurrent c production phase i level x.child table of_child row mid new count
-  pub counted : evals + rules_left c x ≡ evals_before + (rules_at c production trees + count)
-  pub values_are : values ≡ under ++ (stored c production (table 0) copied ++ row)
-  pub base : x.base ≡ length under
-  pub todo_is : todo ≡ pending c production phase i x.child table of_child (suc level) others
+  pub counted : evals + rules_left c x ≡ entry.before + (rules_at c production trees + count)
+  pub values_are : values ≡ entry.under ++ (stored c production (table 0) copied ++ row)
+  pub base : x.base ≡ length entry.under
+  pub todo_is : todo ≡ pending c production phase i x.child table of_child (suc level) entry.others
 
 -- The root's tree was read, and written except for the root's record, which has the values in memory. `evals` rules
 -- were evaluated.
@@ -262,9 +264,8 @@ pub record IsRootReady (c : Setting) (root : ℕ) (values : List Value) (new : T
 abbrev pub RunInvariant : Setting → ℕ → List OpenNode → List Value → Transcript → ℕ → Pending → Type 0
 RunInvariant c root [] values new evals todo = IsRootReady c root values new evals todo
 RunInvariant c root (x ∷ xs) values new evals todo =
-    (s : ℕ) × (f : ℕ → Value) × (under : List Value) × (old : Transcript) × (evals_before : ℕ) × (others : Pending)
-    × Expects c root xs s x.production f under old evals_before others × (ph : Phase)
-    × IsActive c s f (suc (length xs)) x under old evals_before others ph values new evals todo
+    (entry : Entry) × Expects c root xs x.production entry × (phase : Phase)
+    × IsActive c entry (suc (length xs)) x phase values new evals todo
 
 -- The invariant of a pass with some root, transcript t, number of rules and children to be read.
 abbrev pub IsConsistent : Setting → List OpenNode → List Value → Type 0

@@ -4,12 +4,11 @@ ghost use Rattle.std.specs.Prelude.{◌≡◌, ◌-◌, ◌^◌, ◌≤◌, ℕ,
 ghost use Rattle.std.specs.Prelude.{OnErr, OnOk};
 ghost use Rattle.ag_grammar.specs.grammars.Tree.{max_nodes};
 ghost use Rattle.passrun.specs.passing.Ahead.{IsRunFault};
-ghost use Rattle.passrun.specs.passing.Ends.{RunsBetween};
 ghost use Rattle.pass_rows.specs.Nodes.{first_at};
 ghost use Rattle.pass_rows.specs.layouts.Contexts.{CanRun, setting};
 ghost use Rattle.passrun.specs.Passed.{IsPassed};
 ghost use Rattle.passrun.specs.passing.Putting.{AddsFrames, LeavesFrames};
-ghost use Rattle.passrun.specs.passing.Running.{Runs};
+ghost use Rattle.passrun.specs.passing.Running.{Runs, RunsWith, between};
 ghost use Rattle.treefile.specs.framing.Beginning.{LeavesBeginning};
 ghost use Rattle.treefile.specs.devices.Device.{LeavesContent, WhenHonest};
 ghost use Rattle.treefile.specs.devices.Several.{BothPersist};
@@ -53,8 +52,8 @@ pub(crate) fn begin<D: Device, E: Device>(
     requires context { CanRun context.now }
     requires meter { meter.now ≤ 2 ^ 63 }
     ensures runs { IfOk result (λ m. Runs (setting context.now)
-        (D.is_honest from.new) (D.content from.new)
-        (E.is_honest to.new) (E.content to.new) meter.now m (Some (first_at m.root 0))) }
+        (between (D.is_honest from.new) (D.content from.new)
+        (E.is_honest to.new) (E.content to.new) meter.now) m (Some (first_at m.root 0))) }
     ensures header { OnOk result (WhenHonest (E.is_honest to.new)
         (E.content to.new ≡ header version_two (setting context.now).write)) }
     // on failure: the content of the second device is unchanged, or a prefix of a file of the pass
@@ -103,11 +102,13 @@ pub(crate) fn finish<D: Device, E: Device>(
     to: &mut E,
 ) -> Result<Passed, RunFault>
     requires context { CanRun context.now }
-    requires runs { RunsBetween (setting context.now) (D.is_honest from.old) (D.content from.old)
-        (E.is_honest to.old) (E.content to.old) machine.old None }
+    requires runs { RunsWith (setting context.now)
+        (between (D.is_honest from.old) (D.content from.old)
+        (E.is_honest to.old) (E.content to.old)) machine.old None }
     // for every count of the meter with which the machine runs: `finish` doesn't take the meter
-    ensures passed { (meter : ℕ) → Runs (setting context.now) (D.is_honest from.old)
-        (D.content from.old) (E.is_honest to.old) (E.content to.old) meter machine.old None →
+    ensures passed { (meter : ℕ) → Runs (setting context.now)
+        (between (D.is_honest from.old) (D.content from.old)
+        (E.is_honest to.old) (E.content to.old) meter) machine.old None →
         WhenHonest (D.is_honest from.new) (WhenHonest (E.is_honest to.new)
         (IfOk result (λ p. IsPassed (setting context.now) (D.content from.old) (E.content to.new)
         p.nodes (meter - machine.old.begun)))) }

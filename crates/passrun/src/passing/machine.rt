@@ -12,8 +12,8 @@ ghost use Rattle.passrun.specs.passing.Ahead.{IsRunFault, IsResourceFault};
 ghost use Rattle.pass_rows.specs.layouts.Contexts.{CanRun, setting};
 ghost use Rattle.pass_rows.specs.Nodes.{left_at};
 ghost use Rattle.passrun.specs.passing.Putting.{AddsFrames, LeavesFrames};
-ghost use Rattle.passrun.specs.passing.Running.{RunsRuleNext, Runs, RunsAt, RunsFrom, RunsSomehow, RunsTo};
-ghost use Rattle.passrun.specs.passing.Running.{Leads, LeadsAt, LeadsFrom, LeadsTo};
+ghost use Rattle.passrun.specs.passing.Running.{Preserves, Runs, RunsRuleNext, RunsWith};
+ghost use Rattle.passrun.specs.passing.Running.{any_world, between, first_device, meter_at, second_device};
 ghost use Rattle.passrun.specs.passing.Working.{measure};
 ghost use Rattle.passcode.specs.Settings.{list_at};
 ghost use Rattle.treefile.specs.devices.Device.{LeavesContent, Persists, WhenHonest};
@@ -105,14 +105,15 @@ impl Machine {
         from: &mut D,
     ) -> Result<OpenNode, RunFault>
         requires context { CanRun context.now }
-        requires runs { RunsFrom (setting context.now) (D.is_honest from.old) (D.content from.old)
-            self.old (Some node) }
+        requires runs { RunsWith (setting context.now)
+            (first_device (D.is_honest from.old) (D.content from.old)) self.old (Some node) }
         requires next { slice_get (list_at (setting context.now) node.production) node.at
             ≡ Some (instr.Get place) }
         requires room { node.at + 1 < 2 ^ 64 }
-        ensures runs { IfOk result (λ next. LeadsFrom (setting context.now)
-            (D.is_honest from.old) (D.is_honest from.new)
-            (D.content from.old) (D.content from.new) self.old self.new (Some node) (Some next)) }
+        ensures runs { IfOk result (λ next. Preserves (setting context.now)
+            (first_device (D.is_honest from.old) (D.content from.old))
+            (first_device (D.is_honest from.new) (D.content from.new))
+            self.old self.new (Some node) (Some next)) }
         ensures production { IfOk result (λ next. next.production ≡ node.production) }
         ensures refused { IfErr result (λ f. WhenHonest (D.is_honest from.new)
             (IsRunFault (setting context.now) (D.content from.old) f)) }
@@ -161,13 +162,14 @@ impl Machine {
         to: &mut E,
     ) -> Result<OpenNode, RunFault>
         requires context { CanRun context.now }
-        requires runs { RunsSomehow (setting context.now) self.old (Some node) }
+        requires runs { RunsWith (setting context.now) any_world self.old (Some node) }
         requires next { slice_get (list_at (setting context.now) node.production) node.at
             ≡ Some (instr.Put place) }
         requires room { node.at + 1 < 2 ^ 64 }
-        ensures runs { IfOk result (λ next. LeadsTo (setting context.now)
-            (E.is_honest to.old) (E.is_honest to.new)
-            (E.content to.old) (E.content to.new) self.old self.new (Some node) (Some next)) }
+        ensures runs { IfOk result (λ next. Preserves (setting context.now)
+            (second_device (E.is_honest to.old) (E.content to.old))
+            (second_device (E.is_honest to.new) (E.content to.new))
+            self.old self.new (Some node) (Some next)) }
         ensures added { OnOk result (AddsFrames (E.is_honest to.new)
             (E.content to.old) (E.content to.new)) }
         ensures left { IfErr result (LeavesFrames (E.is_honest to.new)
@@ -203,11 +205,11 @@ impl Machine {
         meter: &mut Meter,
     ) -> Result<OpenNode, NoMemory>
         requires context { CanRun context.now }
-        requires runs { RunsAt (setting context.now) meter.old self.old (Some node) }
+        requires runs { RunsWith (setting context.now) (meter_at meter.old) self.old (Some node) }
         requires next { RunsRuleNext (setting context.now) node rule }
         requires room { node.at + 1 < 2 ^ 64 }
-        ensures runs { IfOk result (λ next. LeadsAt (setting context.now) meter.old meter.new
-            self.old self.new (Some node) (Some next)) }
+        ensures runs { IfOk result (λ next. Preserves (setting context.now)
+            (meter_at meter.old) (meter_at meter.new) self.old self.new (Some node) (Some next)) }
         ensures production { IfOk result (λ next. next.production ≡ node.production) }
         ensures rises { meter.old ≤ meter.new }
         ensures less { IfOk result (λ next.
@@ -238,11 +240,11 @@ impl Machine {
         place: u16,
     ) -> Result<OpenNode, NoMemory>
         requires context { CanRun context.now }
-        requires runs { RunsSomehow (setting context.now) self.old (Some node) }
+        requires runs { RunsWith (setting context.now) any_world self.old (Some node) }
         requires next { slice_get (list_at (setting context.now) node.production) node.at
             ≡ Some (instr.Go place) }
         requires room { node.at + 1 < 2 ^ 64 }
-        ensures runs { IfOk result (λ next. Leads (setting context.now)
+        ensures runs { IfOk result (λ next. Preserves (setting context.now) any_world any_world
             self.old self.new (Some node) (Some next)) }
         ensures less { IfOk result (λ next.
             measure (setting context.now) self.new (Some next)
@@ -265,8 +267,8 @@ impl Machine {
         node: OpenNode,
     ) -> Result<OpenNode, NoMemory>
         requires context { CanRun context.now }
-        requires runs { RunsSomehow (setting context.now) self.old (Some node) }
-        ensures runs { IfOk result (λ next. Leads (setting context.now)
+        requires runs { RunsWith (setting context.now) any_world self.old (Some node) }
+        ensures runs { IfOk result (λ next. Preserves (setting context.now) any_world any_world
             self.old self.new (Some node) (Some next)) }
         ensures most { IfOk result (λ next.
             measure (setting context.now) self.new (Some next)
@@ -293,12 +295,13 @@ impl Machine {
         to: &mut E,
     ) -> Result<Option<OpenNode>, RunFault>
         requires context { CanRun context.now }
-        requires runs { RunsSomehow (setting context.now) self.old (Some node) }
+        requires runs { RunsWith (setting context.now) any_world self.old (Some node) }
         requires next { slice_get (list_at (setting context.now) node.production) node.at
             ≡ Some instr.End }
-        ensures runs { IfOk result (λ next. LeadsTo (setting context.now)
-            (E.is_honest to.old) (E.is_honest to.new)
-            (E.content to.old) (E.content to.new) self.old self.new (Some node) next) }
+        ensures runs { IfOk result (λ next. Preserves (setting context.now)
+            (second_device (E.is_honest to.old) (E.content to.old))
+            (second_device (E.is_honest to.new) (E.content to.new))
+            self.old self.new (Some node) next) }
         ensures added { OnOk result (AddsFrames (E.is_honest to.new)
             (E.content to.old) (E.content to.new)) }
         ensures left { IfErr result (LeavesFrames (E.is_honest to.new)
@@ -328,8 +331,9 @@ impl Machine {
     #[inline(always)]
     pub(crate) fn skip_put(&self, context: &PassContext<'_>, node: OpenNode) -> OpenNode
         requires context { CanRun context.now }
-        requires runs { RunsSomehow (setting context.now) self.now (Some node) }
-        ensures runs { Leads (setting context.now) self.now self.now (Some node) (Some result) }
+        requires runs { RunsWith (setting context.now) any_world self.now (Some node) }
+        ensures runs { Preserves (setting context.now) any_world any_world
+            self.now self.now (Some node) (Some result) }
         ensures most { measure (setting context.now) self.now (Some result)
             ≤ measure (setting context.now) self.now (Some node) }
     {
@@ -354,11 +358,12 @@ impl Machine {
         to: &mut E,
     ) -> Result<Option<OpenNode>, RunFault>
         requires context { CanRun context.now }
-        requires runs { RunsTo (setting context.now) (E.is_honest to.old) (E.content to.old)
-            self.old (Some node) }
-        ensures runs { IfOk result (λ next. LeadsTo (setting context.now)
-            (E.is_honest to.old) (E.is_honest to.new)
-            (E.content to.old) (E.content to.new) self.old self.new (Some node) next) }
+        requires runs { RunsWith (setting context.now)
+            (second_device (E.is_honest to.old) (E.content to.old)) self.old (Some node) }
+        ensures runs { IfOk result (λ next. Preserves (setting context.now)
+            (second_device (E.is_honest to.old) (E.content to.old))
+            (second_device (E.is_honest to.new) (E.content to.new))
+            self.old self.new (Some node) next) }
         ensures added { OnOk result (AddsFrames (E.is_honest to.new)
             (E.content to.old) (E.content to.new)) }
         ensures left { IfErr result (LeavesFrames (E.is_honest to.new)
@@ -399,11 +404,12 @@ impl Machine {
         meter: &mut Meter,
     ) -> Result<Option<OpenNode>, RunFault>
         requires context { CanRun at.now.context.now }
-        requires runs { Runs (setting at.now.context.now) (D.is_honest from.old) (D.content from.old)
-            (E.is_honest to.old) (E.content to.old) meter.old self.old (Some at.now.node) }
+        requires runs { Runs (setting at.now.context.now)
+            (between (D.is_honest from.old) (D.content from.old)
+            (E.is_honest to.old) (E.content to.old) meter.old) self.old (Some at.now.node) }
         ensures runs { IfOk result (λ next. Runs (setting at.now.context.now)
-            (D.is_honest from.new) (D.content from.new)
-            (E.is_honest to.new) (E.content to.new) meter.new self.new next) }
+            (between (D.is_honest from.new) (D.content from.new)
+            (E.is_honest to.new) (E.content to.new) meter.new) self.new next) }
         ensures added { OnOk result (AddsFrames (E.is_honest to.new)
             (E.content to.old) (E.content to.new)) }
         ensures left { IfErr result (LeavesFrames (E.is_honest to.new)

@@ -5,7 +5,7 @@ ghost use Rattle.passrun.specs.passing.Ahead.{IsRunFault};
 ghost use Rattle.pass_rows.specs.layouts.Contexts.{CanRun, setting};
 ghost use Rattle.pass_rows.specs.Nodes.{first_at};
 ghost use Rattle.passrun.specs.passing.Putting.{AddsFrames, LeavesFrames};
-ghost use Rattle.passrun.specs.passing.Running.{Runs};
+ghost use Rattle.passrun.specs.passing.Running.{Runs, between};
 ghost use Rattle.treefile.specs.devices.Device.{LeavesContent, WhenHonest};
 ghost use Rattle.treefile.specs.devices.Several.{BothPersist};
 
@@ -26,11 +26,13 @@ pub(crate) fn run<D: Device, E: Device>(
     meter: &mut Meter,
 ) -> Result<(), RunFault>
     requires context { CanRun context.now }
-    requires runs { Runs (setting context.now) (D.is_honest from.old) (D.content from.old)
-        (E.is_honest to.old) (E.content to.old) meter.old machine.old
-        (Some (first_at machine.old.root 0)) }
-    ensures runs { OnOk result (Runs (setting context.now) (D.is_honest from.new) (D.content from.new)
-        (E.is_honest to.new) (E.content to.new) meter.new machine.new None) }
+    requires runs { Runs (setting context.now)
+        (between (D.is_honest from.old) (D.content from.old)
+        (E.is_honest to.old) (E.content to.old) meter.old)
+        machine.old (Some (first_at machine.old.root 0)) }
+    ensures runs { OnOk result (Runs (setting context.now)
+        (between (D.is_honest from.new) (D.content from.new)
+        (E.is_honest to.new) (E.content to.new) meter.new) machine.new None) }
     ensures added { OnOk result (AddsFrames (E.is_honest to.new)
         (E.content to.old) (E.content to.new)) }
     ensures left { IfErr result (LeavesFrames (E.is_honest to.new)

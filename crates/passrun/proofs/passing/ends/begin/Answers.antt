@@ -1,5 +1,5 @@
 use Rattle.passrun.proofs.Common
-use Common.{◌-◌, ◌<◌, arith, err_from_is_err_and, setting, Ok, inr, refl, frames_begin, none_added, not_begun, RunFault}
+use Common.{◌-◌, ◌<◌, arith, err_from_is_err_and, setting, Ok, inr, frames_begin, none_added, not_begun, RunFault}
 use Rattle.passrun.proofs.Damage.{other_pass, readable, decidable}
 use Rattle.passrun.proofs.Refusing.{not_started, root_unfetched}
 use Rattle.passrun.proofs.course.Ending.{begun_runs}
@@ -11,7 +11,7 @@ returns-clause-runs g c =
     let begin = c.in_ok-writer.ensures in
     let root = c.in_ok-root.ensures in
     begun_runs c.requires.context.sound c.new-values.result
-    c.new-values.ensures.items c.new.ensures.items c.start-2.ensures.value c.count.ensures root.fetched refl root.content
+    c.new-values.ensures.items c.new.ensures.items c.start-2.ensures.value c.count.ensures root.fetched root.content
     (λ w. let z = root.persists.honest w in
     rw (start.content z)
     (readable _ (decidable c.requires.context.sound) _ _ (start.exact z) (cc)))

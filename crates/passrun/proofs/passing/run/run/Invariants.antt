@@ -1,12 +1,13 @@
-use Rattle.passrun.proofs.Common.{◌≡◌, ◌≤◌, LeavesContent, Persists, setting, AddsFrames, Runs}
+use Rattle.passrun.proofs.Common.{◌≡◌, ◌≤◌, LeavesContent, Persists, setting, AddsFrames, Runs, between}
 use Rattle.passrun.specs.passing.Working.{measure}
 use Rattle.passrun.proofs.passing.run.run.Given as goal
 
 abbrev pub invariant-loop-next : goal.invariant-loop-next
 invariant-loop-next g l =
     record {
-      runs : Runs (setting l.context) (g.D.Device.is_honest l.from) (g.D.Device.content l.from) (g.E.Device.is_honest l.to)
-          (g.E.Device.content l.to) l.meter l.machine l.next;
+      runs : Runs (setting l.context)
+          (between (g.D.Device.is_honest l.from) (g.D.Device.content l.from) (g.E.Device.is_honest l.to)
+          (g.E.Device.content l.to) l.meter) l.machine l.next;
       added : AddsFrames (g.E.Device.is_honest l.to) (g.E.Device.content l.fn.to) (g.E.Device.content l.to);
       meter : l.fn.meter ≤ l.meter;
       begun : l.machine.begun ≡ l.fn.machine.begun;
