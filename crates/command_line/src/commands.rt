@@ -2,9 +2,13 @@
 //! constant is the name of an argument or of an option, by which clap finds its value. An option's
 //! name is also its word on the command line, after `--`.
 
-use crate::tree_options::{at, attributes, depth, errors, json, node, of_sentence, only, width};
+use crate::argument::{Argument, Form, PLAIN, args_of};
+use crate::tree_options::{
+    AS_JSON, DEPTH_LIMIT, ERROR_RULES, NODE_ATTRIBUTES, NODE_PATH, ONLY_ATTRIBUTE, PLACE,
+    PLACE_SENTENCE, WIDTH_LIMIT,
+};
 use clap::error::ErrorKind;
-use clap::{Arg, ArgAction, Command, Error};
+use clap::{Command, Error};
 use std::alloc::{AllocError, Global};
 
 /// The name of the argument for the grammar's file.
@@ -43,78 +47,193 @@ pub const QUIET: &str = "quiet";
 /// The values of the option that says when messages are marked with colour.
 const COLORS: &[&str] = &["auto", "always", "never"];
 
+/// The name of the grammar's file.
+const GRAMMAR_FILE: Argument = Argument {
+    name: GRAMMAR,
+    help: "The file with the grammar, `-` for standard input",
+    ..PLAIN
+};
+
+/// The name of the sentence's file.
+const SENTENCE_FILE: Argument = Argument {
+    name: SENTENCE,
+    help: "The file with the sentence, `-` for standard input",
+    ..PLAIN
+};
+
+/// The names of the files of one or more sentences.
+const SENTENCE_FILES: Argument = Argument {
+    name: SENTENCE,
+    form: Form::Words,
+    help: "The file with the sentence, `-` for standard input; several with --out-dir",
+    ..PLAIN
+};
+
+/// The name of a tree file of pass 0 that is only read.
+const EVALUATED_TREE: Argument = Argument {
+    name: TREE,
+    help: "The tree file, which is only read, `-` for standard input",
+    ..PLAIN
+};
+
+/// The name of a tree file of any pass that is only read.
+const SHOWN_TREE: Argument = Argument {
+    name: TREE,
+    help: "The tree file of any pass, such as b.agt of `run --work`, which is only read",
+    ..PLAIN
+};
+
+/// The name of a tree file of any pass that is only read, or of a folder with a.agt and b.agt.
+const EXPLAINED_TREE: Argument = Argument {
+    name: TREE,
+    help: "The tree file of any pass, or the folder of `run --work` with two, which are only read",
+    ..PLAIN
+};
+
+/// The name of a tree file of version 1.
+const OLD_TREE: Argument = Argument {
+    name: OLD,
+    help: "The tree file of version 1, which begins with `AGT1` and is only read",
+    ..PLAIN
+};
+
+/// The name of a tree file that is written.
+const NEW_TREE: Argument = Argument {
+    name: TREE,
+    help: "The tree file to write; if it exists, its content is replaced",
+    ..PLAIN
+};
+
+/// The text of an expression. A word that begins with a hyphen, and is no option of `value`, is an
+/// expression: `-1` is then refused with X2, whose message says how to write it.
+const EXPRESSION_WORD: Argument = Argument {
+    name: EXPRESSION,
+    form: Form::HyphenWord,
+    help: "The expression, as one argument; attributes such as $1.s have no value here",
+    ..PLAIN
+};
+
+/// The name of an attribute, which may be left out.
+const ATTRIBUTE_NAME: Argument = Argument {
+    name: ATTRIBUTE,
+    form: Form::OptionalWord,
+    help: "Explains the pass of this attribute alone, such as L.total",
+    ..PLAIN
+};
+
+/// The option that names the file for the translation.
+const OUTPUT_FILE: Argument = Argument {
+    name: OUTPUT,
+    short: Some('o'),
+    form: Form::Value("FILE"),
+    help: "Writes the translation to FILE, and only a whole one; `-` is standard output",
+    ..PLAIN
+};
+
+/// The option that names the folder for translations.
+const OUTPUT_FOLDER: Argument = Argument {
+    name: OUT_DIR,
+    form: Form::Value("DIR"),
+    help: "Writes the translation of each PATH/NAME to NAME.out in the existing folder DIR",
+    conflicts: &[OUTPUT],
+    ..PLAIN
+};
+
+/// The option that names the folder for the tree files.
+const WORK_FOLDER: Argument = Argument {
+    name: WORK,
+    form: Form::Value("DIR"),
+    help: "Writes the tree files a.agt and b.agt to the existing folder DIR, and keeps them",
+    ..PLAIN
+};
+
+/// The options that all commands have: when messages are marked with colour, and whether the
+/// progress and the messages of refusals are hidden.
+static GLOBAL_OPTIONS: &[Argument] = &[
+    Argument {
+        name: COLOR,
+        form: Form::Choice("WHEN", COLORS),
+        help: "Marks the number and the place in messages; without it, on a terminal only",
+        is_global: true,
+        ..PLAIN
+    },
+    Argument {
+        name: QUIET,
+        short: Some('q'),
+        form: Form::Flag,
+        help: "Shows no progress, and prints no refusal but those of the command line",
+        is_global: true,
+        ..PLAIN
+    },
+];
+
 /// The commands, in the order in which help lists them.
-const COMMANDS: &[Entry] = &[
+static COMMANDS: &[Entry] = &[
     Entry {
         name: "run",
         about: "Translates a sentence by a grammar, and prints the translation with no newline added",
         arguments: &[
-            Argument::Grammar,
-            Argument::Sentences,
-            Argument::Output,
-            Argument::OutputFolder,
-            Argument::WorkFolder,
+            GRAMMAR_FILE,
+            SENTENCE_FILES,
+            OUTPUT_FILE,
+            OUTPUT_FOLDER,
+            WORK_FOLDER,
         ],
         example: "Example:\n  $ aggen run examples/words.ag examples/words.txt\n  iffy",
     },
     Entry {
         name: "eval",
         about: "Translates the tree in a tree file that `parse` wrote, and prints the translation",
-        arguments: &[
-            Argument::Grammar,
-            Argument::EvaluatedTree,
-            Argument::Output,
-            Argument::WorkFolder,
-        ],
+        arguments: &[GRAMMAR_FILE, EVALUATED_TREE, OUTPUT_FILE, WORK_FOLDER],
         example: "Example:\n  $ aggen eval examples/words.ag words.tree\n  iffy",
     },
     Entry {
         name: "value",
         about: "Computes an expression, and prints its value",
-        arguments: &[Argument::Expression],
+        arguments: &[EXPRESSION_WORD],
         example: "Example:\n  $ aggen value '2 + 3 * 4'\n  14",
     },
     Entry {
         name: "check",
         about: "Checks a grammar, and prints the number of its symbols and of its productions",
-        arguments: &[Argument::Grammar],
+        arguments: &[GRAMMAR_FILE],
         example: "Example:\n  $ aggen check examples/percentages.ag\n  2 symbols, 3 productions",
     },
     Entry {
         name: "plan",
         about: "Prints the passes that a grammar needs, and the attributes that each of them computes",
-        arguments: &[Argument::Grammar],
+        arguments: &[GRAMMAR_FILE],
         example: "Example:\n  $ aggen plan examples/percentages.ag\n  pass 1 right-to-left: L.sum\n  pass 2 left-to-right: S.out L.out L.total",
     },
     Entry {
         name: "why",
         about: "Prints why a grammar needs each of its passes, rule by rule",
-        arguments: &[Argument::Grammar, Argument::Attribute],
+        arguments: &[GRAMMAR_FILE, ATTRIBUTE_NAME],
         example: "Example:\n  $ aggen why examples/percentages.ag L.total\n  pass 2 computes L.total\n\n  pass 1 (right-to-left) can't compute L.total:\n    L.total: `$1.total` (examples/percentages.ag:4:26) uses `$1.sum` (L.sum), which pass 1 computes only during its visit of $1",
     },
     Entry {
         name: "code",
         about: "Prints the instructions that each pass executes at a node of each production",
-        arguments: &[Argument::Grammar],
+        arguments: &[GRAMMAR_FILE],
         example: "Example:\n  $ aggen code examples/words.ag\n  0 pass 1: get 1, put 1, def out rule 0, end",
     },
     Entry {
         name: "parse",
         about: "Parses a sentence, writes its tree to a tree file, and prints the number of nodes",
-        arguments: &[Argument::Grammar, Argument::Sentence, Argument::NewTree],
+        arguments: &[GRAMMAR_FILE, SENTENCE_FILE, NEW_TREE],
         example: "Example:\n  $ aggen parse examples/words.ag examples/words.txt words.tree\n  2 nodes",
     },
     Entry {
         name: "show",
         about: "Prints the tree in a tree file, a line for each node with its production and its values",
         arguments: &[
-            Argument::Grammar,
-            Argument::ShownTree,
-            Argument::Depth,
-            Argument::Node,
-            Argument::Only,
-            Argument::Width,
-            Argument::Json,
+            GRAMMAR_FILE,
+            SHOWN_TREE,
+            DEPTH_LIMIT,
+            NODE_PATH,
+            ONLY_ATTRIBUTE,
+            WIDTH_LIMIT,
+            AS_JSON,
         ],
         example: "Example:\n  $ aggen show examples/words.ag words.tree\n  /  S = NAME \"if\"\n    /1  NAME  lex=\"iffy\"",
     },
@@ -122,20 +241,20 @@ const COMMANDS: &[Entry] = &[
         name: "explain",
         about: "Prints which rule computed each value of a node in a tree file, and what the rule used",
         arguments: &[
-            Argument::Grammar,
-            Argument::ExplainedTree,
-            Argument::Attributes,
-            Argument::Node,
-            Argument::OfSentence,
-            Argument::At,
-            Argument::Errors,
+            GRAMMAR_FILE,
+            EXPLAINED_TREE,
+            NODE_ATTRIBUTES,
+            NODE_PATH,
+            PLACE_SENTENCE,
+            PLACE,
+            ERROR_RULES,
         ],
         example: "Example:\n  $ aggen explain examples/percentages.ag trees/a.agt --node /1/2 sum\n  /1/2  L = NUMBER L\n  sum=170\n    $0.sum = number($1.lex) + $2.sum (examples/percentages.ag:5:16)\n      $1.lex=\"50\"  /1/2/1\n      $2.sum=120  /1/2/2",
     },
     Entry {
         name: "upgrade",
         about: "Converts a tree file of version 1 to version 2, and prints the number of nodes",
-        arguments: &[Argument::Grammar, Argument::OldTree, Argument::NewTree],
+        arguments: &[GRAMMAR_FILE, OLD_TREE, NEW_TREE],
         example: "Example:\n  $ aggen upgrade examples/words.ag old.tree new.tree\n  2 nodes",
     },
 ];
@@ -153,230 +272,48 @@ struct Entry {
 impl Entry {
     /// Returns the command with its arguments. Fails if memory is refused.
     fn to_command<'a>(self, alloc: Global) -> Result<Command<'a>, AllocError> {
-        let mut command = Command::new(alloc, self.name)
+        let args = args_of(alloc, self.arguments)?;
+        Command::new(alloc, self.name)
             .about(self.about)
-            .after_help(self.example);
-        for argument in self.arguments {
-            command = command.arg(argument.to_arg(alloc)?)?;
-        }
-        Ok(command)
+            .after_help(self.example)
+            .args(args)
     }
-}
 
-/// An argument of a command.
-#[derive(Clone, Copy)]
-enum Argument {
-    /// The name of the grammar's file.
-    Grammar,
-    /// The name of the sentence's file.
-    Sentence,
-    /// The names of the files of one or more sentences.
-    Sentences,
-    /// The name of a tree file of pass 0 that is only read.
-    EvaluatedTree,
-    /// The name of a tree file of any pass that is only read.
-    ShownTree,
-    /// The name of a tree file of any pass that is only read, or of a folder with a.agt and b.agt.
-    ExplainedTree,
-    /// The option that limits the levels that are printed.
-    Depth,
-    /// The option that names a node by its path.
-    Node,
-    /// The option that names the sentence of a tree.
-    OfSentence,
-    /// The option that names a node by a place in the sentence.
-    At,
-    /// The option that names an attribute to print, without the others. It can be repeated.
-    Only,
-    /// The option that limits the number of characters of each value that is not a number.
-    Width,
-    /// The option that prints nodes as JSON.
-    Json,
-    /// The option that lists the rules in which errors arise.
-    Errors,
-    /// The names of attributes of a node, which may be left out.
-    Attributes,
-    /// The name of a tree file of version 1.
-    OldTree,
-    /// The name of a tree file that is written.
-    NewTree,
-    /// The text of an expression.
-    Expression,
-    /// The name of an attribute, which may be left out.
-    Attribute,
-    /// The option that names the file for the translation.
-    Output,
-    /// The option that names the folder for translations.
-    OutputFolder,
-    /// The option that names the folder for the tree files.
-    WorkFolder,
-}
-
-impl Argument {
-    /// Returns the argument as clap takes it. Fails if memory is refused.
-    fn to_arg<'a>(self, alloc: Global) -> Result<Arg<'a>, AllocError> {
-        let arg = match self {
-            Argument::Grammar => file(
-                alloc,
-                GRAMMAR,
-                "The file with the grammar, `-` for standard input",
-            ),
-            Argument::Sentence => file(
-                alloc,
-                SENTENCE,
-                "The file with the sentence, `-` for standard input",
-            ),
-            Argument::Sentences => sentences(alloc),
-            Argument::EvaluatedTree => file(
-                alloc,
-                TREE,
-                "The tree file, which is only read, `-` for standard input",
-            ),
-            Argument::ShownTree => file(
-                alloc,
-                TREE,
-                "The tree file of any pass, such as b.agt of `run --work`, which is only read",
-            ),
-            Argument::ExplainedTree => file(
-                alloc,
-                TREE,
-                "The tree file of any pass, or the folder of `run --work` with two, which are only read",
-            ),
-            Argument::Depth => depth(alloc),
-            Argument::Node => node(alloc),
-            Argument::OfSentence => return of_sentence(alloc),
-            Argument::At => return at(alloc),
-            Argument::Only => only(alloc),
-            Argument::Width => width(alloc),
-            Argument::Json => json(alloc),
-            Argument::Errors => errors(alloc),
-            Argument::Attributes => attributes(alloc),
-            Argument::OldTree => file(
-                alloc,
-                OLD,
-                "The tree file of version 1, which begins with `AGT1` and is only read",
-            ),
-            Argument::NewTree => file(
-                alloc,
-                TREE,
-                "The tree file to write; if it exists, its content is replaced",
-            ),
-            Argument::Expression => expression(alloc),
-            Argument::Attribute => attribute(alloc),
-            Argument::Output => output(alloc),
-            Argument::OutputFolder => return output_folder(alloc),
-            Argument::WorkFolder => work_folder(alloc),
-        };
-        Ok(arg)
+    /// Returns the command with its arguments, and with the program's name in its usage. Fails if
+    /// memory is refused.
+    fn to_invoked_command<'a>(self, alloc: Global) -> Result<Command<'a>, AllocError> {
+        let name = self.name;
+        let bin_name = format!(in alloc; "aggen {name}")?;
+        self.to_command(alloc)?.bin_name(bin_name.as_str())
     }
-}
-
-/// Returns the argument with this name, which is required and is a path.
-fn file<'a>(alloc: Global, name: &'a str, help: &'a str) -> Arg<'a> {
-    Arg::new(alloc, name).required(true).help(help)
-}
-
-/// Returns the argument that names the files of one or more sentences.
-fn sentences<'a>(alloc: Global) -> Arg<'a> {
-    file(
-        alloc,
-        SENTENCE,
-        "The file with the sentence, `-` for standard input; several with --out-dir",
-    )
-    .num_args(1..)
-    .action(ArgAction::Append)
-}
-
-/// Returns the argument that is an expression. A word that begins with a hyphen, and is no option
-/// of `value`, is an expression: `-1` is then refused with X2, whose message says how to write it.
-fn expression<'a>(alloc: Global) -> Arg<'a> {
-    Arg::new(alloc, EXPRESSION)
-        .required(true)
-        .allow_hyphen_values(true)
-        .help("The expression, as one argument; attributes such as $1.s have no value here")
-}
-
-/// Returns the argument that names an attribute.
-fn attribute<'a>(alloc: Global) -> Arg<'a> {
-    Arg::new(alloc, ATTRIBUTE).help("Explains the pass of this attribute alone, such as L.total")
-}
-
-/// Returns the option that names the file for the translation.
-fn output<'a>(alloc: Global) -> Arg<'a> {
-    Arg::new(alloc, OUTPUT)
-        .short('o')
-        .long(OUTPUT)
-        .value_name("FILE")
-        .help("Writes the translation to FILE, and only a whole one; `-` is standard output")
-}
-
-/// Returns the option that names the folder for translations. Fails if memory is refused.
-fn output_folder<'a>(alloc: Global) -> Result<Arg<'a>, AllocError> {
-    Arg::new(alloc, OUT_DIR)
-        .long(OUT_DIR)
-        .value_name("DIR")
-        .help("Writes the translation of each PATH/NAME to NAME.out in the existing folder DIR")
-        .conflicts_with(OUTPUT)
-}
-
-/// Returns the option that names the folder for the tree files.
-fn work_folder<'a>(alloc: Global) -> Arg<'a> {
-    Arg::new(alloc, WORK).long(WORK).value_name("DIR").help(
-        "Writes the tree files a.agt and b.agt to the existing folder DIR, and keeps them",
-    )
-}
-
-/// Returns the option that says when messages are marked with colour. All commands have it.
-fn color<'a>(alloc: Global) -> Arg<'a> {
-    Arg::new(alloc, COLOR)
-        .long(COLOR)
-        .value_name("WHEN")
-        .value_parser(COLORS)
-        .global(true)
-        .help("Marks the number and the place in messages; without it, on a terminal only")
-}
-
-/// Returns the option that hides the progress and the messages of refusals. All commands have it.
-fn quiet<'a>(alloc: Global) -> Arg<'a> {
-    Arg::new(alloc, QUIET)
-        .short('q')
-        .long(QUIET)
-        .action(ArgAction::SetTrue)
-        .global(true)
-        .help("Shows no progress, and prints no refusal but those of the command line")
 }
 
 /// Returns the program's command with all its subcommands. Fails if memory is refused.
 pub fn program<'a>(alloc: Global) -> Result<Command<'a>, AllocError> {
-    let mut program = root_command(alloc)?;
-    for entry in COMMANDS {
-        program = with_command(alloc, program, *entry)?;
-    }
-    Ok(program)
+    let commands = commands(alloc)?;
+    root_command(alloc)?.subcommands(commands)
 }
 
-/// Returns the program's command with one more subcommand. Fails if memory is refused.
-fn with_command<'a>(
-    alloc: Global,
-    program: Command<'a>,
-    entry: Entry,
-) -> Result<Command<'a>, AllocError> {
-    match entry.to_command(alloc) {
-        Ok(command) => program.subcommand(command),
-        Err(error) => Err(error),
+/// Returns the commands in their order. Fails if memory is refused.
+fn commands<'a>(alloc: Global) -> Result<Vec<Command<'a>>, AllocError> {
+    let mut commands = Vec::new(alloc);
+    for entry in COMMANDS {
+        commands.push(entry.to_command(alloc)?)?;
     }
+    Ok(commands)
 }
 
 /// Returns the program's command without subcommands. Fails if memory is refused.
 fn root_command<'a>(alloc: Global) -> Result<Command<'a>, AllocError> {
-    let program = Command::new(alloc, "aggen")
+    let options = args_of(alloc, GLOBAL_OPTIONS)?;
+    Command::new(alloc, "aggen")
         .version("1.0.0")
         .about("Makes translators from attribute grammars")
         .after_help(
             "Without a command, aggen translates a job from standard input: a grammar, a line `%%`, and a sentence.\n\nExample:\n  $ aggen run examples/words.ag examples/words.txt\n  iffy",
-        );
-    let program = program.arg(color(alloc))?.arg(quiet(alloc))?;
-    program.bin_name("aggen")
+        )
+        .args(options)?
+        .bin_name("aggen")
 }
 
 /// Returns an error that clap prints with `message` and the usage of the command `name`: for words
@@ -389,15 +326,16 @@ pub fn misuse_of(alloc: Global, name: &str, message: &str) -> Error {
     }
 }
 
-/// Returns an error with `message` and the usage of the command `name`, or that of the program if
-/// it has no such command. Fails if memory is refused.
+/// Returns an error with `message` and the usage of the command `name`. Fails if memory is refused.
 fn usage_error(alloc: Global, name: &str, message: &str) -> Result<Error, AllocError> {
-    let bin_name = format!(in alloc; "aggen {name}")?;
-    for entry in COMMANDS {
-        if entry.name == name {
-            let mut command = entry.to_command(alloc)?.bin_name(bin_name.as_str())?;
-            return command.error(ErrorKind::ArgumentConflict, message);
-        }
+    command_named(alloc, name)?.error(ErrorKind::ArgumentConflict, message)
+}
+
+/// Returns the command `name`, or that of the program if it has no such command. Fails if memory is
+/// refused.
+fn command_named<'a>(alloc: Global, name: &str) -> Result<Command<'a>, AllocError> {
+    match COMMANDS.iter().find(|entry| entry.name == name) {
+        Some(entry) => entry.to_invoked_command(alloc),
+        None => root_command(alloc),
     }
-    root_command(alloc)?.error(ErrorKind::ArgumentConflict, message)
 }

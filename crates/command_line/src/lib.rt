@@ -4,6 +4,7 @@
 //! and what is wrong with the words, so its caller needs only the kind of a failure.
 #![tactic(auto)]
 
+mod argument;
 mod commands;
 mod fault;
 mod input;
@@ -12,6 +13,7 @@ mod plain;
 mod request;
 mod tree_options;
 mod tree_requests;
+mod values;
 
 pub use fault::CommandLineFault;
 pub use input::InputPath;

@@ -35,7 +35,7 @@ pub fn check_tree(alloc: Global, command: &str, path: &str) -> Result<(), Error>
 /// file of its translation would have no name. Fails if the files of two sentences have the same
 /// name (`file_name_of`), since the second translation would replace the first.
 pub fn check_sentences(alloc: Global, paths: &[&str]) -> Result<(), Error> {
-    if paths.iter().any(|path| *path == STANDARD) {
+    if paths.contains(&STANDARD) {
         return Err(misuse_of(
             alloc,
             "run",
@@ -43,15 +43,18 @@ pub fn check_sentences(alloc: Global, paths: &[&str]) -> Result<(), Error> {
         ));
     }
     match doubled_name(alloc, paths)? {
-        Some((first, second)) => {
-            let name = file_name_of(second);
-            let message = format!(in alloc;
-                "the sentences '{first}' and '{second}' would both be translated to '{name}.out'"
-            )?;
-            Err(misuse_of(alloc, "run", message.as_str()))
-        }
+        Some((first, second)) => Err(doubled_name_error(alloc, first, second)?),
         None => Ok(()),
     }
+}
+
+/// Returns the error for two sentences whose files have the same name. Fails if memory is refused.
+fn doubled_name_error(alloc: Global, first: &str, second: &str) -> Result<Error, AllocError> {
+    let name = file_name_of(second);
+    let message = format!(in alloc;
+        "the sentences '{first}' and '{second}' would both be translated to '{name}.out'"
+    )?;
+    Ok(misuse_of(alloc, "run", message.as_str()))
 }
 
 /// Returns two paths for which `file_name_of` returns the same name, if there are two. If there are
@@ -62,16 +65,21 @@ fn doubled_name<'a>(
 ) -> Result<Option<(&'a str, &'a str)>, AllocError> {
     let mut sorted = Vec::from_slice(alloc, paths)?;
     sorted.sort_unstable_by(|a, b| file_name_of(a).cmp(file_name_of(b)));
+    Ok(doubled_neighbour(sorted.as_slice()))
+}
+
+/// Returns the first two neighbours for which `file_name_of` returns the same name.
+fn doubled_neighbour<'a>(paths: &[&'a str]) -> Option<(&'a str, &'a str)> {
     let mut last: Option<&str> = None;
-    for path in sorted {
+    for path in paths {
         if let Some(before) = last {
             if file_name_of(before) == file_name_of(path) {
-                return Ok(Some((before, path)));
+                return Some((before, *path));
             }
         }
-        last = Some(path);
+        last = Some(*path);
     }
-    Ok(None)
+    None
 }
 
 /// Returns the name of a path's file in its folder: what follows the last slash, or the path if it

@@ -12,6 +12,7 @@ use crate::input::{InputPath, STANDARD};
 use crate::misuse::{check_once, check_sentences, check_tree};
 use crate::plain::PlainLines;
 use crate::tree_requests::{ExplainWords, ShowWords, explain_words, show_words};
+use crate::values::{input_of, value_of, values_of};
 use clap::error::ErrorKind;
 use clap::{ArgMatches, Error};
 use std::alloc::Global;
@@ -184,16 +185,22 @@ impl<'a> CommandLine<'a> {
 /// wrong, or refused memory.
 fn parse<'a>(alloc: Global, words: &'a [String]) -> Result<CommandLine<'a>, Error> {
     let matches = program(alloc)?.try_get_matches_from(words)?;
-    match matches.subcommand() {
-        Some((name, matches)) => Ok(CommandLine {
-            request: request_of(alloc, name, matches)?,
-            messages: messages_of(matches),
-        }),
-        None => Ok(CommandLine {
+    command_line_of(alloc, &matches)
+}
+
+/// Returns the command line that clap has parsed. Fails as `request_of` does.
+fn command_line_of<'a>(alloc: Global, matches: &ArgMatches<'a>) -> Result<CommandLine<'a>, Error> {
+    let Some((name, matches)) = matches.subcommand() else {
+        return Ok(CommandLine {
             request: Request::Job,
-            messages: messages_of(&matches),
-        }),
-    }
+            messages: messages_of(matches),
+        });
+    };
+    let request = request_of(alloc, name, matches)?;
+    Ok(CommandLine {
+        request,
+        messages: messages_of(matches),
+    })
 }
 
 /// Returns how messages are printed.
@@ -217,11 +224,22 @@ fn request_of<'a>(
     name: &str,
     matches: &ArgMatches<'a>,
 ) -> Result<Request<'a>, Error> {
+    match name {
+        "run" => run_request(alloc, matches),
+        "eval" => eval_request(alloc, matches),
+        "value" => Ok(Request::Value(value_of(matches, EXPRESSION))),
+        "parse" => parse_request(alloc, matches),
+        "show" => show_request(alloc, matches),
+        "explain" => explain_request(alloc, matches),
+        "upgrade" => upgrade_request(alloc, matches),
+        _ => Ok(grammar_request(name, matches)),
+    }
+}
+
+/// Returns the request that a command about a grammar alone makes.
+fn grammar_request<'a>(name: &str, matches: &ArgMatches<'a>) -> Request<'a> {
     let grammar = input_of(matches, GRAMMAR);
-    let request = match name {
-        "run" => return run_request(alloc, matches),
-        "eval" => return eval_request(alloc, matches),
-        "value" => Request::Value(value_of(matches, EXPRESSION)),
+    match name {
         "check" => Request::Check(grammar),
         "plan" => Request::Plan(grammar),
         "why" => Request::Why(WhyWords {
@@ -229,41 +247,66 @@ fn request_of<'a>(
             attribute: matches.get_str(ATTRIBUTE),
         }),
         "code" => Request::Code(grammar),
-        "parse" => return parse_request(alloc, matches),
-        "show" => Request::Show(show_words(alloc, matches)?),
-        "explain" => Request::Explain(explain_words(alloc, matches)?),
-        "upgrade" => return upgrade_request(alloc, matches),
         // clap accepts no other command
         _ => Request::Job,
-    };
-    Ok(request)
+    }
 }
 
 /// Returns the request that `run` makes. Fails as `request_of` does.
 fn run_request<'a>(alloc: Global, matches: &ArgMatches<'a>) -> Result<Request<'a>, Error> {
+    match matches.get_str(OUT_DIR) {
+        Some(folder) => Ok(Request::RunAll(batch_paths(alloc, matches, folder)?)),
+        None => Ok(Request::Run(run_paths(alloc, matches)?)),
+    }
+}
+
+/// Returns the words that `run` takes with `--out-dir`, whose value is `folder`. Fails as
+/// `request_of` does.
+fn batch_paths<'a>(
+    alloc: Global,
+    matches: &ArgMatches<'a>,
+    folder: &'a str,
+) -> Result<BatchPaths<'a>, Error> {
+    let sentences = values_of(alloc, matches, SENTENCE)?;
+    check_sentences(alloc, sentences.as_slice())?;
+    Ok(BatchPaths {
+        grammar: input_of(matches, GRAMMAR),
+        sentences,
+        folder,
+        work: matches.get_str(WORK),
+    })
+}
+
+/// Returns the words that `run` takes for one sentence. Fails as `request_of` does.
+fn run_paths<'a>(alloc: Global, matches: &ArgMatches<'a>) -> Result<RunPaths<'a>, Error> {
+    check_single(alloc, matches)?;
     let grammar = input_of(matches, GRAMMAR);
-    let sentences = matches.get_strs(SENTENCE).unwrap_or(&[]);
-    let work = matches.get_str(WORK);
-    if let Some(folder) = matches.get_str(OUT_DIR) {
-        check_sentences(alloc, sentences)?;
-        return Ok(Request::RunAll(BatchPaths {
-            grammar,
-            sentences: Vec::from_slice(alloc, sentences)?,
-            folder,
-            work,
-        }));
-    }
-    if 1 < sentences.len() {
-        return Err(misuse_of(alloc, "run", "several sentences need '--out-dir <DIR>'"));
-    }
     let sentence = input_of(matches, SENTENCE);
     check_once(alloc, "run", [grammar, sentence])?;
-    Ok(Request::Run(RunPaths {
+    Ok(RunPaths {
         grammar,
         sentence,
         output: output_of(matches),
-        work,
-    }))
+        work: matches.get_str(WORK),
+    })
+}
+
+/// Fails if `run` has several sentences.
+fn check_single(alloc: Global, matches: &ArgMatches<'_>) -> Result<(), Error> {
+    if 1 < matches.get_strs(SENTENCE).unwrap_or(&[]).len() {
+        return Err(misuse_of(alloc, "run", "several sentences need '--out-dir <DIR>'"));
+    }
+    Ok(())
+}
+
+/// Returns the request that `show` makes. Fails as `request_of` does.
+fn show_request<'a>(alloc: Global, matches: &ArgMatches<'a>) -> Result<Request<'a>, Error> {
+    Ok(Request::Show(show_words(alloc, matches)?))
+}
+
+/// Returns the request that `explain` makes. Fails as `request_of` does.
+fn explain_request<'a>(alloc: Global, matches: &ArgMatches<'a>) -> Result<Request<'a>, Error> {
+    Ok(Request::Explain(explain_words(alloc, matches)?))
 }
 
 /// Returns the request that `eval` makes. Fails as `request_of` does.
@@ -306,11 +349,6 @@ fn upgrade_request<'a>(alloc: Global, matches: &ArgMatches<'a>) -> Result<Reques
     }))
 }
 
-/// Returns the input that an argument names.
-fn input_of<'a>(matches: &ArgMatches<'a>, name: &str) -> InputPath<'a> {
-    InputPath::of(value_of(matches, name))
-}
-
 /// Returns the file for the translation. None if the translation is printed: no file is named, or
 /// the word is `-`.
 fn output_of<'a>(matches: &ArgMatches<'a>) -> Option<&'a str> {
@@ -318,13 +356,6 @@ fn output_of<'a>(matches: &ArgMatches<'a>) -> Option<&'a str> {
         Some(path) if path != STANDARD => Some(path),
         _ => None,
     }
-}
-
-/// Returns the value of an argument, or the empty text if it is missing. Clap accepts no command
-/// line in which a required argument is missing. But `request_of` reads G before it looks at the
-/// command, and `value` has no G. The empty text is not used then.
-fn value_of<'a>(matches: &ArgMatches<'a>, name: &str) -> &'a str {
-    matches.get_str(name).unwrap_or("")
 }
 
 /// Prints help, the version, or what is wrong with the words. Returns a command line whose request

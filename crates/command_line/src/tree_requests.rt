@@ -4,11 +4,15 @@ use crate::commands::{GRAMMAR, TREE, misuse_of};
 use crate::input::InputPath;
 use crate::misuse::{check_once, check_tree};
 use crate::tree_options::{AT, ATTRIBUTES, DEPTH, ERRORS, JSON, NODE, OF_SENTENCE, ONLY, WIDTH};
+use crate::values::{input_of, value_of, values_of};
 use clap::{ArgMatches, Error};
 use std::alloc::Global;
 
 /// The greatest number of characters of a value that is not a number, if `--width` is missing.
-const DEFAULT_WIDTH: usize = 60;
+const DEFAULT_WIDTH: u32 = 60;
+
+/// The message about a wrong value of `--depth`.
+const WRONG_DEPTH: &str = "'--depth <N>' needs a number from 1";
 
 /// The words that `show` takes.
 #[derive(Drop)]
@@ -28,6 +32,15 @@ pub struct ShowWords<'a> {
     pub width: usize,
     /// Whether nodes are printed as JSON.
     pub json: bool,
+}
+
+/// The limits of what `show` prints, as their options name them.
+#[derive(Clone, Copy)]
+struct Limits {
+    /// The number of levels, from 1.
+    depth: u32,
+    /// The number of characters of a value that is not a number; 0 for whole values.
+    width: u32,
 }
 
 /// How the words name a node.
@@ -73,26 +86,33 @@ pub struct ExplainWords<'a> {
 /// `-`, or if the value of `--depth` or `--width` is not a number in range. Fails with the error of
 /// refused memory if memory is refused.
 pub fn show_words<'a>(alloc: Global, matches: &ArgMatches<'a>) -> Result<ShowWords<'a>, Error> {
-    let tree = matches.get_str(TREE).unwrap_or("");
+    let tree = value_of(matches, TREE);
     check_tree(alloc, "show", tree)?;
+    let limits = limits_of(alloc, matches)?;
+    Ok(ShowWords {
+        grammar: input_of(matches, GRAMMAR),
+        tree,
+        depth: limits.depth.saturating_sub(1),
+        node: matches.get_str(NODE),
+        only: values_of(alloc, matches, ONLY)?,
+        width: limits.width as usize,
+        json: matches.get_flag(JSON),
+    })
+}
+
+/// Returns the limits of `show`. Fails with the error that clap prints if the value of `--depth` or
+/// `--width` is not a number in range.
+fn limits_of(alloc: Global, matches: &ArgMatches<'_>) -> Result<Limits, Error> {
     let Some(depth) = number_of(matches, DEPTH, u32::MAX) else {
-        return Err(misuse_of(alloc, "show", "'--depth <N>' needs a number from 1"));
+        return Err(misuse_of(alloc, "show", WRONG_DEPTH));
     };
-    let Some(width) = number_of(matches, WIDTH, DEFAULT_WIDTH as u32) else {
+    let Some(width) = number_of(matches, WIDTH, DEFAULT_WIDTH) else {
         return Err(misuse_of(alloc, "show", "'--width <N>' needs a number"));
     };
     if depth == 0 {
-        return Err(misuse_of(alloc, "show", "'--depth <N>' needs a number from 1"));
+        return Err(misuse_of(alloc, "show", WRONG_DEPTH));
     }
-    Ok(ShowWords {
-        grammar: InputPath::of(matches.get_str(GRAMMAR).unwrap_or("")),
-        tree,
-        depth: depth.saturating_sub(1),
-        node: matches.get_str(NODE),
-        only: Vec::from_slice(alloc, matches.get_strs(ONLY).unwrap_or(&[]))?,
-        width: width as usize,
-        json: matches.get_flag(JSON),
-    })
+    Ok(Limits { depth, width })
 }
 
 /// Returns the number that is the value of an option, or `other` if the option is not there.
@@ -111,31 +131,42 @@ pub fn explain_words<'a>(
     alloc: Global,
     matches: &ArgMatches<'a>,
 ) -> Result<ExplainWords<'a>, Error> {
-    let tree = matches.get_str(TREE).unwrap_or("");
+    let tree = value_of(matches, TREE);
     check_tree(alloc, "explain", tree)?;
-    let grammar = InputPath::of(matches.get_str(GRAMMAR).unwrap_or(""));
     let node = node_words(alloc, matches)?;
-    if let NodeWords::At(place) = node {
-        check_once(alloc, "explain", [grammar, place.sentence])?;
-    }
     Ok(ExplainWords {
-        grammar,
+        grammar: input_of(matches, GRAMMAR),
         tree,
         node,
         errors: matches.get_flag(ERRORS),
-        attributes: Vec::from_slice(alloc, matches.get_strs(ATTRIBUTES).unwrap_or(&[]))?,
+        attributes: values_of(alloc, matches, ATTRIBUTES)?,
     })
 }
 
-/// Returns how the words name the node that `explain` explains. Fails with the error that clap
-/// prints if the value of `--at` is not two numbers from 1.
+/// Returns how the words name the node that `explain` explains. Fails as `place_of` does.
 fn node_words<'a>(alloc: Global, matches: &ArgMatches<'a>) -> Result<NodeWords<'a>, Error> {
-    let Some(at) = matches.get_str(AT) else {
-        return Ok(match matches.get_str(NODE) {
-            Some(path) => NodeWords::Path(path),
-            None => NodeWords::None,
-        });
-    };
+    match matches.get_str(AT) {
+        Some(at) => Ok(NodeWords::At(place_of(alloc, matches, at)?)),
+        None => Ok(path_words(matches)),
+    }
+}
+
+/// Returns how the words name a node if `--at` is missing.
+fn path_words<'a>(matches: &ArgMatches<'a>) -> NodeWords<'a> {
+    match matches.get_str(NODE) {
+        Some(path) => NodeWords::Path(path),
+        None => NodeWords::None,
+    }
+}
+
+/// Returns the place in the sentence that `at` names, the value of `--at`. Fails with the error
+/// that clap prints if `at` is not two numbers from 1, or if both the grammar and the sentence are
+/// `-`.
+fn place_of<'a>(
+    alloc: Global,
+    matches: &ArgMatches<'a>,
+    at: &str,
+) -> Result<PlaceInSentence<'a>, Error> {
     let Some((line, column)) = numbers_in(at) else {
         return Err(misuse_of(
             alloc,
@@ -143,11 +174,13 @@ fn node_words<'a>(alloc: Global, matches: &ArgMatches<'a>) -> Result<NodeWords<'
             "'--at <LINE:COLUMN>' needs two numbers from 1, such as 3:14",
         ));
     };
-    Ok(NodeWords::At(PlaceInSentence {
-        sentence: InputPath::of(matches.get_str(OF_SENTENCE).unwrap_or("")),
+    let sentence = input_of(matches, OF_SENTENCE);
+    check_once(alloc, "explain", [input_of(matches, GRAMMAR), sentence])?;
+    Ok(PlaceInSentence {
+        sentence,
         line,
         column,
-    }))
+    })
 }
 
 /// Returns the line and the column in a word such as `3:14`, both from 1. Returns `None` for any
