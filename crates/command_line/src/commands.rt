@@ -149,7 +149,7 @@ const WORK_FOLDER: Argument = Argument {
 
 /// The options that all commands have: when messages are marked with colour, and whether the
 /// progress and the messages of refusals are hidden.
-static GLOBAL_OPTIONS: &[Argument] = &[
+const GLOBAL_OPTIONS: &[Argument] = &[
     Argument {
         name: COLOR,
         form: Form::Choice("WHEN", COLORS),
@@ -168,7 +168,7 @@ static GLOBAL_OPTIONS: &[Argument] = &[
 ];
 
 /// The commands, in the order in which help lists them.
-static COMMANDS: &[Entry] = &[
+const COMMANDS: &[Entry] = &[
     Entry {
         name: "run",
         about: "Translates a sentence by a grammar, and prints the translation with no newline added",
@@ -259,6 +259,12 @@ static COMMANDS: &[Entry] = &[
     },
 ];
 
+/// Returns `COMMANDS`. The prover checks the whole table wherever the constant is named, so only
+/// this function names it.
+fn entries() -> &'static [Entry] {
+    COMMANDS
+}
+
 /// A command, as help describes it: its name, what it does, its arguments in their order, and an
 /// example, which comes last in the help.
 #[derive(Clone, Copy)]
@@ -297,7 +303,7 @@ pub fn program<'a>(alloc: Global) -> Result<Command<'a>, AllocError> {
 /// Returns the commands in their order. Fails if memory is refused.
 fn commands<'a>(alloc: Global) -> Result<Vec<Command<'a>>, AllocError> {
     let mut commands = Vec::new(alloc);
-    for entry in COMMANDS {
+    for entry in entries() {
         commands.push(entry.to_command(alloc)?)?;
     }
     Ok(commands)
@@ -334,7 +340,7 @@ fn usage_error(alloc: Global, name: &str, message: &str) -> Result<Error, AllocE
 /// Returns the command `name`, or that of the program if it has no such command. Fails if memory is
 /// refused.
 fn command_named<'a>(alloc: Global, name: &str) -> Result<Command<'a>, AllocError> {
-    match COMMANDS.iter().find(|entry| entry.name == name) {
+    match entries().iter().find(|entry| entry.name == name) {
         Some(entry) => entry.to_invoked_command(alloc),
         None => root_command(alloc),
     }
