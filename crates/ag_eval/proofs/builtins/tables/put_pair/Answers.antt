@@ -1,13 +1,27 @@
 use Rattle.ag_eval.proofs.Common
-use Common.{◌≡◌, ◌∙◌, ◌+◌, ap, arith, false, length, refl, slice_get, subst, sym, insert, IsWell, is_item, Value, IsIndex}
+use Common.{◌≡◌, ◌∙◌, ◌+◌, ap, arith, false, length, refl, slice_get, subst, sym, true, insert, IsWell, is_item, Value, IsIndex}
 use Common.{has_key, item_of, rising_table}
 use Common.value
 use Rattle.std.proofs.lemmas.Str.{is_utf8-from_IsUtf8}
-use Rattle.ag_eval.proofs.Putting.{fits-inserted, inserts, item_with}
+use Rattle.ag_eval.proofs.Putting.{fits-inserted, inserts, item_with, within}
 use Rattle.ag_eval.proofs.builtins.tables.put_pair.Goals as goal
 
 pub index_of-index-requires : goal.index_of-index-requires
 index_of-index-requires c = rw c.as_slice.ensures (rising_table _ c.args.table.pairs refl c.requires.table)
+
+pub replaced-requires : goal.replaced-requires
+replaced-requires c =
+    let pairs = c.args.table.pairs in
+    let x : Value = c.args.item in
+    let i = c.index_of-index.result in
+    let well : IsWell x = subst IsWell c.into_value.ensures.value c.into_value.ensures.well in
+    let here : has_key c.args.key.now (slice_get pairs i) ≡ true =
+    rw (← c.as_slice-2.ensures, ← c.has_at.ensures) c.if-has_at.true in
+    record {
+      table = c.requires.table;
+      item = rw c.into_value.ensures.value (item_of x well c.requires.no_fault);
+      within = within c.args.key.now pairs i here;
+    }
 
 pub fit-requires : goal.fit-requires
 fit-requires c =
