@@ -3,8 +3,8 @@ use Rattle.ag_eval.proofs.Common
 use Common.{ℕ, ◌≡◌, ◌+◌, ◌<◌, true, List, drop, get_or, length, map, and_parts, drop_more, Value, Node, Operator, chain_value}
 use Common.{value_in, all_below, operation_result}
 
--- `old` is the value of the first i + 1 operands of a chain, and `new` that of the first i + 2. The chain has the value `whole` if
--- it goes on from `old` with the remaining operands, and also if it goes on from `new` without the first of these, x.
+-- `old` is the value of the first i + 1 operands of a chain, and `new` that of the first i + 2. The chain has the value `whole`
+-- if it goes on from `old` with the remaining operands, and also if it goes on from `new` without the first of these, x.
 module _ (others : List (Operator × Node)) (i : ℕ) (x : Operator × Node) (lt : i < length others) (env : ℕ → Value)
     (bound : List Value) where
   pub chained_more : (old new right whole : Value) → x ≡ get_or others i x → right ≡ value_in x.1 env bound
