@@ -1,5 +1,5 @@
-//! The options of the commands that print tree files: `show` and `explain`. Each constant is the
-//! name of an option or of an argument, as in `commands`.
+//! The options of the commands that print tree files: `show` and `explain`. Each constant that is a
+//! text is the name of an option or of an argument, as in `commands`.
 
 use crate::argument::{Argument, Form, PLAIN};
 
