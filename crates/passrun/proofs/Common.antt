@@ -76,6 +76,7 @@ pub use Rattle.passrun.specs.declared.passing.ends.Passed.{Passed}
 pub use Rattle.passrun.specs.declared.passing.machine.Machine.{Machine}
 pub use Rattle.passrun.specs.passing.Ahead.{IsRunFault, children_of, following, goes_next, pending, pending_of_child}
 pub use Rattle.passrun.specs.passing.Change.{node_table, with_row}
+pub use Rattle.passrun.specs.passing.OpenNodes.{RootPath}
 pub use Rattle.passrun.specs.passing.Putting.{AddsFrames, HasPut, LeavesFrames}
 pub use Rattle.passrun.specs.passing.RunInvariant.{AreHeld, ContinuesAs, Entry, Expects, IsActive, IsConsistent, IsCurrent}
 pub use Rattle.passrun.specs.passing.RunInvariant.{IsEvaluatedTree, IsGone, IsHeld, IsOpenNode, IsReady, IsRootReady, Keeps}

@@ -26,7 +26,7 @@ record FirstCome (c : Setting) (content : List ℕ) (m : Machine) (x : OpenNode)
   left : Pending
   readable : IsReadable (source c) content
   here : ArrivesAt (source c) content m.back.progress.at
-      ((suc (length m.waiting.items + 1), (row.item, Some (values_up_to c.read (copied_passes c row.item) values))) ∷ left)
+      ((suc (length m.waiting.nodes + 1), (row.item, Some (values_up_to c.read (copied_passes c row.item) values))) ∷ left)
   count : m.back.progress.records ≡ length here.bodies
   found : (more : List Value) → (rest : List Value)
       × (drop (x.base + row.start) (m.values.items ++ more) ≡ values_up_to c.write (copied_passes c row.item) values ++ rest)
@@ -36,11 +36,11 @@ module _ {c : Setting} (sound : IsSound c) where
   first_come : {w : World} {m : Machine} {x : OpenNode} {j : ℕ} {row : PlaceRow} → Runs c w m (Some x)
       → IsNext c x (instr.Get j) → Answers c x j (Some row) → w.first.honest ≡ true → FirstCome c w.first.content m x j row
   first_come {m} {x} {row} r at is honest =
-      let xs = reverse m.waiting.items in
+      let xs = reverse m.waiting.nodes in
       let i = got_place r at is in
-      let first = get_first sound m.root xs (record { next = at; there = i.there; occurs = i.occurs }) r.invariant in
-      let l = length-reverse m.waiting.items in
-      let level : suc (suc (length xs)) ≡ suc (length m.waiting.items + 1) = omega arith in
+      let first = get_first sound m.waiting.root xs (record { next = at; there = i.there; occurs = i.occurs }) r.invariant in
+      let l = length-reverse m.waiting.nodes in
+      let level : suc (suc (length xs)) ≡ suc (length m.waiting.nodes + 1) = omega arith in
       record {
         values = first.0;
         left = first.1;
@@ -57,19 +57,19 @@ module _ {c : Setting} (sound : IsSound c) where
       }
 
   pub get_refused : {w : World} {m : Machine} {x : OpenNode} {j n : ℕ} {row : PlaceRow} (f : RunFault)
-      → Runs c w m (Some x) → IsNext c x (instr.Get j) → Answers c x j (Some row) → n ≡ length m.waiting.items + 1
+      → Runs c w m (Some x) → IsNext c x (instr.Get j) → Answers c x j (Some row) → n ≡ length m.waiting.nodes + 1
       → w.first.honest ≡ true → IsUnfetched c row.item n w.first.content m.back f → IsRunFault c w.first.content f
   get_refused {m} {n} {row} f r at is count honest h =
       let z = first_come r at is honest in
       unfetched sound (Some (values_up_to c.read (copied_passes c row.item) z.values))
-      (length m.waiting.items + 1) m.back z.left f z.readable z.here z.count
+      (length m.waiting.nodes + 1) m.back z.left f z.readable z.here z.count
       (rw count at h)
 
   -- If the record of a child does not agree with the child's copy, the content is damaged.
   pub get_differs : {w : World} {honest : Bool} {m : Machine} {x : OpenNode} {j p n : ℕ} {row : PlaceRow}
       {back : BackState} {read ours theirs : List Value} {from start : ℕ} (answer : Bool) → Runs c w m (Some x)
       → IsNext c x (instr.Get j) → Answers c x j (Some row)
-      → n ≡ length m.waiting.items + 1
+      → n ≡ length m.waiting.nodes + 1
       → HasFetched c row.item p n honest w.first.content m.back back m.values.items read → Agrees c row.item ours theirs answer
       → (IsTrue answer → ⊥) → ours ≡ drop from read → theirs ≡ drop start read → from ≡ x.base + row.start
       → start ≡ length m.values.items

@@ -4,6 +4,7 @@ pub mod RuleTargets
 pub mod RuleRuns
 pub mod Going
 pub mod Lending
+pub mod Paths
 pub mod Moves
 pub mod Ruled
 pub mod Running

@@ -4,8 +4,8 @@ use Common.{Vec, option_map, ℕ, ◌≡◌, ◌+◌, ◌-◌, ◌^◌, ◌<◌,
 use Common.{Ok, length, is_some, Bor, refl, ap, ◌∙◌, sym, subst, arith, append-nil, Value, IsWell, stored_items}
 use Common.{direction_of, other, following, children_of, pending_of_child, max_nodes, FrameFault, next_before, LeavesContent}
 use Common.{WhenHonest, Node, before_others, body_of, header, version_two, none_at_header, HasRead, BackState, IsOver, lent_body}
-use Common.{Between, Setting, IsSound, Machine, OpenNode, IsReadable, source, Runs, first_at, copies, stored, HasFetched}
-use Common.{IsPassed, RunInvariant, Transcript, after_reading, Entry, HasPut, World, between, first_row, All-nil}
+use Common.{Between, Setting, IsSound, Machine, IsReadable, source, Runs, first_at, copies, stored, HasFetched}
+use Common.{IsPassed, RunInvariant, Transcript, after_reading, Entry, HasPut, RootPath, World, between, first_row, All-nil}
 use Common.item
 use Common.writing
 use Rattle.backreader.proofs.EndingAt.{all_bytes}
@@ -31,8 +31,8 @@ reader_kept {old} {now} {found} h was none = cc (none_lent found none)
 
 module _ {c : Setting} (sound : IsSound c) where
   pub begun_runs : {p meter began start : ℕ} {honest to_honest : Bool} {content content' to : List ℕ}
-      {state back : BackState} {out : writing.Progress} (old : Vec Value) {values : Vec Value} {waiting : Vec OpenNode}
-      → old.items ≡ [] → waiting.items ≡ [] → start ≡ c.grammar.start → began ≡ meter
+      {state back : BackState} {out : writing.Progress} (old : Vec Value) {values : Vec Value} {waiting : RootPath}
+      → old.items ≡ [] → waiting ≡ record { root = p; nodes = [] } → start ≡ c.grammar.start → began ≡ meter
       → HasFetched c (item.Symbol start) p 0 honest content state back old.items values.items
       → LeavesContent honest content content'
       → WhenHonest honest (IsReadable (source c) content) → WhenHonest honest (IsOver content state)
@@ -40,9 +40,9 @@ module _ {c : Setting} (sound : IsSound c) where
       → state.progress.version ≡ version_two → state.progress.fault ≡ None
       → WhenHonest to_honest (to ≡ header version_two c.write) → out ≡ record { written = 0; is_broken = false } → meter ≤ 2 ^ 63
       → Runs c (between honest content' to_honest to meter)
-      (record { back = back; writer = out; values = values; waiting = waiting; root = p; begun = began }) (Some (first_at p 0))
+      (record { back = back; writer = out; values = values; waiting = waiting; begun = began }) (Some (first_at waiting.root 0))
   begun_runs {p} {meter} {began} {honest} {to_honest} {content} {content'} {to} {state} {back} {out} old {values}
-      is_empty none_wait is_start is_meter h' leaves readable over end fresh version unbroken head begun low =
+      is_empty path is_start is_meter h' leaves readable over end fresh version unbroken head begun low =
       let h = subst (λ s. HasFetched c (item.Symbol s) p 0 honest content state back old.items values.items) is_start h' in
       let t = h.taken in
       let f = t.values in
@@ -70,7 +70,7 @@ module _ {c : Setting} (sound : IsSound c) where
       record {
         transcript = record { read = [] ++ h.body ∷ []; put = [] };
         todo = todo;
-        invariant = rw (none_wait, none) passing';
+        invariant = rw (path, none) passing';
         over = λ z. rw (leaves z) (h.over z);
         read = λ z. rw (leaves z) (ap (next_before version_two content) (sym (end z)) ∙ h.found z, cc (end z));
         records = omega arith;
@@ -107,7 +107,7 @@ module _ {c : Setting} (sound : IsSound c) where
 
   pub passed : {w : World} {to_honest : Bool} {to : List ℕ} {m : Machine} {out : writing.Progress} {values : List Value}
       {count : ℕ} → Runs c w m None → w.first.honest ≡ true → (to_honest ≡ true → w.second.honest ≡ true) → to_honest ≡ true
-      → values ≡ m.values.items → HasPut Node m.root values to_honest w.second.content to m.writer out
+      → values ≡ m.values.items → HasPut Node m.waiting.root values to_honest w.second.content to m.writer out
       → next_before version_two w.first.content m.back.progress.at ≡ Ok None → count ≡ m.back.progress.records
       → IsPassed c w.first.content to count (w.meter - m.begun)
   passed {w} {to = to} {m} {count = count} r is before to_is vs put end counted =
@@ -115,6 +115,6 @@ module _ {c : Setting} (sound : IsSound c) where
       let bytes = put_more c r.transcript.put (rw vs at put) before r.put to_is in
       let file = r.readable is in
       let bytes' = all_bytes content m.back (r.over is) (none_at_header version_two content m.back.progress.at end) in
-      finished c sound m.root content to m.values.items r.transcript m.back.progress.at count (w.meter - m.begun)
-      (body_of Node m.root m.values.items) r.todo r.invariant (cc) bytes' file.begins file.number (r.read is) end bytes
+      finished c sound m.waiting.root content to m.values.items r.transcript m.back.progress.at count (w.meter - m.begun)
+      (body_of Node m.waiting.root m.values.items) r.todo r.invariant (cc) bytes' file.begins file.number (r.read is) end bytes
       (cc) r.few

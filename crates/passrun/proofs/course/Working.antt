@@ -3,7 +3,7 @@ use Rattle.passrun.proofs.Common
 use Common.{Vec, option_to_list, slice_index_or, ℕ, zero, suc, ◌≡◌, ◌+◌, ◌*◌, ◌-◌, ◌<◌, ◌≤◌, ◌⊎◌, inl, inr, Bool, true, false}
 use Common.{if◌then◌else◌, List, [], ◌∷◌, ◌++◌, Option, Some, None, drop, length, reverse, refl, ap, arith, reverse-append, Value}
 use Common.{Item, max_nodes, BackState, Instr, Lists, Setting, list_at, IsSound, Machine, OpenNode, goes_next, HasFetched}
-use Common.{rest_of, Runs, RunsRuleNext, World, stack_of, left_at, after_step}
+use Common.{RootPath, rest_of, Runs, RunsRuleNext, World, stack_of, left_at, after_step}
 use Common.writing
 use Common.instr
 use Rattle.std.proofs.Math.Nat.{mul-suc}
@@ -71,7 +71,7 @@ module _ {c : Setting} (sound : IsSound c) where
         arith,
         fewer c x at,
         ap (λ next. length (rest_of c next)) on,
-        going_none c next (cc (put_stays m.root (reverse m.waiting.items) at r.invariant)),
+        going_none c next (cc (put_stays m.waiting.root (reverse m.waiting.nodes) at r.invariant)),
       )
 
   pub given_less : (m : Machine) (values : Vec Value) (x : OpenNode) {next : OpenNode} (rule : ℕ) → RunsRuleNext c x rule
@@ -88,16 +88,16 @@ module _ {c : Setting} (sound : IsSound c) where
       go z (inl e) = cc
       go z (inr e) = cc
 
-  pub entered_less : {w : World} {m : Machine} (waiting : Vec OpenNode) {x : OpenNode} (child : OpenNode) {j : ℕ}
+  pub entered_less : {w : World} {m : Machine} (waiting : RootPath) {x : OpenNode} (child : OpenNode) {j : ℕ}
       → Runs c w m (Some x) → IsNext c x (instr.Go j)
-      → child.production ≡ x.child → child.at ≡ 0 → waiting.items ≡ m.waiting.items ++ left_at x j ∷ []
+      → child.production ≡ x.child → child.at ≡ 0 → waiting.nodes ≡ m.waiting.nodes ++ left_at x j ∷ []
       → measure c (record m { waiting = waiting }) (Some child) < measure c m (Some x)
   entered_less {w} {m} waiting {x} child {j} r at is first pushed =
-      let stack : reverse waiting.items ≡ left_at x j ∷ reverse m.waiting.items =
-      cc (reverse-append m.waiting.items (left_at x j ∷ [])) in
+      let stack : reverse waiting.nodes ≡ left_at x j ∷ reverse m.waiting.nodes =
+      cc (reverse-append m.waiting.nodes (left_at x j ∷ [])) in
       let here : reserved_work c (Some x) ≡ node_cost c = cc (next_is (list_at c x.production) x.at (instr.Go j) at) in
       let h =
-      child_of (reverse m.waiting.items) at (m.root, r.transcript, w.meter - m.begun, r.todo, r.invariant) in
+      child_of m.waiting.root (reverse m.waiting.nodes) at (r.transcript, w.meter - m.begun, r.todo, r.invariant) in
       let rest : rest_of c child ≡ list_at c x.child = cc in
       omega (
         arith,
@@ -109,15 +109,15 @@ module _ {c : Setting} (sound : IsSound c) where
         ap length rest,
       )
 
-  pub ended_less : {w : World} {m : Machine} (values : Vec Value) (waiting : Vec OpenNode) (out : writing.Progress) {x : OpenNode}
+  pub ended_less : {w : World} {m : Machine} (values : Vec Value) (waiting : RootPath) (out : writing.Progress) {x : OpenNode}
       (result : Option OpenNode) → Runs c w m (Some x)
-      → m.waiting.items ≡ waiting.items ++ option_to_list result → (result ≡ None → length m.waiting.items ≡ 0)
+      → m.waiting.nodes ≡ waiting.nodes ++ option_to_list result → (result ≡ None → length m.waiting.nodes ≡ 0)
       → measure c (record m { writer = out; values = values; waiting = waiting }) result < measure c m (Some x)
   ended_less {m} values waiting out result r popped_is none =
-      let stack = popped result m.waiting.items waiting.items popped_is none in
+      let stack = popped result m.waiting.nodes waiting.nodes popped_is none in
       omega (arith, ap (remaining_work c) stack, is_open result stack)
     where
-      is_open : (result : Option OpenNode) → reverse m.waiting.items ≡ stack_of result waiting.items → reserved_work c result ≡ 0
+      is_open : (result : Option OpenNode) → reverse m.waiting.nodes ≡ stack_of result waiting.nodes → reserved_work c result ≡ 0
       is_open None e = refl
       is_open (Some y) e =
-          going_none c y (waits_stay m.root (reverse m.waiting.items) e r.invariant)
+          going_none c y (waits_stay m.waiting.root (reverse m.waiting.nodes) e r.invariant)

@@ -1,6 +1,6 @@
 -- The steps of a machine: from the effect of a part of the code to a running machine.
 use Rattle.passrun.proofs.Common
-use Common.{Vec, option_to_list, IsTrue, MatchOption, ℕ, suc, zero, ◌≡◌, ◌+◌, ◌-◌, ◌^◌, ◌<◌, ◌≤◌, nat_le, if◌then◌else◌}
+use Common.{Vec, option_to_list, IsTrue, ℕ, suc, zero, ◌≡◌, ◌+◌, ◌-◌, ◌^◌, ◌<◌, ◌≤◌, nat_le, if◌then◌else◌}
 use Common.{Bool, List, [], ◌∷◌, ◌++◌, Option, Some, None, All, slice_get, slice_index, get_or, length}
 use Common.{take, drop, reverse, set, refl, ap, ◌∙◌, sym, arith, append_assoc, append-nil, true, le-leb, get_or_from_slice_get}
 use Common.{All-append, All-drop, All-from_get_or, All-set, All-take}
@@ -8,14 +8,13 @@ use Common.{slice_get-get_or, slice_get_within, drop_at, length-reverse, reverse
 use Common.{Item, Production, Rule, Literal, Class, Target, IsArgument, IsProduction, item_at, stored_items, value_of, Node}
 use Common.{Token, LeavesContent, values_up_to, BackState, Setting, IsSound, PlaceRow, ProductionRow, RuleSlots, Machine}
 use Common.{OpenNode, HasFetched, AreSlotsOf, IsRowAt, IsRowOf, after_step, ContinuesAs, IsConsistent, copied_passes, copies}
-use Common.{kept_values, HasPut, Agrees, IsRead, read_values, Runs, World, Preserves, any_world}
+use Common.{RootPath, kept_values, HasPut, Agrees, IsRead, read_values, Runs, World, Preserves, any_world}
 use Common.{RunsRuleNext, first_device, meter_at, second_device, stack_of}
 use Common.{argument_slot, copied_width, copy_start, known_width, target_slot, count_of_values, place_is, place_within}
 use Common.{slots_found, some_at, empty_is}
 use Common.item
 use Common.writing
 use Common.instr
-use Rattle.std.proofs.lemmas.List.{nil_from_length}
 use Rattle.ag_grammar.specs.declared.grammar.Terminal.{Terminal}
 use Rattle.pass_rows.specs.layouts.BuiltLayouts.{place_rows}
 use Rattle.passrun.proofs.course.Counted.{passing_counted}
@@ -101,14 +100,6 @@ indexed : {X : Type 0} {xs ys : List X} (i : ℕ) {x y : X} → xs ≡ ys → x 
 indexed {xs = xs} {ys} i {x} {y} same is there =
     let less : i < length xs = omega (arith, slice_get_within ys i y there, ap length same) in cc (slice_get-get_or xs i x less)
 
--- If popping returned nothing, the first fact that the contract of `pop` states for this case holds.
-pub none_popped : (P Q : Type 0) (R : OpenNode → Type 0) (r : Option OpenNode) → MatchOption r (P × Q) R → r ≡ None → P
-none_popped P Q R r m e = (rw e at m).0
-
--- If nothing was popped, both lists are empty.
-pub popped_none : (xs ys : List OpenNode) → xs ≡ ys ++ [] → length xs ≡ 0 → (xs ≡ []) × (ys ≡ [])
-popped_none xs ys is none = let empty = nil_from_length xs none in (empty, cc (append-nil ys))
-
 pub some_is : (x : OpenNode) → Some x ≡ None → ⊥
 some_is x is = cc
 
@@ -158,16 +149,16 @@ pub are_slots : {c : Setting} {m : Machine} {x : OpenNode} {r : ℕ} {q : Produc
     → slots ≡ get_or xs r slots → AreSlotsOf c q u slots
 are_slots h is same at = slots_found _ _ _ _ _ _ _ _ is h.numbered same at
 
-pub entered : {c : Setting} {m : Machine} {x child : OpenNode} {waiting : Vec OpenNode} {values : List Value}
-    → values ≡ m.values.items
-    → ContinuesAs c (x ∷ reverse m.waiting.items) values (child ∷ reverse waiting.items) values
+pub entered : {c : Setting} {m : Machine} {x child : OpenNode} {waiting : RootPath} {values : List Value}
+    → waiting.root ≡ m.waiting.root → values ≡ m.values.items
+    → ContinuesAs c m.waiting.root (x ∷ reverse m.waiting.nodes) values (child ∷ reverse waiting.nodes) values
     → Preserves c any_world any_world m (record m { waiting = waiting }) (Some x) (Some child)
-entered vs goes w r = gone_runs r (rw vs at goes)
+entered same vs goes w r = gone_runs r same (rw vs at goes)
 
 module _ {c : Setting} where
   get_at : {w : World} {m : Machine} {x : OpenNode} {j : ℕ} → Runs c w m (Some x) → IsNext c x (instr.Get j)
       → HasPlace c x j m.values.items
-  get_at {m} r at = get_place m.root (reverse m.waiting.items) at r.invariant
+  get_at {m} r at = get_place m.waiting.root (reverse m.waiting.nodes) at r.invariant
 
   pub item_within : {w : World} {m : Machine} {x : OpenNode} {j : ℕ} (row : ProductionRow) → Runs c w m (Some x)
       → IsNext c x (instr.Get j) → IsRowAt c x.production row → j < length row.places
@@ -181,7 +172,7 @@ module _ {c : Setting} where
 
   put_at : {w : World} {m : Machine} {x : OpenNode} {j : ℕ} → Runs c w m (Some x) → IsNext c x (instr.Put j)
       → HasPlace c x j m.values.items
-  put_at {m} r at = put_place m.root (reverse m.waiting.items) at r.invariant
+  put_at {m} r at = put_place m.waiting.root (reverse m.waiting.nodes) at r.invariant
 
   pub row_within : {w : World} {m : Machine} {x : OpenNode} {j : ℕ} (row : ProductionRow) → Runs c w m (Some x)
       → IsNext c x (instr.Put j) → IsRowAt c x.production row → j < length row.places
@@ -207,21 +198,21 @@ module _ {c : Setting} where
           cc (le-leb 0 c.write (omega arith)) in omega arith
 
   pub is_passing : {w : World} {m : Machine} {x : OpenNode} {values : List Value} → values ≡ m.values.items
-      → Runs c w m (Some x) → IsConsistent c (x ∷ reverse m.waiting.items) values
-  is_passing {w} {m} vs r = rw vs (m.root, r.transcript, w.meter - m.begun, r.todo, r.invariant)
+      → Runs c w m (Some x) → IsConsistent c m.waiting.root (x ∷ reverse m.waiting.nodes) values
+  is_passing {w} {m} vs r = rw vs (r.transcript, w.meter - m.begun, r.todo, r.invariant)
 
   -- When a node ends, its row is the last one.
   pub own_of : {w : World} {m : Machine} {x : OpenNode} → Runs c w m (Some x) → IsNext c x instr.End
       → HasOwn c x m.values.items
-  own_of {m} r at = own_row m.root (reverse m.waiting.items) at r.invariant
+  own_of {m} r at = own_row m.waiting.root (reverse m.waiting.nodes) at r.invariant
 
   -- When a node ends, the copies of its values come before its row, in the row of the node that waits.
   pub waited_for : {w : World} {m : Machine} (waiting : List OpenNode) {x y : OpenNode} → Runs c w m (Some x)
-      → IsNext c x instr.End → m.waiting.items ≡ waiting ++ y ∷ []
+      → IsNext c x instr.End → m.waiting.nodes ≡ waiting ++ y ∷ []
       → HasWaited c y x.base m.values.items
   waited_for {m} waiting {y = y} r at is =
-      let stack : reverse m.waiting.items ≡ y ∷ reverse waiting = cc (reverse-append waiting (y ∷ [])) in
-      waited m.root (reverse waiting) at (rw stack at r.invariant)
+      let stack : reverse m.waiting.nodes ≡ y ∷ reverse waiting = cc (reverse-append waiting (y ∷ [])) in
+      waited m.waiting.root (reverse waiting) at (rw stack at r.invariant)
 
   pub waited_within : {y : OpenNode} {base : ℕ} {values : List Value} (row : ProductionRow) → HasWaited c y base values
       → IsRowAt c y.production row → y.place < length row.places
@@ -256,7 +247,7 @@ module _ {c : Setting} (sound : IsSound c) where
   pub got_leads : {m : Machine} {back : BackState} {values : Vec Value} {honest honest' : Bool} {content content' : List ℕ}
       {x next : OpenNode} {j p n : ℕ} {row : PlaceRow} {read : List Value}
       → IsNext c x (instr.Get j) → Answers c x j (Some row)
-      → (h : HasFetched c row.item p n honest' content m.back back m.values.items read) → n ≡ length m.waiting.items + 1
+      → (h : HasFetched c row.item p n honest' content m.back back m.values.items read) → n ≡ length m.waiting.nodes + 1
       → ((q : Production) → IsProduction c.grammar x.production q → row.start ≡ copy_start c q j
       → HasAgreed c q x j row.item read (read_values c row.item p h.body m.values.items read h.taken))
       → values.items ≡ kept_values row.item m.values.items read → (honest' ≡ true → honest ≡ true)
@@ -266,14 +257,14 @@ module _ {c : Setting} (sound : IsSound c) where
   got_leads {m} {p = p} {row = row} {read = read} at is h count agreed kept before leaves on rest r =
       let i = got_place r at is in
       let on_it =
-      step_read sound m.root (reverse m.waiting.items) p h.body read h.taken
+      step_read sound m.waiting.root (reverse m.waiting.nodes) p h.body read h.taken
       (record { next = at; there = i.there; occurs = i.occurs })
-      (omega (arith, h.deep, count, length-reverse m.waiting.items)) (agreed i.production i.there i.start) r.invariant in
+      (omega (arith, h.deep, count, length-reverse m.waiting.nodes)) (agreed i.production i.there i.start) r.invariant in
       read_more r on_it.0 h before leaves (rw kept (kept_well row.item h r.well)) (rw (on, kept) on_it.2) (on_it.1 r.ahead)
 
   pub put_room : {w : World} {m : Machine} {x : OpenNode} → Runs c w m (Some x) → m.writer.written < 2 ^ 64 - 1
   put_room {m} r =
-      let n = passing_counted sound m.root (reverse m.waiting.items) r.invariant in
+      let n = passing_counted sound m.waiting.root (reverse m.waiting.nodes) r.invariant in
       omega (arith, n.0, r.few, r.written)
 
   pub put_leads : {m : Machine} {out : writing.Progress} {honest honest' : Bool} {content content' : List ℕ} {x next : OpenNode}
@@ -289,7 +280,8 @@ module _ {c : Setting} (sound : IsSound c) where
       let d = class_at i.production j t (cc) in
       let occurs : item_at i.production j ≡ Some (item.Terminal (Class d.0)) = cc in
       put_on r h before r.well
-      (rw on (step_put_leaf sound m.root (reverse m.waiting.items) (record { next = at; there = i.there; occurs = occurs })
+      (rw on (step_put_leaf sound m.waiting.root (reverse m.waiting.nodes)
+      (record { next = at; there = i.there; occurs = occurs })
       (cc) r.invariant))
 
   pub left_leads : {w : World} {m : Machine} {x next : OpenNode} {j : ℕ} (s : ℕ) {row : PlaceRow}
@@ -297,26 +289,27 @@ module _ {c : Setting} (sound : IsSound c) where
       → Runs c w m (Some x) → Runs c w m (Some next)
   left_leads {m} {x = x} s at is node on r =
       let i = put_is r at is in
-      let goes : ContinuesAs c (x ∷ reverse m.waiting.items) m.values.items (after_step x x.child ∷ reverse m.waiting.items)
-      m.values.items = λ root t now todo.
-      step_put_node sound root (reverse m.waiting.items) {s' = s}
+      let goes : ContinuesAs c m.waiting.root (x ∷ reverse m.waiting.nodes) m.values.items
+      (after_step x x.child ∷ reverse m.waiting.nodes) m.values.items = λ t now todo.
+      step_put_node sound m.waiting.root (reverse m.waiting.nodes) {s' = s}
       (record { next = at; there = i.there; occurs = cc }) in
-      rw on (gone_runs r goes)
+      rw on (gone_runs r refl goes)
 
-  pub ended_leads : {m : Machine} {values : Vec Value} {waiting : Vec OpenNode} {out : writing.Progress} {honest honest' : Bool}
+  pub ended_leads : {m : Machine} {values : Vec Value} {waiting : RootPath} {out : writing.Progress} {honest honest' : Bool}
       {content content' : List ℕ} {x y : OpenNode} {row : PlaceRow} {put : List Value} {from : ℕ}
       → IsNext c x instr.End
-      → m.waiting.items ≡ waiting.items ++ y ∷ [] → Answers c y y.place (Some row) → from ≡ y.base + row.start
+      → waiting.root ≡ m.waiting.root → m.waiting.nodes ≡ waiting.nodes ++ y ∷ [] → Answers c y y.place (Some row)
+      → from ≡ y.base + row.start
       → put ≡ drop x.base m.values.items → HasPut Node x.production put honest' content content' m.writer out
       → (honest' ≡ true → honest ≡ true)
       → values.items ≡ take from m.values.items
       ++ (take row.width (drop x.base m.values.items) ++ drop (from + row.width) (take x.base m.values.items))
       → Preserves c (second_device honest content) (second_device honest' content') m
       (record m { writer = out; values = values; waiting = waiting }) (Some x) (Some y)
-  ended_leads {m} {waiting = waiting} {x} {y} {row} {from = from} at pushed is from_is put_is' h before vs rest r =
+  ended_leads {m} {waiting = waiting} {x} {y} {row} {from = from} at same pushed is from_is put_is' h before vs rest r =
       let xs = m.values.items in
-      let w = waited_for waiting.items r at pushed in
-      let stack : reverse m.waiting.items ≡ y ∷ reverse waiting.items = cc (reverse-append waiting.items (y ∷ [])) in
+      let w = waited_for waiting.nodes r at pushed in
+      let stack : reverse m.waiting.nodes ≡ y ∷ reverse waiting.nodes = cc (reverse-append waiting.nodes (y ∷ [])) in
       let well =
       All-append IsWell (take from xs) (take row.width (drop x.base xs) ++ drop (from + row.width) (take x.base xs))
       (All-take IsWell from xs r.well)
@@ -324,20 +317,20 @@ module _ {c : Setting} (sound : IsSound c) where
       (All-take IsWell row.width (drop x.base xs) (All-drop IsWell x.base xs r.well))
       (All-drop IsWell (from + row.width) (take x.base xs) (All-take IsWell x.base xs r.well))) in
       put_on r (rw put_is' at h) before (rw vs well)
-      (step_end sound m.root (reverse waiting.items) at r.well
+      (rw same (step_end sound m.waiting.root (reverse waiting.nodes) at r.well
       (λ q x' there occurs. let z = place_is c q y.place row x' w.some (is q there) occurs in
       (cc, z.2)) vs
-      (rw stack at r.invariant))
+      (rw stack at r.invariant)))
 
-  pub root_leads : {w : World} {m : Machine} {waiting : Vec OpenNode} {x : OpenNode}
-      → IsNext c x instr.End → m.waiting.items ≡ [] → waiting.items ≡ []
+  pub root_leads : {w : World} {m : Machine} {waiting : RootPath} {x : OpenNode}
+      → IsNext c x instr.End → waiting.root ≡ m.waiting.root → m.waiting.nodes ≡ []
       → Runs c w m (Some x) → Runs c w (record m { waiting = waiting }) None
-  root_leads at none still r =
-      gone_runs r (rw none (λ root t now todo. step_end_root sound root at r.well))
+  root_leads {m} at same none r =
+      gone_runs r same (rw none (λ t now todo. step_end_root sound m.waiting.root at r.well))
 
   pub rule_of : {w : World} {m : Machine} {x : OpenNode} {r : ℕ} → Runs c w m (Some x) → (next : RunsRuleNext c x r)
       → HasRule c x next.0 next.1 r m.values.items
-  rule_of {m} runs (j, a, z, giving, at) = given_rule sound m.root (reverse m.waiting.items) giving at runs.invariant
+  rule_of {m} runs (j, a, z, giving, at) = given_rule sound m.waiting.root (reverse m.waiting.nodes) giving at runs.invariant
 
   -- The rule and its slot, for a known production.
   pub ruled : {w : World} (m : Machine) (x : OpenNode) (r : ℕ) (q : Production) → Runs c w m (Some x) → RunsRuleNext c x r
@@ -384,7 +377,7 @@ module _ {c : Setting} (sound : IsSound c) where
 
   pub meter_of : {w : World} {m : Machine} {x : OpenNode} → Runs c w m (Some x) → w.meter < 2 ^ 64 - 1
   meter_of {m} r =
-      let n = passing_counted sound m.root (reverse m.waiting.items) r.invariant in
+      let n = passing_counted sound m.waiting.root (reverse m.waiting.nodes) r.invariant in
       omega (arith, n.1, r.few, r.begun, r.low)
 
   pub rule_leads : {m : Machine} {values : Vec Value} {x next : OpenNode} {meter meter' : ℕ} (rule : ℕ) {q : Production}
@@ -400,5 +393,5 @@ module _ {c : Setting} (sound : IsSound c) where
       let evals : meter - m.begun + 1 ≡ meter' - m.begun = omega arith in
       still_runs r
       (rw (← evals, on)
-      (step_give sound m.root (reverse m.waiting.items) spare giving at there num are is vs r.invariant))
+      (step_give sound m.waiting.root (reverse m.waiting.nodes) spare giving at there num are is vs r.invariant))
       (rw vs (All-set IsWell m.values.items (x.base + slots.target) v well r.well)) (omega arith)

@@ -4,7 +4,7 @@ use Common.{Vec, flat_map, ℕ, ◌≡◌, ◌-◌, ◌≤◌, Bool, true, List,
 use Common.{append_assoc, append-nil, length-append, All-append, Value, IsWell, Item, stored_items, Pending, before_frame}
 use Common.{LeavesContent, WhenHonest, values_up_to, body_of, frame, header, version_two, reads_on, values_well, BackState}
 use Common.{Setting, Machine, OpenNode, AreRecords, source, HasFetched, ContinuesAs, RunInvariant, copies, kept_values, HasPut}
-use Common.{copies_well, IsNodeRead, Runs, World, first_device, second_device, meter_at, stack_of}
+use Common.{copies_well, IsNodeRead, RootPath, Runs, World, first_device, second_device, meter_at, stack_of}
 use Common.item
 use Common.writing
 use Rattle.std.proofs.lemmas.Grind.{flat_map-append}
@@ -45,8 +45,8 @@ kept_well (item.Terminal t) h well = well
 
 module _ {c : Setting} {w : World} {m : Machine} {node : Option OpenNode} (r : Runs c w m node) where
   -- Nothing was read or written.
-  pub still_runs : {meter : ℕ} {values : Vec Value} {waiting : Vec OpenNode} {next : Option OpenNode}
-      → RunInvariant c m.root (stack_of next waiting.items) values.items r.transcript (meter - m.begun) r.todo
+  pub still_runs : {meter : ℕ} {values : Vec Value} {waiting : RootPath} {next : Option OpenNode}
+      → RunInvariant c waiting.root (stack_of next waiting.nodes) values.items r.transcript (meter - m.begun) r.todo
       → All IsWell values.items → m.begun ≤ meter
       → Runs c (meter_at meter (w.first, w.second)) (record m { values = values; waiting = waiting }) next
   still_runs invariant well begun =
@@ -71,17 +71,19 @@ module _ {c : Setting} {w : World} {m : Machine} {node : Option OpenNode} (r : R
       }
 
   -- Nothing was read, written or evaluated.
-  pub gone_runs : {waiting : Vec OpenNode} {next : Option OpenNode}
-      → ContinuesAs c (stack_of node m.waiting.items) m.values.items (stack_of next waiting.items) m.values.items
+  pub gone_runs : {waiting : RootPath} {next : Option OpenNode}
+      → waiting.root ≡ m.waiting.root
+      → ContinuesAs c m.waiting.root (stack_of node m.waiting.nodes) m.values.items (stack_of next waiting.nodes) m.values.items
       → Runs c w (record m { waiting = waiting }) next
-  gone_runs goes = still_runs (goes m.root r.transcript (w.meter - m.begun) r.todo r.invariant) r.well r.begun
+  gone_runs same goes =
+      still_runs (rw same (goes r.transcript (w.meter - m.begun) r.todo r.invariant)) r.well r.begun
 
   -- A record was read, and the pass continues.
   pub read_more : {honest : Bool} {content : List ℕ} {back : BackState} {read : List Value} {values : Vec Value}
       {next : Option OpenNode} {p n : ℕ} {x : Item} (todo : Pending)
       → (h : HasFetched c x p n honest w.first.content m.back back m.values.items read)
       → (honest ≡ true → w.first.honest ≡ true) → LeavesContent honest w.first.content content → All IsWell values.items
-      → RunInvariant c m.root (stack_of next m.waiting.items) values.items
+      → RunInvariant c m.waiting.root (stack_of next m.waiting.nodes) values.items
       (record { read = r.transcript.read ++ h.body ∷ []; put = r.transcript.put }) (w.meter - m.begun) todo
       → AreRecords (source c) (r.transcript.read ++ h.body ∷ []) todo
       → Runs c (first_device honest content (w.second, w.meter)) (record m { back = back; values = values }) next
@@ -114,11 +116,11 @@ module _ {c : Setting} {w : World} {m : Machine} {node : Option OpenNode} (r : R
       }
 
   -- A record was written, and the pass continues.
-  pub put_on : {honest : Bool} {content : List ℕ} {out : writing.Progress} {values : Vec Value} {waiting : Vec OpenNode}
+  pub put_on : {honest : Bool} {content : List ℕ} {out : writing.Progress} {values : Vec Value} {waiting : RootPath}
       {next : Option OpenNode} {kind : Kind} {number : ℕ} {put : List Value}
       → HasPut kind number put honest w.second.content content m.writer out → (honest ≡ true → w.second.honest ≡ true)
       → All IsWell values.items
-      → RunInvariant c m.root (stack_of next waiting.items) values.items
+      → RunInvariant c waiting.root (stack_of next waiting.nodes) values.items
       (record { read = r.transcript.read; put = r.transcript.put ++ body_of kind number put ∷ [] }) (w.meter - m.begun) r.todo
       → Runs c (second_device honest content (w.first, w.meter)) (record m { writer = out; values = values; waiting = waiting })
       next

@@ -267,13 +267,13 @@ RunInvariant c root (x ∷ xs) values new evals todo =
     (entry : Entry) × Expects c root xs x.production entry × (phase : Phase)
     × IsActive c entry (suc (length xs)) x phase values new evals todo
 
--- The invariant of a pass with some root, transcript t, number of rules and children to be read.
-abbrev pub IsConsistent : Setting → List OpenNode → List Value → Type 0
-IsConsistent c xs values =
-    (root : ℕ) × (t : Transcript) × (evals : ℕ) × (todo : Pending) × RunInvariant c root xs values t evals todo
+-- The invariant of a pass with some transcript t, number of rules and children to be read.
+abbrev pub IsConsistent : Setting → ℕ → List OpenNode → List Value → Type 0
+IsConsistent c root xs values =
+    (t : Transcript) × (evals : ℕ) × (todo : Pending) × RunInvariant c root xs values t evals todo
 
 -- The pass continues with the open nodes ys and the values `new`, and nothing was read, written or evaluated: the transcript t is
 -- the same.
-abbrev pub ContinuesAs : Setting → List OpenNode → List Value → List OpenNode → List Value → Type 0
-ContinuesAs c xs values ys new = (root : ℕ) (t : Transcript) (evals : ℕ) (todo : Pending)
+abbrev pub ContinuesAs : Setting → ℕ → List OpenNode → List Value → List OpenNode → List Value → Type 0
+ContinuesAs c root xs values ys new = (t : Transcript) (evals : ℕ) (todo : Pending)
     → RunInvariant c root xs values t evals todo → RunInvariant c root ys new t evals todo

@@ -63,7 +63,7 @@ any_world w = w
 pub record Runs (c : Setting) (w : World) (m : Machine) (next : Option OpenNode) : Type 0 where
   pub transcript : Transcript
   pub todo : Pending
-  pub invariant : RunInvariant c m.root (stack_of next m.waiting.items) m.values.items transcript (w.meter - m.begun) todo
+  pub invariant : RunInvariant c m.waiting.root (stack_of next m.waiting.nodes) m.values.items transcript (w.meter - m.begun) todo
   pub over : WhenHonest w.first.honest (IsOver w.first.content m.back)
   pub read : WhenHonest w.first.honest
       (ReadsTo version_two w.first.content (length w.first.content) transcript.read m.back.progress.at)

@@ -35,4 +35,4 @@ reserved_work c (Some x) = if goes_next (rest_of c x) then node_cost c else 0
 abbrev pub measure : Setting → Machine → Option OpenNode → ℕ
 measure c m next =
     node_cost c * (max_nodes - m.back.progress.records)
-    + (remaining_work c (stack_of next m.waiting.items) + reserved_work c next)
+    + (remaining_work c (stack_of next m.waiting.nodes) + reserved_work c next)

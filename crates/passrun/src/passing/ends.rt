@@ -15,6 +15,7 @@ ghost use Rattle.treefile.specs.devices.Several.{BothPersist};
 ghost use Rattle.treefile.specs.records.TreeFile.{header, version_two};
 
 use crate::passing::machine::Machine;
+use crate::passing::open_nodes::OpenNodes;
 use crate::passing::putting::put_record;
 use crate::reading::fetching::{ExpectedRecord, fetch};
 use ag_eval::Meter;
@@ -53,7 +54,7 @@ pub(crate) fn begin<D: Device, E: Device>(
     requires meter { meter.now ≤ 2 ^ 63 }
     ensures runs { IfOk result (λ m. Runs (setting context.now)
         (between (D.is_honest from.new) (D.content from.new)
-        (E.is_honest to.new) (E.content to.new) meter.now) m (Some (first_at m.root 0))) }
+        (E.is_honest to.new) (E.content to.new) meter.now) m (Some (first_at m.waiting.root 0))) }
     ensures header { OnOk result (WhenHonest (E.is_honest to.new)
         (E.content to.new ≡ header version_two (setting context.now).write)) }
     // on failure: the content of the second device is unchanged, or a prefix of a file of the pass
@@ -85,8 +86,7 @@ pub(crate) fn begin<D: Device, E: Device>(
         back,
         writer,
         values,
-        waiting: Vec::new(context.alloc),
-        root,
+        waiting: OpenNodes::new(context.alloc, root),
         begun: meter.count(),
     })
 }
@@ -128,7 +128,13 @@ pub(crate) fn finish<D: Device, E: Device>(
         E.is_honest E.failures to.old to.new (IsErrOf result RunFault.Device) }
 {
     let values = machine.values.as_slice();
-    put_record(Kind::Node, machine.root, values, &mut machine.writer, to)?;
+    put_record(
+        Kind::Node,
+        machine.waiting.root(),
+        values,
+        &mut machine.writer,
+        to,
+    )?;
     let end = machine.back.end();
     if machine.back.back(from)?.is_some() {
         return Err(RunFault::Damaged(end));

@@ -21,6 +21,7 @@ ghost use Rattle.treefile.specs.devices.Several.{BothPersist};
 
 use crate::passing::copying::{following, matches_copy, move_copies, single_value, truncate_row};
 use crate::passing::evaluating::{NodeRule, put_rule_value};
+use crate::passing::open_nodes::OpenNodes;
 use crate::passing::putting::put_record;
 use crate::reading::fetching::{ExpectedRecord, fetch};
 use ag_carried::Carried;
@@ -46,11 +47,8 @@ pub(crate) struct Machine {
     /// record was read last, if the child is a node of a symbol that the pass has not entered yet.
     /// The row of a token is removed in the step that reads it, since its text is among the copies.
     pub(crate) values: Vec<Carried>,
-    /// The open nodes without the innermost one, the outermost first. Each waits until the child
-    /// that the pass entered from it is finished.
-    pub(crate) waiting: Vec<OpenNode>,
-    /// The number of the production in the root's record.
-    pub(crate) root: u16,
+    /// The open nodes without the innermost one.
+    pub(crate) waiting: OpenNodes,
     /// The meter's count when the pass began. Only contracts use this number, to count the
     /// evaluations of the pass.
     pub(crate) begun: u64,
@@ -72,20 +70,21 @@ pub(crate) fn open_child(
     node: OpenNode,
     place: u16,
     values: &[Carried],
-    waiting: &mut Vec<OpenNode>,
+    waiting: &mut OpenNodes,
 ) -> Result<OpenNode, NoMemory>
     requires context { CanRun context.now }
     requires room { node.at + 1 < 2 ^ 64 }
     requires next { slice_get (list_at (setting context.now) node.production) node.at
         ≡ Some (instr.Go place) }
-    requires passing { IsConsistent (setting context.now)
-        (node ∷ reverse waiting.old.items) values.now }
-    ensures goes { IfOk result (λ child. ContinuesAs (setting context.now)
-        (node ∷ reverse waiting.old.items) values.now
-        (child ∷ reverse waiting.new.items) values.now) }
+    requires passing { IsConsistent (setting context.now) waiting.old.root
+        (node ∷ reverse waiting.old.nodes) values.now }
+    ensures goes { IfOk result (λ child. ContinuesAs (setting context.now) waiting.old.root
+        (node ∷ reverse waiting.old.nodes) values.now
+        (child ∷ reverse waiting.new.nodes) values.now) }
     ensures child { IfOk result (λ child. (child.production ≡ node.child) × (child.at ≡ 0)) }
-    ensures pushed { OnOk result (waiting.new.items
-        ≡ waiting.old.items ++ left_at node place ∷ []) }
+    ensures pushed { OnOk result (waiting.new ≡ record waiting.old {
+      nodes = waiting.old.nodes ++ left_at node place ∷ [];
+    }) }
 {
     let width = context.width(node.child);
     waiting.push(node.left_at(place))?;

@@ -29,7 +29,7 @@ pub(crate) fn run<D: Device, E: Device>(
     requires runs { Runs (setting context.now)
         (between (D.is_honest from.old) (D.content from.old)
         (E.is_honest to.old) (E.content to.old) meter.old)
-        machine.old (Some (first_at machine.old.root 0)) }
+        machine.old (Some (first_at machine.old.waiting.root 0)) }
     ensures runs { OnOk result (Runs (setting context.now)
         (between (D.is_honest from.new) (D.content from.new)
         (E.is_honest to.new) (E.content to.new) meter.new) machine.new None) }
@@ -47,7 +47,7 @@ pub(crate) fn run<D: Device, E: Device>(
     ensures devices { BothPersist D.is_honest D.failures from.old from.new
         E.is_honest E.failures to.old to.new (IsErrOf result RunFault.Device) }
 {
-    let root = OpenNode::first(machine.root);
+    let root = OpenNode::first(machine.waiting.root());
     let mut next = Some(root);
     while let Some(node) = next {
         let at = StepAt {

@@ -11,7 +11,7 @@ returns-clause-runs g c =
     let begin = c.in_ok-writer.ensures in
     let root = c.in_ok-root.ensures in
     begun_runs c.requires.context.sound c.new-values.result
-    c.new-values.ensures.items c.new.ensures.items c.start-2.ensures.value c.count.ensures root.fetched root.content
+    c.new-values.ensures.items c.new.ensures c.start-2.ensures.value c.count.ensures root.fetched root.content
     (λ w. let z = root.persists.honest w in
     rw (start.content z)
     (readable _ (decidable c.requires.context.sound) _ _ (start.exact z) (cc)))

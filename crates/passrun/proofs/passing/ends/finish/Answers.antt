@@ -26,7 +26,7 @@ returns-clause-passed g c = λ meter r is to_is.
     (rw r.version at (c.in_ok-back.ensures.exact r.unbroken is))
     ∙ ap Ok (none_lent c.in_ok-back.field-0 (cc)) in
     passed c.requires.context.sound r (c.in_ok-back.ensures.persists.honest is) c.in_ok-put_record.ensures.persists.honest to_is
-    c.as_slice-values.ensures.value c.in_ok-put_record.ensures.put end
+    c.as_slice-values.ensures.value (rw c.root.ensures at c.in_ok-put_record.ensures.put) end
     (cc (reader_kept c.back.follows.holds-at-none c.in_ok-back.was (cc)))
 
 pub returns-clause-counts : goal.returns-clause-counts

@@ -12,8 +12,8 @@ place-row-requires-clause-there g c = item_within c.row-layout.result.now c.requ
 pub returns-in_err-number-clause-refused : goal.returns-in_err-number-clause-refused
 returns-in_err-number-clause-refused g c =
     let p = err_from_is_err_and c.from_residual.result c.from_residual.ensures.1 in
-    let count : c.len-open_count.result + 1 ≡ length c.args.self.now.waiting.items + 1 =
-    omega (arith, c.args.self.now.waiting.ok.0) in
+    let count : c.len-open_count.result + 1 ≡ length c.args.self.now.waiting.nodes + 1 =
+    omega (arith, c.len-open_count.ensures.number) in
     rw (p.1, p.2)
     (λ honest. get_refused c.requires.context.sound c.in_err-number.field-0.0 c.requires.runs.1 c.requires.next
     c.place-row.ensures count (c.in_err-number.ensures.persists.honest honest) (c.in_err-number.ensures.refused honest))
@@ -41,7 +41,7 @@ returns-then-not-matches_copy-clause-refused g c = λ honest.
     let start : c.len-start.result ≡ length m.values.items = omega (arith, m.values.ok.0) in
     rw c.end-end.ensures
     (get_differs c.requires.context.sound c.matches_copy.result c.requires.runs.1 c.requires.next c.place-row.ensures
-    (omega (arith, m.waiting.ok.0)) c.in_ok-number.ensures.fetched c.matches_copy.ensures
+    (omega (arith, c.len-open_count.ensures.number)) c.in_ok-number.ensures.fetched c.matches_copy.ensures
     (λ yes. let z = sym c.if-not-matches_copy.true ∙ yes in cc) (cc)
     (cc) refl start c.in_ok-number.ensures.persists.honest honest)
 
@@ -58,7 +58,7 @@ returns-clause-runs g c =
     let old : take c.len-start.result read ≡ m.values.items =
     cc (take_at m.values.items more.0 c.len-start.result (sym start)) in
     got_leads c.requires.context.sound
-    c.requires.next c.place-row.ensures h (omega (arith, m.waiting.ok.0))
+    c.requires.next c.place-row.ensures h (omega (arith, c.len-open_count.ensures.number))
     (λ q there begins. has_agreed context q c.args.node c.args.place row.item c.in_ok-number.number h.body m.values.items read
     {from = copied} {start = c.len-start.result} c.matches_copy.result h.taken c.matches_copy.ensures
     c.if-not-matches_copy.false (cc) (cc) (cc) start)
