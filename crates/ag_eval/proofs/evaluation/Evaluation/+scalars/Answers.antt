@@ -1,5 +1,4 @@
 use Rattle.ag_eval.proofs.Common.{length, refl, rules, sym, the_lemmas, chain_below, chain_is, operand_below}
-use Rattle.ag_eval.proofs.Chained.{below_more, chained_more}
 use Rattle.ag_eval.proofs.evaluation.Evaluation.+scalars.Goals as goal
 
 pub scalar_of_chain-loop-other-init : goal.scalar_of_chain-loop-other-init
@@ -19,15 +18,3 @@ scalar_of_chain-scalar-requires-in-loop-other g t c = λ κs le. (
         c.loop-other-test.true c.other-item.is refl c.loop-other.invariant.below,
   ),
 )
-
-pub scalar_of_chain-loop-other-preserved : goal.scalar_of_chain-loop-other-preserved
-scalar_of_chain-loop-other-preserved g t c =
-    let others = c.as_slice-other-items.result.now in
-    let i = c.loop-other.other-index in
-    let x = c.other-item.result in
-    let more = c.loop-other-test.true in
-    record {
-      same = chained_more others i x more _ _ _ _ _ _ c.other-item.is c.in_ok-right.ensures c.in_ok-so_far-2.ensures
-          c.loop-other.invariant.same;
-      below = below_more _ _ others i x more c.loop-other.invariant.below;
-    }
