@@ -1,6 +1,6 @@
 -- Why the faults R1, P2 and P3 of a pass are true of the content that it reads.
 use Rattle.passrun.proofs.Common
-use Common.{option_map, IsTrue, ℕ, suc, ◌≡◌, ◌+◌, ◌-◌, Bool, true, List, [], ◌∷◌, ◌++◌, Option, Some, None, Ok, Err, is_some, Bor}
+use Common.{option_map, IsTrue, ℕ, suc, ◌≡◌, ◌+◌, Bool, true, List, [], ◌∷◌, ◌++◌, Option, Some, None, Ok, Err, is_some, Bor}
 use Common.{length, drop, reverse, refl, sym, arith, length-reverse, Value, FrameFault, next_before, pass_in, WhenHonest, ReadsAs}
 use Common.{version_two, Pending, values_up_to, damage_is_there, never_no_file, BackState, Setting, IsSound, PlaceRow, Machine}
 use Common.{OpenNode, RunFault, IsRunFault, ArrivesAt, IsDamaged, IsReadable, source, Runs, World, run_fault_of_frame, HasFetched}

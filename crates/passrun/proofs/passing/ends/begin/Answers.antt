@@ -1,5 +1,5 @@
 use Rattle.passrun.proofs.Common
-use Common.{◌-◌, ◌<◌, arith, err_from_is_err_and, setting, Ok, inr, frames_begin, none_added, not_begun, RunFault}
+use Common.{◌-◌, ◌<◌, arith, err_from_is_err_and, Ok, inr, frames_begin, none_added, not_begun, RunFault}
 use Rattle.passrun.proofs.Damage.{other_pass, readable, decidable}
 use Rattle.passrun.proofs.Refusing.{not_started, root_unfetched}
 use Rattle.passrun.proofs.course.Ending.{begun_runs}

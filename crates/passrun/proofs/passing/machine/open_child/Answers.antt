@@ -1,5 +1,5 @@
 use Rattle.passrun.proofs.Common
-use Common.{[], ◌∷◌, ◌++◌, ◌∙◌, ap, reverse, arith, slice_get_within, OpenNode, RootPath, setting}
+use Common.{[], ◌∷◌, ◌++◌, ◌∙◌, ap, reverse, arith, slice_get_within, OpenNode, RootPath}
 use Rattle.passrun.proofs.steps.Going.{child_of, continues, goes}
 use Rattle.passrun.proofs.passing.machine.open_child.Goals as goal
 

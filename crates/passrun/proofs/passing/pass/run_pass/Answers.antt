@@ -1,5 +1,5 @@
 use Rattle.passrun.proofs.Common
-use Common.{◌-◌, IfOk-weaker, setting_of, IsLayout, layouts}
+use Common.{IfOk-weaker, setting_of, IsLayout, layouts}
 use Rattle.passrun.proofs.places.Able.{plans_can_run}
 use Rattle.passrun.proofs.RecordedPasses.{passes_are_recorded}
 use Rattle.passrun.proofs.passing.pass.run_pass.Goals as goal
