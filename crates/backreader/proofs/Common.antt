@@ -3,12 +3,12 @@ pub use Rattle.std.proofs.Common.{All, Bool, Bor, Err, List, None, Ok, Option, R
 pub use Rattle.std.proofs.Common.{arith, cond, drop, false, inl, inr, is_some, length, length-append, lit<, lit≤, map, refl}
 pub use Rattle.std.proofs.Common.{reverse, rules, slice_range, subst, suc, sym, take, take_at, true, zero, zero-add, ℕ, ◌++◌, ◌+◌}
 pub use Rattle.std.proofs.Common.{◌-◌, ◌<◌, ◌∙◌, ◌∷◌, ◌≡◌, ◌≤◌}
-pub use Rattle.std.proofs.lemmas.List.Elements.{All-append, All-cons, All-head, All-nil, All-tail}
+pub use Rattle.std.proofs.lemmas.List.Elements.{All-append, All-cons, All-nil}
 pub use Rattle.std.proofs.lemmas.Result.{err_from_is_err_and}
 pub use Rattle.std.specs.Int.{from_be_bytes, w32}
 pub use Rattle.std.specs.List.{flat_map}
 pub use Rattle.std.specs.Option.{option_map}
-pub use Rattle.std.specs.Prelude.{nat_eq, option_and_then}
+pub use Rattle.std.specs.Prelude.{option_and_then}
 pub use Rattle.ag_grammar.specs.declared.direction.Direction.{Direction}
 pub use Rattle.ag_grammar.specs.declared.direction.Direction.TheVariants.{LeftToRight, RightToLeft}
 pub use Rattle.ag_grammar.specs.grammars.Passes.{other}
@@ -25,7 +25,7 @@ pub use Rattle.treefile.proofs.records.Orders.{length-prefix, length-prefix_all,
 pub use Rattle.treefile.specs.declared.reading.FrameFault.{FrameFault}
 pub use Rattle.treefile.specs.declared.reading.FrameFault.TheVariants.{Damaged, Device, NoMemory, NotATreeFile}
 pub use Rattle.treefile.specs.declared.reading.FrameFault.TheVariants as frame_fault
-pub use Rattle.treefile.specs.devices.Device.{AppendsPrefix, LeavesContent, Persists, WhenHonest}
+pub use Rattle.treefile.specs.devices.Device.{LeavesContent, Persists, WhenHonest}
 pub use Rattle.treefile.specs.framing.Backward.{ReadsBack, ReadsTo, before_frame, next_before, pass_in, pass_of}
 pub use Rattle.treefile.specs.framing.Ending.{IsBody, IsBytes, ReadsAs, body_before, greatest_body, header_bytes, is_tree_file}
 pub use Rattle.treefile.specs.framing.Ending.{least_body, length_bytes, number_before, version_two_usable}

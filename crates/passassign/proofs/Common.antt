@@ -26,7 +26,7 @@ pub use Rattle.ag_grammar.specs.declared.grammar.Terminal.TheVariants.{Class, Li
 pub use Rattle.ag_grammar.specs.grammars.Accepted.{IsAccepted, IsComplete, IsNormal, max_passes}
 pub use Rattle.ag_grammar.specs.grammars.AttributeGrammar.{Grammar, HasKind, Inherited, IsArgument, IsProduction, IsRule, Kind}
 pub use Rattle.ag_grammar.specs.grammars.AttributeGrammar.{RefersTo, Synthesized, attribute_names, defined_kind, item_at}
-pub use Rattle.ag_grammar.specs.grammars.AttributeGrammar.{item_kinds, places_of, stored_items, symbol_kinds, symbol_names}
+pub use Rattle.ag_grammar.specs.grammars.AttributeGrammar.{item_kinds, stored_items, symbol_kinds, symbol_names}
 pub use Rattle.ag_grammar.specs.grammars.AttributeGrammar.{used_kind}
 pub use Rattle.ag_grammar.specs.grammars.Passes.{IsBefore, IsLegal, IsLegalFor, MayUse, Passes, direction_of, other}
 pub use Rattle.closure.specs.declared.addition.Addition.{Addition}
