@@ -7,14 +7,14 @@ pub use Rattle.std.proofs.Common.{◌∷◌, ◌≡◌, ◌≢◌, ◌≤◌, �
 pub use Rattle.std.proofs.lemmas.Bool.{cases_eq, cases_lt, eq-eqb, eqb-true, le-leb, leb-true}
 pub use Rattle.std.proofs.lemmas.List.{drop_all, drop_at, length-reverse, reverse-append, reverse-reverse, set-append_left}
 pub use Rattle.std.proofs.lemmas.List.{set-append_right, take_all, take_at, take_more}
-pub use Rattle.std.proofs.lemmas.List.Elements.{All-append, All-cons, All-drop, All-from_get_or, All-head, All-nil, All-same}
+pub use Rattle.std.proofs.lemmas.List.Elements.{All-append, All-drop, All-from_get_or, All-head, All-nil, All-same}
 pub use Rattle.std.proofs.lemmas.List.Elements.{All-set, All-tail, All-take}
 pub use Rattle.std.proofs.lemmas.Option.{get_or_from_slice_get, same_Some, slice_get-get_or, slice_get_within}
 pub use Rattle.std.proofs.lemmas.Result.{IfOk-weaker, err_from_is_err_and}
 pub use Rattle.std.specs.Global.{Vec}
 pub use Rattle.std.specs.List.{count_by, flat_map}
 pub use Rattle.std.specs.Option.{option_map, option_to_list}
-pub use Rattle.std.specs.Prelude.{IfErr, IfOk, IsTrue, MatchOption, OnErr, OnOk, cond, slice_index_or}
+pub use Rattle.std.specs.Prelude.{IsTrue, OnErr, OnOk, cond, slice_index_or}
 pub use Rattle.ag_grammar.proofs.grammars.Counting.{count_more, passes_have_all_rules}
 pub use Rattle.ag_grammar.proofs.grammars.EachNode.{each_map, same_weaker, solves_wider}
 pub use Rattle.ag_grammar.specs.Lists.{Each, Has}
@@ -57,7 +57,7 @@ pub use Rattle.pass_rows.specs.layouts.Contexts.{setting}
 pub use Rattle.pass_rows.specs.layouts.Layouts.{AreSlotsOf, IsLayout, IsRowAt, IsRowOf}
 pub use Rattle.pass_rows.specs.layouts.Slots.{argument_slot, copied_all, copied_before, copied_width, copy_start, known_width}
 pub use Rattle.pass_rows.specs.layouts.Slots.{rank, stored_width, target_slot}
-pub use Rattle.pass_rows.specs.reading.Reading.{AgreeAt, Agrees, IsNodeRead, IsRead, IsTokenRead, read_values}
+pub use Rattle.pass_rows.specs.reading.Reading.{AgreeAt, Agrees, IsNodeRead, IsRead, read_values}
 pub use Rattle.passassign.specs.Rows.{AreAtMost, IsGreatest, passes_of}
 pub use Rattle.passcode.specs.Counts.{is_computation}
 pub use Rattle.passcode.specs.Rows.{Lists}
@@ -77,10 +77,10 @@ pub use Rattle.passrun.specs.declared.passing.machine.Machine.{Machine}
 pub use Rattle.passrun.specs.passing.Ahead.{IsRunFault, children_of, following, goes_next, pending, pending_of_child}
 pub use Rattle.passrun.specs.passing.Change.{node_table, with_row}
 pub use Rattle.passrun.specs.passing.OpenNodes.{RootPath}
-pub use Rattle.passrun.specs.passing.Putting.{AddsFrames, HasPut, LeavesFrames}
+pub use Rattle.passrun.specs.passing.Putting.{AddsFrames, HasPut}
 pub use Rattle.passrun.specs.passing.RunInvariant.{AreHeld, ContinuesAs, Entry, Expects, IsActive, IsConsistent, IsCurrent}
 pub use Rattle.passrun.specs.passing.RunInvariant.{IsEvaluatedTree, IsGone, IsHeld, IsOpenNode, IsReady, IsRootReady, Keeps}
-pub use Rattle.passrun.specs.passing.RunInvariant.{RunInvariant, Transcript, Visited, after_reading, below, put_of, root_body}
+pub use Rattle.passrun.specs.passing.RunInvariant.{RunInvariant, Transcript, after_reading, below, put_of, root_body}
 pub use Rattle.passrun.specs.passing.RunInvariant.{root_number, rules_at, rules_left, state_of}
 pub use Rattle.passrun.specs.passing.Running.{Preserves, Runs, RunsRuleNext, World, any_world, between, first_device, meter_at}
 pub use Rattle.passrun.specs.passing.Running.{second_device, stack_of}
@@ -92,7 +92,7 @@ pub use Rattle.treefile.proofs.records.Fitting.{fits_version_two, numbered}
 pub use Rattle.treefile.proofs.records.Records.{bodies_count, bodies_counts, is_body}
 pub use Rattle.treefile.proofs.records.Spelled.{one_token, same_node}
 pub use Rattle.treefile.proofs.records.Values.{count_of_values, values_well}
-pub use Rattle.treefile.specs.Runs.{RanPass, RunsPass, RunsPasses}
+pub use Rattle.treefile.specs.Runs.{RunsPass, RunsPasses}
 pub use Rattle.treefile.specs.declared.body.Kind.TheVariants.{Node, Token}
 pub use Rattle.treefile.specs.declared.reading.FrameFault.{FrameFault}
 pub use Rattle.treefile.specs.declared.reading.FrameFault.TheVariants as frame_fault
