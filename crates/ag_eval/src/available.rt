@@ -37,7 +37,7 @@ impl<'e, V: Lender> Evaluation<'e, V> {
         bindings: &Bindings<'e>,
     ) -> Option<Operand<'e>>
         requires first { IsIn bindings.now so_far.now }
-        requires below { is_within (length self.now.expr.now.1) other.now.1 (length bindings.now) ≡ true }
+        requires below { is_within (length self.now.expr.now.occurrences) other.now.1 (length bindings.now) ≡ true }
         ensures value { IfSome result (λ o. operand_value bindings.now o
             ≡ operation_result other.now.0 (operand_value bindings.now so_far.now)
             (value_in other.now.1 (V.lent self.now.env.now) bindings.now)) }
@@ -56,7 +56,7 @@ impl<'e, V: Lender> Evaluation<'e, V> {
     #[cycle(scalars)]
     #[inline(always)]
     pub fn scalar(&self, node: &Node, bindings: &Bindings<'_>) -> Option<Scalar>
-        requires { is_within (length self.now.expr.now.1) node.now (length bindings.now) ≡ true }
+        requires { is_within (length self.now.expr.now.occurrences) node.now (length bindings.now) ≡ true }
         ensures { IfSome result (λ s. scalar_value s
             ≡ value_in node.now (V.lent self.now.env.now) bindings.now) }
     {
@@ -70,7 +70,7 @@ impl<'e, V: Lender> Evaluation<'e, V> {
     #[cycle(scalars)]
     #[tactic(auto, using(ag_grammar::proofs::expressions::Trees::parts))]
     fn scalar_of_chain(&self, node: &Node, bindings: &Bindings<'_>) -> Option<Scalar>
-        requires { is_within (length self.now.expr.now.1) node.now (length bindings.now) ≡ true }
+        requires { is_within (length self.now.expr.now.occurrences) node.now (length bindings.now) ≡ true }
         ensures { IfSome result (λ s. scalar_value s
             ≡ value_in node.now (V.lent self.now.env.now) bindings.now) }
     {
@@ -89,7 +89,7 @@ impl<'e, V: Lender> Evaluation<'e, V> {
     /// `None` also for a literal beyond the limits, whose value is an error.
     #[inline(always)]
     fn leaf_scalar(&self, node: &Node, bindings: &Bindings<'_>) -> Option<Scalar>
-        requires below { is_within (length self.now.expr.now.1) node.now (length bindings.now) ≡ true }
+        requires below { is_within (length self.now.expr.now.occurrences) node.now (length bindings.now) ≡ true }
         ensures { IfSome result (λ s. scalar_value s
             ≡ value_in node.now (V.lent self.now.env.now) bindings.now) }
     {
@@ -107,7 +107,7 @@ impl<'e, V: Lender> Evaluation<'e, V> {
     #[inline(always)]
     pub fn lent_value(&self) -> Option<&'e Value>
         ensures value { IfSome result (λ v. v.now
-            ≡ value_of self.now.expr.now.0 (V.lent self.now.env.now)) }
+            ≡ value_of self.now.expr.now.tree (V.lent self.now.env.now)) }
         ensures well { IfSome result (λ v. IsWell v.now) }
     {
         match self.tree() {
@@ -125,9 +125,9 @@ impl<'e, V: Lender> Evaluation<'e, V> {
 pub fn eval_number(expr: &Expr, meter: &mut Meter) -> Option<i64>
     requires not_full { meter.old < 2 ^ 64 - 1 }
     ensures value { IfSome result (λ n. (lent : ℕ → AttributeValue)
-        → value.Num n ≡ value_of expr.now.0 lent) }
+        → value.Num n ≡ value_of expr.now.tree lent) }
     ensures counted { IfSome result (λ _. meter.new ≡ meter.old + 1) }
-    ensures none { result ≡ None → (n : ℤ) → expr.now.0 ≡ node.Literal (value.Num n) → ⊥ }
+    ensures none { result ≡ None → (n : ℤ) → expr.now.tree ≡ node.Literal (value.Num n) → ⊥ }
     ensures kept { result ≡ None → meter.new ≡ meter.old }
 {
     let Node::Literal(literal) = expr.tree() else {

@@ -30,10 +30,10 @@ pub fn eval_carried<C: CarriedEnvironment>(
     env: &C,
     meter: &mut Meter,
 ) -> Result<Carried, NoMemory>
-    requires lends { length expr.now.1 ≤ C.count env.now }
-    requires well { AreWell (length expr.now.1) (C.lent env.now) }
+    requires lends { length expr.now.occurrences ≤ C.count env.now }
+    requires well { AreWell (length expr.now.occurrences) (C.lent env.now) }
     requires not_full { meter.old < 2 ^ 64 - 1 }
-    ensures value { IfOk result (λ v. v ≡ value_of expr.now.0 (C.lent env.now)) }
+    ensures value { IfOk result (λ v. v ≡ value_of expr.now.tree (C.lent env.now)) }
     ensures well { IfOk result (λ v. IsWell v) }
     ensures counted { meter.new ≡ meter.old + 1 }
 {
@@ -54,10 +54,10 @@ pub fn eval_scalar<C: CarriedEnvironment>(
     env: &C,
     meter: &mut Meter,
 ) -> Option<Scalar>
-    requires lends { length expr.now.1 ≤ C.count env.now }
-    requires well { AreWell (length expr.now.1) (C.lent env.now) }
+    requires lends { length expr.now.occurrences ≤ C.count env.now }
+    requires well { AreWell (length expr.now.occurrences) (C.lent env.now) }
     requires not_full { meter.old < 2 ^ 64 - 1 }
-    ensures value { IfSome result (λ s. scalar_value s ≡ value_of expr.now.0 (C.lent env.now)) }
+    ensures value { IfSome result (λ s. scalar_value s ≡ value_of expr.now.tree (C.lent env.now)) }
     ensures counted { IfSome result (λ _. meter.new ≡ meter.old + 1) }
     ensures kept { result ≡ None → meter.new ≡ meter.old }
 {

@@ -37,9 +37,9 @@ pub struct Evaluation<'e, V: Lender> {
     alloc: Global,
     expr: &'e Expr,
     env: &'e V,
-    ghost lends: { length expr.now.1 ≤ V.count env.now },
+    ghost lends: { length expr.now.occurrences ≤ V.count env.now },
     // `∥ P ∥₁` states P
-    ghost well: { ∥ AreWell (length expr.now.1) (V.lent env.now) ∥₁ },
+    ghost well: { ∥ AreWell (length expr.now.occurrences) (V.lent env.now) ∥₁ },
 }
 
 impl<'e, V: Lender> Drop for Evaluation<'e, V> {
@@ -55,8 +55,8 @@ impl<'e, V: Lender> Drop for Evaluation<'e, V> {
 impl<'e, V: Lender> Evaluation<'e, V> {
     /// Makes the evaluation of an expression in an environment.
     pub fn new(alloc: Global, expr: &'e Expr, env: &'e V) -> Evaluation<'e, V>
-        requires lends { length expr.now.1 ≤ V.count env.now }
-        requires well { AreWell (length expr.now.1) (V.lent env.now) }
+        requires lends { length expr.now.occurrences ≤ V.count env.now }
+        requires well { AreWell (length expr.now.occurrences) (V.lent env.now) }
         ensures expr { result.expr ≡ expr.entry }
         ensures env { result.env ≡ env.entry }
     {
@@ -65,8 +65,8 @@ impl<'e, V: Lender> Evaluation<'e, V> {
 
     /// Lends the tree of the expression.
     pub fn tree(&self) -> &'e Node
-        ensures value { result.now ≡ self.now.expr.now.0 }
-        ensures below { is_within (length self.now.expr.now.1) result.now 0 ≡ true }
+        ensures value { result.now ≡ self.now.expr.now.tree }
+        ensures below { is_within (length self.now.expr.now.occurrences) result.now 0 ≡ true }
     {
         self.expr.tree()
     }
@@ -74,7 +74,7 @@ impl<'e, V: Lender> Evaluation<'e, V> {
     /// Lends the value of the occurrence with this number, if it is stored as a `Value`.
     #[inline(always)]
     pub fn occurrence(&self, k: usize) -> Option<&'e Value>
-        requires { k < length self.now.expr.now.1 }
+        requires { k < length self.now.expr.now.occurrences }
         ensures value { IfSome result (λ v. v.now ≡ V.lent self.now.env.now k) }
         ensures well { IfSome result (λ v. IsWell v.now) }
     {
@@ -87,7 +87,7 @@ impl<'e, V: Lender> Evaluation<'e, V> {
     /// Returns the value of the occurrence with this number as a scalar, if it is one.
     #[inline(always)]
     pub fn scalar_occurrence(&self, k: usize) -> Option<Scalar>
-        requires { k < length self.now.expr.now.1 }
+        requires { k < length self.now.expr.now.occurrences }
         ensures { IfSome result (λ s. scalar_value s ≡ V.lent self.now.env.now k) }
     {
         self.env.loan(k).scalar()
@@ -97,7 +97,7 @@ impl<'e, V: Lender> Evaluation<'e, V> {
     /// an error that is not stored as a `Value` is copied, and every other value is lent.
     #[inline(always)]
     fn held_occurrence(&self, k: usize) -> Result<Held<'e>, NoMemory>
-        requires { k < length self.now.expr.now.1 }
+        requires { k < length self.now.expr.now.occurrences }
         ensures { IfOk result (λ h. held_value h ≡ V.lent self.now.env.now k) }
     {
         match self.env.loan(k) {
@@ -116,7 +116,7 @@ impl<'e, V: Lender> Evaluation<'e, V> {
         node: &'e Node,
         bindings: &mut Bindings<'e>,
     ) -> Result<Operand<'e>, NoMemory>
-        requires below { is_within (length self.now.expr.now.1) node.now (length bindings.old) ≡ true }
+        requires below { is_within (length self.now.expr.now.occurrences) node.now (length bindings.old) ≡ true }
         ensures value { OnOk result (IfOk result (λ o. operand_value bindings.new o
             ≡ value_in node.now (V.lent self.now.env.now) bindings.old)) }
         ensures within { IfOk result (λ o. IsIn bindings.new o) }
@@ -169,7 +169,7 @@ impl<'e, V: Lender> Evaluation<'e, V> {
         bindings: &mut Bindings<'e>,
     ) -> Result<Operand<'e>, NoMemory>
         requires definition { IsIn bindings.old definition }
-        requires below { is_within (length self.now.expr.now.1) body.now
+        requires below { is_within (length self.now.expr.now.occurrences) body.now
             (length (bindings.old ++ operand_value bindings.old definition ∷ [])) ≡ true }
         ensures value { OnOk result (IfOk result (λ o. operand_value bindings.new o
             ≡ value_in body.now (V.lent self.now.env.now)
@@ -193,7 +193,7 @@ impl<'e, V: Lender> Evaluation<'e, V> {
         bindings: &mut Bindings<'e>,
     ) -> Result<Operand<'e>, NoMemory>
         requires first { IsIn bindings.old first }
-        requires below { is_within (length self.now.expr.now.1) second.now (length bindings.old) ≡ true }
+        requires below { is_within (length self.now.expr.now.occurrences) second.now (length bindings.old) ≡ true }
         ensures value { OnOk result (IfOk result (λ o. operand_value bindings.new o
             ≡ binary_call_result call (operand_value bindings.old first.entry)
             (value_in second.now (V.lent self.now.env.now) bindings.old))) }
@@ -218,7 +218,7 @@ impl<'e, V: Lender> Evaluation<'e, V> {
     ) -> Result<Operand<'e>, NoMemory>
         requires table { IsIn bindings.old table }
         requires key { IsIn bindings.old key }
-        requires below { is_within (length self.now.expr.now.1) item.now (length bindings.old) ≡ true }
+        requires below { is_within (length self.now.expr.now.occurrences) item.now (length bindings.old) ≡ true }
         ensures value { OnOk result (IfOk result (λ o. operand_value bindings.new o
             ≡ put (operand_value bindings.old table.entry) (operand_value bindings.old key.entry)
             (value_in item.now (V.lent self.now.env.now) bindings.old))) }
@@ -239,7 +239,7 @@ impl<'e, V: Lender> Evaluation<'e, V> {
         bindings: &mut Bindings<'e>,
     ) -> Result<Operand<'e>, NoMemory>
         requires first { IsIn bindings.old so_far }
-        requires below { all_below (length self.now.expr.now.1) (length bindings.old) others.now ≡ true }
+        requires below { all_below (length self.now.expr.now.occurrences) (length bindings.old) others.now ≡ true }
         ensures value { OnOk result (IfOk result (λ o. operand_value bindings.new o
             ≡ chain_value (V.lent self.now.env.now) bindings.old (operand_value bindings.old so_far.entry)
             (map (λ p. (p.0, value_in p.1)) others.now))) }
@@ -266,7 +266,7 @@ impl<'e, V: Lender> Evaluation<'e, V> {
         items: &'e [Node],
         bindings: &mut Bindings<'e>,
     ) -> Result<Operand<'e>, NoMemory>
-        requires below { each_within (length self.now.expr.now.1) (length bindings.old) items.now ≡ true }
+        requires below { each_within (length self.now.expr.now.occurrences) (length bindings.old) items.now ≡ true }
         ensures value { OnOk result (IfOk result (λ o. operand_value bindings.new o
             ≡ listed (item_values (V.lent self.now.env.now) bindings.old (map value_in items.now)))) }
         ensures within { IfOk result (λ o. IsIn bindings.new o) }
@@ -289,7 +289,7 @@ impl<'e, V: Lender> Evaluation<'e, V> {
     #[inline(never)]
     fn value(&self) -> Result<Value, NoMemory>
         ensures value { IfOk result (λ v. v
-            ≡ value_of self.now.expr.now.0 (V.lent self.now.env.now)) }
+            ≡ value_of self.now.expr.now.tree (V.lent self.now.env.now)) }
         ensures well { IfOk result (λ v. IsWell v) }
     {
         if let Some(value) = self.lent_value() {
@@ -308,7 +308,7 @@ impl<'e, V: Lender> Evaluation<'e, V> {
     #[inline(never)]
     pub fn carried(&self) -> Result<Carried, NoMemory>
         ensures value { IfOk result (λ v. v
-            ≡ value_of self.now.expr.now.0 (V.lent self.now.env.now)) }
+            ≡ value_of self.now.expr.now.tree (V.lent self.now.env.now)) }
         ensures well { IfOk result (λ v. IsWell v) }
     {
         let mut bindings = Bindings::new(self.alloc);
@@ -392,10 +392,10 @@ pub fn eval<V: Environment>(
     env: &V,
     meter: &mut Meter,
 ) -> Result<Value, NoMemory>
-    requires lends { length expr.now.1 ≤ V.count env.now }
-    requires well { AreWell (length expr.now.1) (V.lent env.now) }
+    requires lends { length expr.now.occurrences ≤ V.count env.now }
+    requires well { AreWell (length expr.now.occurrences) (V.lent env.now) }
     requires not_full { meter.old < 2 ^ 64 - 1 }
-    ensures value { IfOk result (λ v. v ≡ value_of expr.now.0 (V.lent env.now)) }
+    ensures value { IfOk result (λ v. v ≡ value_of expr.now.tree (V.lent env.now)) }
     ensures well { IfOk result (λ v. IsWell v) }
     ensures counted { meter.new ≡ meter.old + 1 }
 {

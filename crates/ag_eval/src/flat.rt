@@ -20,7 +20,7 @@ impl<'e, V: Lender> Evaluation<'e, V> {
     /// for another node.
     #[inline(always)]
     fn flat_operand(&self, node: &Node) -> Option<Scalar>
-        requires { is_within (length self.now.expr.now.1) node.now 0 ≡ true }
+        requires { is_within (length self.now.expr.now.occurrences) node.now 0 ≡ true }
         ensures { IfSome result (λ s. scalar_value s
             ≡ value_in node.now (V.lent self.now.env.now) []) }
     {
@@ -40,8 +40,8 @@ impl<'e, V: Lender> Evaluation<'e, V> {
     /// `None` for an operand, and for `++` of two numbers.
     #[inline(always)]
     fn flat_chain(&self, first: &Node, others: &[(Operator, Node)]) -> Option<Scalar>
-        requires first { is_within (length self.now.expr.now.1) first.now 0 ≡ true }
-        requires below { all_below (length self.now.expr.now.1) 0 others.now ≡ true }
+        requires first { is_within (length self.now.expr.now.occurrences) first.now 0 ≡ true }
+        requires below { all_below (length self.now.expr.now.occurrences) 0 others.now ≡ true }
         ensures { IfSome result (λ s. scalar_value s
             ≡ chain_value (V.lent self.now.env.now) []
             (value_in first.now (V.lent self.now.env.now) [])
@@ -61,7 +61,7 @@ impl<'e, V: Lender> Evaluation<'e, V> {
     #[tactic(auto, using(ag_grammar::proofs::expressions::Trees::parts))]
     pub fn flat_scalar(&self) -> Option<Scalar>
         ensures { IfSome result (λ s. scalar_value s
-            ≡ value_of self.now.expr.now.0 (V.lent self.now.env.now)) }
+            ≡ value_of self.now.expr.now.tree (V.lent self.now.env.now)) }
     {
         let node = self.tree();
         if let Node::Chain(first, others) = node {

@@ -25,6 +25,7 @@ pub use Rattle.ag_grammar.specs.declared.syntax.node.Node.{Node}
 pub use Rattle.ag_grammar.specs.declared.syntax.node.Node.TheVariants as node
 pub use Rattle.ag_grammar.specs.declared.syntax.node.Operator.{Operator}
 pub use Rattle.ag_grammar.specs.declared.syntax.occurrence.Occ.{Occ}
+pub use Rattle.ag_grammar.specs.expressions.Expression.{Expression}
 pub use Rattle.ag_grammar.specs.expressions.Trees.{is_below}
 pub use Rattle.ag_tokens.specs.Ending.{Ending, offset_of}
 pub use Rattle.ag_tokens.specs.Ending as ending

@@ -80,7 +80,8 @@ pub fn read_ended<'t>(alloc: Global, cursor: &mut Cursor<'t>) -> Result<(Expr, u
 fn statement(reader: &mut Reader<'_>) -> Result<Node, ExprFault>
     requires { reader.old ≡ start true reader.old.tokens }
     ensures read { IfOk result (λ tree. IsReadEnded reader.old.tokens
-        (Ok ((tree, reader.new.listed), offset reader.new.tokens)) (next reader.new.tokens)) }
+        (Ok (record { tree = tree; occurrences = reader.new.listed }, offset reader.new.tokens))
+        (next reader.new.tokens)) }
     ensures below { IfOk result (λ tree. is_below (length reader.new.listed) tree ≡ true) }
     ensures refused { IfErr result (λ e.
         IsReadEnded reader.old.tokens (Err e) reader.new.tokens) }
@@ -105,7 +106,8 @@ fn whole(mut reader: Reader<'_>) -> Result<Expr, ExprFault>
 /// Parses all remaining tokens as an expression, and returns its tree. Fails as `read_expr` does.
 fn tree_to_end(reader: &mut Reader<'_>) -> Result<Node, ExprFault>
     requires { reader.old.scope ≡ [] }
-    ensures read { IfOk result (λ tree. IsReadToEnd reader.old (Ok (tree, reader.new.listed))) }
+    ensures read { IfOk result (λ tree. IsReadToEnd reader.old
+        (Ok (record { tree = tree; occurrences = reader.new.listed }))) }
     ensures below { IfOk result (λ tree. is_below (length reader.new.listed) tree ≡ true) }
     ensures refused { IfErr result (λ e. IsReadToEnd reader.old (Err e)) }
 {

@@ -43,7 +43,8 @@ pub fn worked_tokens()
 /// States what `2 + 3 * 4` reads as.
 #[tactic(auto, using(crate::proofs::language::Examples::sum_is_read))]
 pub fn worked_expression()
-    ensures { ReadsAsExpr (codes "2 + 3 * 4") (sum_and_product, []) }
+    ensures { ReadsAsExpr (codes "2 + 3 * 4")
+        (record { tree = sum_and_product; occurrences = [] }) }
 {}
 
 /// States which tree the tokens of `let x = 1 in x < 2` spell, as an expression of at most two

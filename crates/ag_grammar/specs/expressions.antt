@@ -1,5 +1,6 @@
 -- Expressions: their trees, their occurrences, and their values.
 pub mod Evaluation
+pub mod Expression
 pub mod Laws
 pub mod Occurrences
 pub mod Occurring

@@ -125,10 +125,10 @@ pub fn sample_ran()
 /// the same value for occurrence 0 give the expression the same value.
 #[tactic(auto, using(crate::proofs::expressions::Depending::one_occurrence))]
 pub fn one_occurrence()
-    ensures occurs { has_occurrence 0 rule_s.expr.0 ≡ true }
-    ensures alone { has_occurrence 1 rule_s.expr.0 ≡ false }
+    ensures occurs { has_occurrence 0 rule_s.expr.tree ≡ true }
+    ensures alone { has_occurrence 1 rule_s.expr.tree ≡ false }
     ensures same { (env other : ℕ → AttributeValue) → env 0 ≡ other 0
-        → value_of rule_s.expr.0 env ≡ value_of rule_s.expr.0 other }
+        → value_of rule_s.expr.tree env ≡ value_of rule_s.expr.tree other }
 {}
 
 /// States that the first production of the first grammar is not normal with the rule `$2.i = $1.i`.

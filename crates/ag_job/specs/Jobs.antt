@@ -40,6 +40,11 @@ pub record IsJob (bytes text sentence : List ℕ) : Type 0 where
   pub within : length bytes ≤ max_job_bytes
   pub parts : AreParts bytes text sentence
 
+-- A job that was read: the text of its grammar, and its sentence.
+pub record JobTexts : Type 0 where
+  pub grammar : List ℕ
+  pub sentence : List ℕ
+
 -- no line is exactly `%%`
 abbrev pub HasNoSeparator : List ℕ → Type 0
 HasNoSeparator bytes = (text sentence : List ℕ) → IsCut bytes text sentence → ⊥

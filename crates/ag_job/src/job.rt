@@ -16,7 +16,7 @@ use std::marker::Model;
 /// their own here.
 pub const MAX_JOB_BYTES: usize = 2 * MAX_TEXT_BYTES + 4;
 
-/// A job that was read. In contracts it is the pair of its grammar's text and its sentence.
+/// A job that was read. Contracts see a record of its two texts, `JobTexts`.
 #[derive(Drop)]
 pub struct Job {
     bytes: Vec<u8>,
@@ -24,11 +24,15 @@ pub struct Job {
 }
 
 impl Model for Job {
-    ghost use Rattle.std.specs.Prelude.{List, ℕ, ◌≤◌, length, take, drop};
+    ghost use Rattle.std.specs.Prelude.{◌≤◌, length, take, drop};
+    ghost use Rattle.ag_job.specs.Jobs.{JobTexts};
 
-    ghost Value = { List ℕ × List ℕ };
+    ghost Value = { JobTexts };
 
-    ghost view = { λ job. (take job.cut.text job.bytes.items, drop job.cut.sentence job.bytes.items) };
+    ghost view = { λ job. record {
+      grammar = take job.cut.text job.bytes.items;
+      sentence = drop job.cut.sentence job.bytes.items;
+    } };
 
     ghost invariant = { λ job. (job.cut.text ≤ length job.bytes.items)
         × (job.cut.sentence ≤ length job.bytes.items) };
@@ -48,7 +52,7 @@ impl Job {
     /// them.
     pub fn read<R: Read + Drop>(alloc: Global, reader: R) -> Result<Job, JobFault>
         ensures job { IfOk result (λ job. IfSome (R.remaining reader)
-            (λ bytes. IsJob bytes job.0 job.1)) }
+            (λ bytes. IsJob bytes job.grammar job.sentence)) }
         ensures refused { IfErr result (λ e. IsJobFault (R.remaining reader) e) }
     {
         let bytes = read_prefix(alloc, reader, MAX_JOB_BYTES as u64 + 1)?;
@@ -63,14 +67,14 @@ impl Job {
 
     /// Returns the text of the grammar.
     pub fn grammar(&self) -> &[u8]
-        ensures { result.now ≡ self.now.0 }
+        ensures { result.now ≡ self.now.grammar }
     {
         &self.bytes[..self.cut.text]
     }
 
     /// Returns the sentence.
     pub fn sentence(&self) -> &[u8]
-        ensures { result.now ≡ self.now.1 }
+        ensures { result.now ≡ self.now.sentence }
     {
         &self.bytes[self.cut.sentence..]
     }

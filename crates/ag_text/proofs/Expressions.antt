@@ -3,9 +3,8 @@ use Rattle.std.proofs.Common.{◌≡◌, ◌≢◌, ℕ, pos, Bool, true, List, 
 use Rattle.std.proofs.Common.{ap, sym, ◌∙◌, subst, append_assoc, arith}
 use Rattle.ag_expr.specs.declared.fault.ExprFault.{ExprFault}
 use Rattle.ag_expr.specs.declared.fault.ExprFault.TheVariants as fault
-use Rattle.ag_grammar.specs.declared.syntax.node.Node.{Node}
 use Rattle.ag_grammar.specs.declared.syntax.node.Node.TheVariants as node
-use Rattle.ag_grammar.specs.declared.syntax.occurrence.Occ.{Occ}
+use Rattle.ag_grammar.specs.expressions.Expression.{Expression}
 use Rattle.ag_tokens.specs.declared.token.Punctuation.TheVariants as punctuation
 use Rattle.ag_value.specs.declared.value.Value.TheVariants as value
 use Rattle.ag_tokens.specs.Ending as ending
@@ -35,7 +34,7 @@ is_semicolon = is_mark punctuation.Semicolon
 
 -- ---- tokens that are a whole text
 
-own_of : (at : ℕ) (es : List PlacedToken) (x : Node × List Occ) → first_semicolon es ≡ None
+own_of : (at : ℕ) (es : List PlacedToken) (x : Expression) → first_semicolon es ≡ None
     → read_from (record { left = es; ending = ending.EndsAt at }) ≡ Ok x → IsOwnExpr es x
 own_of at es x free h = let s = spells_of (record { left = es; ending = ending.EndsAt at }) x h in
     record { free = free; listed = s.listed; spells = rw s.listed s.spells }
@@ -43,25 +42,25 @@ own_of at es x free h = let s = spells_of (record { left = es; ending = ending.E
 zero_tokens : List PlacedToken
 zero_tokens = record { at = 0; token = token.Number (pos 0) } ∷ []
 
-abbrev zero_node : Node
-zero_node = node.Literal (value.Num (pos 0))
+abbrev zero_expr : Expression
+zero_expr = record { tree = node.Literal (value.Num (pos 0)); occurrences = [] }
 
 zero_read : expr_of [] 64 (record { left = zero_tokens; ending = ending.EndsAt 1 }) ≡ Ok
-    (zero_node, record { left = []; ending = ending.EndsAt 1 })
+    (zero_expr.tree, record { left = []; ending = ending.EndsAt 1 })
 unfolding zero_tokens expr_of expr_in whole_from ranked_from chain_from atom_from many_from
 zero_read = refl
 
-zero_own : IsOwnExpr zero_tokens (zero_node, [])
+zero_own : IsOwnExpr zero_tokens zero_expr
 unfolding zero_tokens
-zero_own = record { free = refl; listed = refl; spells = (agree.exact [] 64 1 zero_tokens zero_node).0 zero_read }
+zero_own = record { free = refl; listed = refl; spells = (agree.exact [] 64 1 zero_tokens zero_expr.tree).0 zero_read }
 
 -- ---- with the `;`
 
-ended_is : (es : List PlacedToken) (at : ℕ) (x : Node × List Occ) → IsOwnExpr es x → IsEndedExpr (es ++ semicolon at ∷ []) x
+ended_is : (es : List PlacedToken) (at : ℕ) (x : Expression) → IsOwnExpr es x → IsEndedExpr (es ++ semicolon at ∷ []) x
 ended_is es at x is =
     (es, semicolon at ∷ [], x, refl, is, (semicolon at ∷ [], [], tt, refl, (semicolon at, refl, refl), (refl, refl)))
 
-complete : (us : List PlacedToken) (j : Input) (x : Node × List Occ) → IsEndedExpr us x
+complete : (us : List PlacedToken) (j : Input) (x : Expression) → IsEndedExpr us x
     → ended_expr_from (before us j) ≡ Ok (x, j)
 unfolding ended_expr_from
 complete us j x (es, vs, y, e, is, (ms, ns, u, d, (p, single, sign), (empty, same))) =
@@ -74,7 +73,7 @@ complete us j x (es, vs, y, e, is, (ms, ns, u, d, (p, single, sign), (empty, sam
     let found = spelled_back es p.at y is.listed is.spells in
     rw (text, cut.0, cut.1, found, cut.2, same) refl
 
-found_at : (i j : Input) (x : Node × List Occ) (o : Option ℕ) → first_semicolon i.left ≡ o → ended i (until_by o i) ≡ Ok (x, j)
+found_at : (i j : Input) (x : Expression) (o : Option ℕ) → first_semicolon i.left ≡ o → ended i (until_by o i) ≡ Ok (x, j)
     → (us : List PlacedToken) × (i ≡ before us j) × IsEndedExpr us x
 found_at i j x None e h = let bad : ⊥ = grind arith in absurd bad
 found_at i j x (Some at) e h =
@@ -86,7 +85,7 @@ found_at i j x (Some at) e h =
     cut.0 ∙ sym (append_assoc es (semicolon at ∷ []) (after_semicolon i.left)) in
     (es ++ semicolon at ∷ [], rw read.1 (ap (λ ps. record i { left = ps }) whole), ended_is es at x (own_of at es x cut.1 read.0))
 
-found : (i j : Input) (x : Node × List Occ) → ended_expr_from i ≡ Ok (x, j)
+found : (i j : Input) (x : Expression) → ended_expr_from i ≡ Ok (x, j)
     → (us : List PlacedToken) × (i ≡ before us j) × IsEndedExpr (map (λ p. p) us) x
 unfolding ended_expr_from
 found i j x h = let f = found_at i j x (first_semicolon i.left) refl h in
@@ -111,7 +110,7 @@ ended_steady = record {
             (f.0, f.1, f.2, λ k e. (again k, again k)));
         err = λ f reported h. absurd (never_reported i (read_until_from i) f reported h);
       };
-  word = (zero_tokens ++ semicolon 1 ∷ [], (zero_node, []), ended_is zero_tokens 1 (zero_node, []) zero_own);
+  word = (zero_tokens ++ semicolon 1 ∷ [], zero_expr, ended_is zero_tokens 1 zero_expr zero_own);
 }
 
 -- ---- the result for a cursor

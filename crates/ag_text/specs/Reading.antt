@@ -2,8 +2,7 @@
 -- and the remaining input, or a fault.
 use Rattle.std.specs.Prelude.{ℕ, Bool, true, false, not, List, [], ◌∷◌, Option, Result, Ok, Err, codes}
 use Rattle.ag_expr.specs.declared.fault.ExprFault.{ExprFault}
-use Rattle.ag_grammar.specs.declared.syntax.node.Node.{Node}
-use Rattle.ag_grammar.specs.declared.syntax.occurrence.Occ.{Occ}
+use Rattle.ag_grammar.specs.expressions.Expression.{Expression}
 use Rattle.ag_tokens.specs.declared.token.Punctuation.{Punctuation}
 use Rattle.ag_tokens.specs.declared.token.Punctuation.TheVariants as punctuation
 use Rattle.ag_tokens.specs.PlacedToken.{Input}
@@ -46,12 +45,12 @@ many = further_from false
 -- ---- the expression of a rule
 
 -- the outcome for the input i, whose expression up to the first `;` has this result; the remaining input begins after the `;`
-abbrev pub ended : Input → Result Ended ExprFault → Outcome (Node × List Occ)
+abbrev pub ended : Input → Result Ended ExprFault → Outcome Expression
 ended i (Ok x) = Ok (x.0, record i { left = after_semicolon i.left })
 ended i (Err f) = Err (InExpr f)
 
 -- an expression and the `;` after it
-unfoldable pub ended_expr_from : Parser (Node × List Occ)
+unfoldable pub ended_expr_from : Parser Expression
 ended_expr_from = λ i. ended i (read_until_from i)
 
 -- ---- grammars

@@ -1,7 +1,6 @@
 -- The syntax of grammars over tokens with offsets (this project's grammar of grammars).
 use Rattle.std.specs.Prelude.{◌≡◌, ℕ, false, List, [], ◌∷◌, Option, None, codes}
-use Rattle.ag_grammar.specs.declared.syntax.node.Node.{Node}
-use Rattle.ag_grammar.specs.declared.syntax.occurrence.Occ.{Occ}
+use Rattle.ag_grammar.specs.expressions.Expression.{Expression}
 use Rattle.ag_tokens.specs.declared.token.Punctuation.{Punctuation}
 use Rattle.ag_tokens.specs.declared.token.Punctuation.TheVariants as punctuation
 use Rattle.ag_expr.specs.language.Expression.{max_levels}
@@ -65,13 +64,13 @@ IsSymbol = do
 
 -- The tokens are an expression of at most 64 levels, with its tree and the distinct occurrences among these tokens. They contain
 -- no `;`.
-pub record IsOwnExpr (ps : List PlacedToken) (expr : Node × List Occ) : Type 0 where
+pub record IsOwnExpr (ps : List PlacedToken) (expr : Expression) : Type 0 where
   pub free : first_semicolon ps ≡ None
-  pub listed : expr.1 ≡ distinct_occurrences (all_occurrences ps)
-  pub spells : IsExpr expr.1 max_levels (tokens ps) expr.0
+  pub listed : expr.occurrences ≡ distinct_occurrences (all_occurrences ps)
+  pub spells : IsExpr expr.occurrences max_levels (tokens ps) expr.tree
 
 -- `expr ";"`
-abbrev pub IsEndedExpr : List PlacedToken → Node × List Occ → Type 0
+abbrev pub IsEndedExpr : List PlacedToken → Expression → Type 0
 IsEndedExpr = do
   expr ← IsOwnExpr
   mark punctuation.Semicolon

@@ -46,7 +46,10 @@ constant_tokens =
 -- the rule `$0.out = 7;`
 abbrev pub constant_rule : RawRule
 constant_rule =
-    record { target = record { place = 0; attr = codes "out"; at = 44 }; expr = (node.Literal (value.Num (pos 7)), []) }
+    record {
+      target = record { place = 0; attr = codes "out"; at = 44 };
+      expr = record { tree = node.Literal (value.Num (pos 7)); occurrences = [] };
+    }
 
 -- the grammar of the tokens `constant_tokens`; class 0 is NAME
 abbrev pub constant : RawGrammar

@@ -11,6 +11,7 @@ use Rattle.llparse.specs.declared.ahead.Ahead.{Ahead}
 use Rattle.llparse.specs.declared.table.fault.TableFault.{TableFault}
 use Rattle.llparse.specs.declared.table.fault.TableFault.TheVariants as table
 use Rattle.passcode.specs.Listing.{AreGeneratedLists}
+use Rattle.passcode.specs.Settings.{EvaluationPlan}
 use Rattle.aggen.specs.Listing.{HoldsOfPlan}
 
 -- a conflict of the grammar of a text is one of the text
@@ -20,8 +21,9 @@ pub conflict_exact : {T : Type 0} {t : List ℕ} {g : Grammar} → IsGrammarOf t
 conflict_exact {g} is (table.Conflict symbol first second ahead) least = (g, is, least symbol first second ahead refl)
 conflict_exact is table.NoMemory least = tt
 
-pub least_plan : (g : Grammar) (rows : List (List ℕ)) (code : Lists) (p : List (List ℕ) × Lists) → p ≡ (rows, code)
-    → IsPlan g rows code → IsLeast g (passes_of rows) → AreGeneratedLists g (passes_of rows) code → IsLeastPlan g p.0 p.1
+pub least_plan : (g : Grammar) (rows : List (List ℕ)) (code : Lists) (p : EvaluationPlan)
+    → p ≡ record { assignment = rows; code = code } → IsPlan g rows code → IsLeast g (passes_of rows)
+    → AreGeneratedLists g (passes_of rows) code → IsLeastPlan g p.assignment p.code
 least_plan g rows code p is plan least lists =
     rw is (record { plan = plan; least = least; lists = lists })
 

@@ -2,15 +2,14 @@
 use Rattle.aggen.proofs.Common.{◌≡◌, ℕ, List, [], Some, None, inl, Value, expr_fault_of}
 use Rattle.ag_expr.specs.declared.fault.ExprFault.{ExprFault}
 use Rattle.ag_expr.specs.declared.fault.ExprFault.TheVariants.{Unexpected, NoMemory}
-use Rattle.ag_grammar.specs.declared.syntax.node.Node.{Node}
-use Rattle.ag_grammar.specs.declared.syntax.occurrence.Occ.{Occ}
+use Rattle.ag_grammar.specs.expressions.Expression.{Expression}
 use Rattle.ag_expr.specs.language.Expression.{IsFaultOf, IsRefused, ReadsAsExpr}
 use Rattle.ag_expr.proofs.language.Texts.{one_expression}
 use Rattle.aggen.specs.Showing.{HasNoValue, HasValue, IsExplained, IsExprFault, IsUnexpectedAt, OccursAt, first_offset}
 
 pub refused_none : (text : List ℕ) (e : ExprFault) → IsRefused text e → IsExprFault (expr_fault_of e) → HasNoValue text
 refused_none text NoMemory none is = absurd is
-refused_none text e none is = λ value has. none (has.tree, []) has.reads
+refused_none text e none is = λ value has. none (record { tree = has.tree; occurrences = [] }) has.reads
 
 -- if a fault of `read_expr` is one of X1 to X4, it is true of the text
 pub explained : (text : List ℕ) (e : ExprFault) → IsRefused text e → IsFaultOf text e → IsExplained text (expr_fault_of e)
@@ -24,8 +23,8 @@ wanted text NoMemory at none occurs = tt
 wanted text e at none occurs = absurd (none occurs.expr occurs.reads)
 
 -- a text reads as one expression only, so its first occurrence is the one of `OccursAt`
-pub same_offset : {text : List ℕ} {e : Node × List Occ} {at : ℕ} → ReadsAsExpr text e → OccursAt text at
-    → first_offset e.1 ≡ Some at
+pub same_offset : {text : List ℕ} {e : Expression} {at : ℕ} → ReadsAsExpr text e → OccursAt text at
+    → first_offset e.occurrences ≡ Some at
 same_offset {text} {e} reads occurs = rw (one_expression text e occurs.expr reads occurs.reads) occurs.offset
 
 -- a text with occurrences has no value

@@ -75,7 +75,7 @@ module _ {g : Grammar} {rows : List (List ℕ)} {code : Lists} (accepted : IsAcc
   -- no pass refuses a file of the tree of a sentence
   pub never_refused : {t : Tree} {start : List ℕ} (sentence : List ℕ) (f : RunFault) (ha hb : Bool) → IsTreeOf g t
       → IsWithinLimits max_depth max_nodes t → WhenHonest ha (IsFirstFile version_two g t start)
-      → WhenHonest ha (WhenHonest hb (IsRunFault (setting_of g (rows, code) 1) start f))
+      → WhenHonest ha (WhenHonest hb (IsRunFault (setting_of g (record { assignment = rows; code = code }) 1) start f))
       → IsFaultBeforeText g sentence ha hb (run_fault_of f)
   never_refused sentence run.Device ha hb tree within file exact = tt
   never_refused sentence run.NoMemory ha hb tree within file exact = tt

@@ -28,7 +28,7 @@ turned P B last a b e holds = rw e holds
 module _ {g : Grammar} {rows : List (List ℕ)} {code : Lists} (accepted : IsAccepted g) (plan : IsPlan g rows code) where
   -- the meaning of a fault of pass 1 for the content
   pub first_refused : (f : RunFault) (content : List ℕ) (ht ha hb : Bool)
-      → WhenHonest ht (IsRunFault (setting_of g (rows, code) 1) content f)
+      → WhenHonest ht (IsRunFault (setting_of g (record { assignment = rows; code = code }) 1) content f)
       → IsTreeFaultBeforeText g ht ha hb content (run_fault_of f)
   first_refused run.Device content ht ha hb exact = tt
   first_refused run.NoMemory content ht ha hb exact = tt
@@ -36,7 +36,7 @@ module _ {g : Grammar} {rows : List (List ℕ)} {code : Lists} (accepted : IsAcc
     tt,
     λ x y z. (
       (λ t is. (exact x).none t _ is.tree (in_first_file plan.legal is.file)),
-      ((rows, code), plan.legal.positive, (exact x).shown),
+      (record { assignment = rows; code = code }, plan.legal.positive, (exact x).shown),
     ),
   )
   first_refused run.TooDeep content ht ha hb exact = (
@@ -44,7 +44,7 @@ module _ {g : Grammar} {rows : List (List ℕ)} {code : Lists} (accepted : IsAcc
     λ x y z. (
       (λ t is deep. (exact x).none (node_count t) t _ is.tree (record { deep = deep; large = omega arith })
           (in_first_file plan.legal is.file)),
-      ((rows, code), plan.legal.positive, (exact x).shown),
+      (record { assignment = rows; code = code }, plan.legal.positive, (exact x).shown),
     ),
   )
   first_refused run.TooManyNodes content ht ha hb exact = (
@@ -52,14 +52,15 @@ module _ {g : Grammar} {rows : List (List ℕ)} {code : Lists} (accepted : IsAcc
     λ x y z. (
       (λ t is large. (exact x).none (depth_of t) t _ is.tree (record { deep = omega arith; large = large })
           (in_first_file plan.legal is.file)),
-      ((rows, code), plan.legal.positive, (exact x).shown),
+      (record { assignment = rows; code = code }, plan.legal.positive, (exact x).shown),
     ),
   )
 
   -- honest devices return a file that no later pass rejects
   pub never_later : {first : List ℕ} {count evals : ℕ} (f : RunFault) (content : List ℕ) (ht ha hb : Bool)
-      → WhenHonest ht (WhenHonest hb (IsPassed (setting_of g (rows, code) 1) content first count evals))
-      → WhenHonest hb (WhenHonest ha (IsRunFault (setting_of g (rows, code) 2) first f))
+      → WhenHonest ht
+      (WhenHonest hb (IsPassed (setting_of g (record { assignment = rows; code = code }) 1) content first count evals))
+      → WhenHonest hb (WhenHonest ha (IsRunFault (setting_of g (record { assignment = rows; code = code }) 2) first f))
       → IsTreeFaultBeforeText g ht ha hb content (run_fault_of f)
   never_later run.Device content ht ha hb passed exact = tt
   never_later run.NoMemory content ht ha hb passed exact = tt
@@ -69,7 +70,8 @@ module _ {g : Grammar} {rows : List (List ℕ)} {code : Lists} (accepted : IsAcc
       (tt, λ x y z. let is = passed x z in absurd ((exact z y).none _ _ _ is.fits is.limits is.written))
 
   module _ {content first a b : List ℕ} {evals more : ℕ} (one : Passed) {others : Passed} {which : Last} {report : Report}
-      (greatest : IsGreatest report.passes rows) (passed : IsPassed (setting_of g (rows, code) 1) content first one.nodes evals)
+      (greatest : IsGreatest report.passes rows)
+      (passed : IsPassed (setting_of g (record { assignment = rows; code = code }) 1) content first one.nodes evals)
       (counts : (one.read ≡ one.nodes) × (one.written ≡ one.nodes))
       (all : HasRunAll g (passes_of rows) 1 report.passes first which b a more others)
       (last : report.last ≡ other_last which) (nodes : report.nodes ≡ one.nodes)

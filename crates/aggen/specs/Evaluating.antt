@@ -10,7 +10,7 @@ use Rattle.ag_grammar.specs.grammars.Tree.{Tree, depth_of, max_depth, max_nodes,
 use Rattle.treefile.specs.records.FirstFile.{AreFromOne}
 use Rattle.passassign.specs.Rows.{IsGreatest, passes_of}
 use Rattle.passcode.specs.Rows.{Lists}
-use Rattle.passcode.specs.Settings.{setting_of}
+use Rattle.passcode.specs.Settings.{EvaluationPlan, setting_of}
 use Rattle.passrun.specs.Damage.{Shows, source}
 use Rattle.pass_rows.specs.declared.run_fault.RunFault.{RunFault}
 use Rattle.pass_rows.specs.declared.run_fault.RunFault.TheVariants as run
@@ -57,11 +57,11 @@ pub record LeavesLastFilesOfTree (g : Grammar) (honest_tree honest_a honest_b : 
   pub files : LeavesFilesOfTree g rows honest_tree honest_a honest_b content a b report
 
 -- f is the first damage or exceeded limit that pass 1 meets in the content, which it reads as the file of pass 0 of a tree. This
--- holds of pass 1 of some `plan` (rows of an assignment, and code) whose passes are from 1 on. All such plans meet the same f,
--- since in a file of pass 0 no attribute but the `lex` of tokens has a value.
+-- holds of pass 1 with some rows of passes from 1 on, and any code, whether they are a plan or not. With all such rows pass 1
+-- meets the same f, since in a file of pass 0 no attribute but the `lex` of tokens has a value.
 abbrev pub ShowsInFile : Grammar → List ℕ → RunFault → Type 0
 ShowsInFile g content f =
-    (plan : List (List ℕ) × Lists) × AreFromOne (passes_of plan.0) × Shows (source (setting_of g plan 1)) content f
+    (plan : EvaluationPlan) × AreFromOne (passes_of plan.assignment) × Shows (source (setting_of g plan 1)) content f
 
 -- R1: the content is not the file of pass 0 of any tree of the grammar, and this shows at the offset. P2: it is not that of any
 -- tree within the limit of levels, and this limit is exceeded before damage is met. P3: the same with the limit of nodes. D1 and

@@ -9,6 +9,7 @@ use Rattle.ag_expr.specs.declared.fault.ExprFault.{ExprFault}
 use Rattle.ag_expr.specs.declared.fault.ExprFault.TheVariants as expr
 use Rattle.ag_grammar.specs.declared.syntax.node.Node.{Node}
 use Rattle.ag_grammar.specs.declared.syntax.occurrence.Occ.{Occ}
+use Rattle.ag_grammar.specs.expressions.Expression.{Expression}
 use Rattle.ag_value.specs.Well.{IsWell}
 use Rattle.ag_value.specs.declared.value.Value.{Value}
 use Rattle.ag_value.specs.declared.value.Value.TheVariants as value
@@ -26,7 +27,7 @@ no_values k = value.Num (pos 0)
 -- the text reads as an expression without occurrences, whose value this is
 pub record HasValue (text : List ℕ) (is : Value) : Type 0 where
   pub tree : Node
-  pub reads : ReadsAsExpr text (tree, [])
+  pub reads : ReadsAsExpr text (record { tree = tree; occurrences = [] })
   pub value : is ≡ value_of tree no_values
 
 -- the text does not read as an expression without occurrences
@@ -40,9 +41,9 @@ first_offset (first ∷ others) = Some first.at
 
 -- the text reads as an expression with occurrences, and the `$` of the first one is at the offset
 pub record OccursAt (text : List ℕ) (at : ℕ) : Type 0 where
-  pub expr : Node × List Occ
+  pub expr : Expression
   pub reads : ReadsAsExpr text expr
-  pub offset : first_offset expr.1 ≡ Some at
+  pub offset : first_offset expr.occurrences ≡ Some at
 
 -- The meaning of X1 to X4: the text does not read as an expression, and the fault is true at its offset. X2 (the
 -- variant Unexpected) may also mean that the text reads as an expression whose first occurrence is at the offset.

@@ -71,7 +71,7 @@ impl Model for Translator {
     ghost view = { λ t. t.grammar };
 
     ghost invariant = { λ t. IsAccepted t.grammar × FitsGrammar t.grammar t.tables
-        × IsLeastPlan t.grammar t.plan.0 t.plan.1 };
+        × IsLeastPlan t.grammar t.plan.assignment t.plan.code };
 }
 
 impl Translator {
@@ -124,7 +124,7 @@ impl Translator {
 
     /// Returns the plan of the passes: the least assignment, and its code. Takes no memory.
     pub fn plan(&self) -> &Plan
-        ensures { IsLeastPlan self.now result.now.0 result.now.1 }
+        ensures { IsLeastPlan self.now result.now.assignment result.now.code }
     {
         &self.plan
     }
@@ -373,7 +373,7 @@ fn plan_of(alloc: Global, grammar: &Grammar, assignment: Assignment) -> Result<P
     requires least { IsLeast grammar.now (passes_of assignment) }
     requires few { AreWithinMaxPasses assignment }
     requires rows { length assignment ≤ length grammar.now.symbols }
-    ensures { IfOk result (λ p. IsLeastPlan grammar.now p.0 p.1) }
+    ensures { IfOk result (λ p. IsLeastPlan grammar.now p.assignment p.code) }
 {
     let code = generate(alloc, grammar, &assignment)?;
     match check_plan(grammar, assignment, code) {

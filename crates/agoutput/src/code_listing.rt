@@ -163,8 +163,7 @@ fn code_lines(alloc: Global, grammar: &Grammar, code: &Code) -> Result<String, A
 /// Writes the listing of a plan's code: one line for each production and pass, with the
 /// instructions of its list. Productions are in the order of the grammar's text, and the lines of a
 /// production in the order of the passes, from 1. `plan` has to be a plan for `grammar`: the
-/// listing of another plan could lack lines or names. Contracts see a plan as the pair of its
-/// assignment (`plan.now.0`) and its code (`plan.now.1`).
+/// listing of another plan could lack lines or names.
 ///
 /// Fails with O2 if a write takes no byte, or fails for any reason, for example because the writer
 /// is refused memory. A prefix of the listing, perhaps empty, is written then. Fails with NoMemory
@@ -176,12 +175,12 @@ pub fn write_code<W: Write>(
     grammar: &Grammar,
     plan: &Plan,
 ) -> Result<(), ListingFault>
-    requires plan { IsPlan grammar.now plan.now.0 plan.now.1 }
+    requires plan { IsPlan grammar.now plan.now.assignment plan.now.code }
     ensures ok { OnOk result (Appends (W.contents out.old) (W.contents out.new)
-        (code_text grammar.now plan.now.1)) }
+        (code_text grammar.now plan.now.code)) }
     // O2: a prefix of the listing was written
     ensures write { IsErrOf result ListingFault.Write → AppendsBeginning (W.contents out.old)
-        (W.contents out.new) (code_text grammar.now plan.now.1) }
+        (W.contents out.new) (code_text grammar.now plan.now.code) }
     // NoMemory: nothing was written
     ensures memory { IsErrOf result ListingFault.NoMemory → out.new ≡ out.old }
 {

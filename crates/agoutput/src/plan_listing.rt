@@ -116,8 +116,7 @@ fn plan_lines(
 /// Writes the listing of a plan's passes: a line for each pass from 1, with its direction and the
 /// attributes that it computes. Symbols are in declared order, and for each symbol the synthesized
 /// attributes come before the inherited ones. `plan` has to be a plan for `grammar`: the listing of
-/// another plan could lack lines or names. Contracts see a plan as the pair of its assignment
-/// (`plan.now.0`) and its code (`plan.now.1`).
+/// another plan could lack lines or names.
 ///
 /// Fails with O2 if a write takes no byte, or fails for any reason, for example because the writer
 /// is refused memory. A prefix of the listing, perhaps empty, is written then. Fails with NoMemory
@@ -129,11 +128,11 @@ pub fn write_plan<W: Write>(
     grammar: &Grammar,
     plan: &Plan,
 ) -> Result<(), ListingFault>
-    requires plan { IsPlan grammar.now plan.now.0 plan.now.1 }
+    requires plan { IsPlan grammar.now plan.now.assignment plan.now.code }
     ensures ok { OnOk result
-        (AppendsPlan grammar.now plan.now.0 (W.contents out.old) (W.contents out.new)) }
+        (AppendsPlan grammar.now plan.now.assignment (W.contents out.old) (W.contents out.new)) }
     // O2: a prefix of the listing was written
-    ensures write { IsErrOf result ListingFault.Write → AppendsPlanBeginning grammar.now plan.now.0
+    ensures write { IsErrOf result ListingFault.Write → AppendsPlanBeginning grammar.now plan.now.assignment
         (W.contents out.old) (W.contents out.new) }
     // NoMemory: nothing was written
     ensures memory { IsErrOf result ListingFault.NoMemory → out.new ≡ out.old }

@@ -47,7 +47,7 @@ fn pass_over(
     from: &mut MemDevice,
     to: &mut MemDevice,
 ) -> Result<String, Mistake>
-    requires { IsPlan grammar.now plan.now.0 plan.now.1 }
+    requires { IsPlan grammar.now plan.now.assignment plan.now.code }
 {
     if pass == 0 || plan.assignment().passes() < pass {
         return Err(Mistake::Unfit);
@@ -86,7 +86,7 @@ fn lines_of_passes(
     plan: &Plan,
     tree: MemDevice,
 ) -> Result<String, Mistake>
-    requires { IsPlan grammar.now plan.now.0 plan.now.1 }
+    requires { IsPlan grammar.now plan.now.assignment plan.now.code }
 {
     let mut from = tree;
     let mut answer = String::new(alloc);
@@ -105,7 +105,7 @@ fn next_file(
     from: &mut MemDevice,
     answer: &mut String,
 ) -> Result<MemDevice, Mistake>
-    requires { IsPlan grammar.now plan.now.0 plan.now.1 }
+    requires { IsPlan grammar.now plan.now.assignment plan.now.code }
 {
     let mut to = MemDevice::new(alloc);
     let line = pass_over(alloc, grammar, plan, pass, from, &mut to)?;
@@ -139,7 +139,7 @@ fn run_from(
     first: u16,
     a: &mut MemDevice,
 ) -> Result<String, Mistake>
-    requires { IsPlan grammar.now plan.now.0 plan.now.1 }
+    requires { IsPlan grammar.now plan.now.assignment plan.now.code }
 {
     if first == 0 || plan.assignment().passes() < first - 1 {
         return Err(Mistake::Unfit);

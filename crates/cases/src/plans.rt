@@ -120,7 +120,7 @@ pub fn plan_answer(alloc: Global, grammar: &Grammar, spelled: &str) -> Result<St
 /// Returns the plan of a grammar: its least assignment and the code for it. Fails with `Unfit` if
 /// the grammar has no plan.
 pub fn plan_of(alloc: Global, grammar: &Grammar) -> Result<Plan, Mistake>
-    ensures { IfOk result (λ plan. IsPlan grammar.now plan.0 plan.1) }
+    ensures { IfOk result (λ plan. IsPlan grammar.now plan.assignment plan.code) }
 {
     let Ok(assignment) = assign(alloc, grammar) else {
         return Err(Mistake::Unfit);
@@ -148,7 +148,7 @@ fn write_listings(
     grammar: &Grammar,
     plan: &Plan,
 ) -> Result<(), Mistake>
-    requires { IsPlan grammar.now plan.now.0 plan.now.1 }
+    requires { IsPlan grammar.now plan.now.assignment plan.now.code }
 {
     if write_plan(alloc, listing, grammar, plan).is_err() {
         return Err(Mistake::Unfit);

@@ -20,7 +20,7 @@ fn text_answer(
     plan: &Plan,
     file: &mut MemDevice,
 ) -> Result<String, Mistake>
-    requires { IsPlan grammar.now plan.now.0 plan.now.1 }
+    requires { IsPlan grammar.now plan.now.assignment plan.now.code }
 {
     match root_text(alloc, grammar, plan, file) {
         Ok(text) => printed(alloc, &text.as_str()),
@@ -48,7 +48,7 @@ fn next_file(
     pass: u16,
     from: &mut MemDevice,
 ) -> Result<MemDevice, Mistake>
-    requires { IsPlan grammar.now plan.now.0 plan.now.1 }
+    requires { IsPlan grammar.now plan.now.assignment plan.now.code }
 {
     if pass == 0 || plan.assignment().passes() < pass {
         return Err(Mistake::Unfit);
@@ -68,7 +68,7 @@ fn last_file(
     plan: &Plan,
     tree: MemDevice,
 ) -> Result<MemDevice, Mistake>
-    requires { IsPlan grammar.now plan.now.0 plan.now.1 }
+    requires { IsPlan grammar.now plan.now.assignment plan.now.code }
 {
     let mut file = tree;
     for pass in 1..=plan.assignment().passes() {

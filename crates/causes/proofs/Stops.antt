@@ -36,7 +36,7 @@ none_that_fits rules target number (Err e) before is = λ n r small there gives.
 pub no_other : (rules : List Rule) (e : Table) (target : Target) (number : ℕ) (rule : Rule)
     → DifferIn (λ (r : Rule). r.target) rules
     → slice_get rules number ≡ Some rule → rule.target ≡ target
-    → fault_of (value_of rule.expr.0 (environment rule e)) ≡ None → HasNoError rules e target
+    → fault_of (value_of rule.expr.tree (environment rule e)) ≡ None → HasNoError rules e target
 no_other rules e target number rule single there gives clean other r small is same =
     let one : other ≡ number = single other number r rule is there (cc) in
     let it : r ≡ rule = cc in
@@ -44,7 +44,7 @@ no_other rules e target number rule single there gives clean other r small is sa
 
 -- a rule that passes no error on, and in which no error arises, has a value that is not an error
 pub clean_of : (r : Rule) (e : Table) → AnswersSource r e None → is_arising e r ≡ false
-    → fault_of (value_of r.expr.0 (environment r e)) ≡ None
+    → fault_of (value_of r.expr.tree (environment r e)) ≡ None
 clean_of r e (inl clean) off = clean
 clean_of r e (inr on) off = cc
 

@@ -49,7 +49,7 @@ pub record Arises (rules : List Rule) (e : Table) (target : Target) (number : �
 abbrev pub HasNoError : List Rule → Table → Target → Type 0
 HasNoError rules e target = (number : ℕ) (rule : Rule) → number < 65536 → slice_get rules number ≡ Some rule
     → rule.target ≡ target
-    → fault_of (value_of rule.expr.0 (environment rule e)) ≡ None
+    → fault_of (value_of rule.expr.tree (environment rule e)) ≡ None
 
 -- `HasNoError` at a node of production number p, with the values vs of the node's record
 abbrev pub HasNoErrorAt : Grammar → ℕ → List Value → Target → Type 0

@@ -42,10 +42,10 @@ pub fn rule_for(rules: &[Rule], target: Target) -> Option<u16>
 /// or the rule's value is not an error. Fails with NoMemory if memory is refused.
 ///
 /// Requires that each rule has as many arguments as its expression has different occurrences, such
-/// as `$1.lex` (the list `r.expr.1`). Also requires that no two rules have the same target. Both
-/// hold in an accepted grammar.
+/// as `$1.lex`. Also requires that no two rules have the same target. Both hold in an accepted
+/// grammar.
 fn next_in(alloc: Global, row: &Row<'_>, target: Target) -> Result<Option<Next>, NoMemory>
-    requires arguments { Each (λ (r : TheRule). length r.args ≡ length r.expr.1)
+    requires arguments { Each (λ (r : TheRule). length r.args ≡ length r.expr.occurrences)
         row.now.production.now.rules }
     requires single { DifferIn (λ (r : TheRule). r.target) row.now.production.now.rules }
     ensures next { IfOk result (λ next. IfSome next (DoesNext row.now.production.now.rules

@@ -47,7 +47,8 @@ here attr at = record { place = 0; attr = attr; at = at }
 
 -- a rule for the attribute named `attr` of the left side, at the offset `at`; its expression is the tree e with `occurrences`
 abbrev rule_at : Node → List ℕ → ℕ → List Occ → RawRule
-rule_at e attr at occurrences = record { target = here attr at; expr = (e, occurrences) }
+rule_at e attr at occurrences =
+    record { target = here attr at; expr = record { tree = e; occurrences = occurrences } }
 
 -- The first fault of N1 to N3 (names and the start symbol), and below it that of N6 to N10 (rules and limits).
 abbrev names_fault : RawGrammar → Option NormalFault

@@ -51,12 +51,12 @@ module _ (r : Rule) (e : Table) where
   env = environment r e
 
   still_by : (f h : ℕ → Value) → ((k : ℕ) → f k ≡ h k)
-      → is_same_error (fault_of (value_of r.expr.0 env)) (fault_of (value_of r.expr.0 f))
-      ≡ is_same_error (fault_of (value_of r.expr.0 env)) (fault_of (value_of r.expr.0 h))
+      → is_same_error (fault_of (value_of r.expr.tree env)) (fault_of (value_of r.expr.tree f))
+      ≡ is_same_error (fault_of (value_of r.expr.tree env)) (fault_of (value_of r.expr.tree h))
   still_by f h same = let one : f ≡ h = λ i k. same k i in cc
 
   -- if a rule's value is an error, the rule has the same error with no argument's error exchanged
-  pub still_none : (c : ErrorCode) → fault_of (value_of r.expr.0 (environment r e)) ≡ Some c → is_still r e 0 ≡ true
+  pub still_none : (c : ErrorCode) → fault_of (value_of r.expr.tree (environment r e)) ≡ Some c → is_still r e 0 ≡ true
   unfolding is_still
   still_none c error =
       cc (still_by (exchanged_below 0 env) env (λ k. cc (le-ltb k 0 (omega arith))), error, same_itself c)
@@ -95,7 +95,7 @@ module _ (r : Rule) (e : Table) where
     occurs : slice_get r.args number ≡ Some argument
     error : fault_of (e argument.place argument.attr) ≡ None → ⊥
 
-  source_of : (c : ErrorCode) → fault_of (value_of r.expr.0 env) ≡ Some c → is_arising e r ≡ false → HasSource
+  source_of : (c : ErrorCode) → fault_of (value_of r.expr.tree env) ≡ Some c → is_arising e r ≡ false → HasSource
   source_of c error quiet =
       let t = turning (is_still r e) (length r.args) (still_none c error) (still_all quiet) in
       by_argument t.0 t.1 t.2 (slice_get r.args t.0) refl
@@ -135,11 +135,11 @@ module _ (g : Grammar) (t : Tree) (v : Valuation) where
       → Explained (place_path path r.target.place) r.target.attr
   rule_explains path r is holds args = elim (cases_Bool (is_arising (at (values_at v path)) r)) [
     | inl arising ↦ inr (here path r (at (values_at v path)) is arising)
-    | inr quiet ↦ by_fault quiet (fault_of (value_of r.expr.0 (environment r (at (values_at v path))))) refl
+    | inr quiet ↦ by_fault quiet (fault_of (value_of r.expr.tree (environment r (at (values_at v path))))) refl
   ]
     where
       by_fault : is_arising (at (values_at v path)) r ≡ false → (c : Option ErrorCode)
-          → fault_of (value_of r.expr.0 (environment r (at (values_at v path)))) ≡ c
+          → fault_of (value_of r.expr.tree (environment r (at (values_at v path)))) ≡ c
           → Explained (place_path path r.target.place) r.target.attr
       by_fault quiet None error =
           let e : Table = at (values_at v path) in

@@ -31,14 +31,14 @@ alike_exchanged base n = record { each = λ k. like (nat_lt k n) (fault_of (base
     like false None v is = refl
     like false (Some c) v is = cc
 
-module _ (r : Rule) (e : Table) (k : ℕ) (known : IsKnown (environment r e) r.expr.0 (known_as.ErrorOf k)) where
+module _ (r : Rule) (e : Table) (k : ℕ) (known : IsKnown (environment r e) r.expr.tree (known_as.ErrorOf k)) where
   abbrev env : ℕ → Value
   env = environment r e
 
-  own : Holds env (known_as.ErrorOf k) (value_of r.expr.0 env)
+  own : Holds env (known_as.ErrorOf k) (value_of r.expr.tree env)
   own = known.holds env [] (alike_itself env)
 
-  passed : (n : ℕ) → fault_of (value_of r.expr.0 (exchanged_below n env))
+  passed : (n : ℕ) → fault_of (value_of r.expr.tree (exchanged_below n env))
       ≡ fault_of (exchanged_below n env k)
   passed n = (known.holds (exchanged_below n env) [] (alike_exchanged env n)).0
 
@@ -62,16 +62,16 @@ module _ (r : Rule) (e : Table) (k : ℕ) (known : IsKnown (environment r e) r.e
   known_source = record { before = known_before (fault_of (env k)) refl; after = known_after }
 
   -- if the rule has no argument k, its value is not an error
-  pub known_nowhere : length r.args ≤ k → fault_of (value_of r.expr.0 (environment r e)) ≡ None
+  pub known_nowhere : length r.args ≤ k → fault_of (value_of r.expr.tree (environment r e)) ≡ None
   known_nowhere past = own.0 ∙ ap (λ o. fault_of (value_at e o)) (slice_get_past r.args k past) ∙ number_clean
 
 -- if the value of a rule is known not to be an error, it is not an error
-pub known_clean : (r : Rule) (e : Table) → IsKnown (environment r e) r.expr.0 known_as.Clean
-    → fault_of (value_of r.expr.0 (environment r e)) ≡ None
+pub known_clean : (r : Rule) (e : Table) → IsKnown (environment r e) r.expr.tree known_as.Clean
+    → fault_of (value_of r.expr.tree (environment r e)) ≡ None
 known_clean r e known = known.holds (environment r e) [] (alike_itself (environment r e))
 
-pub known_number : (r : Rule) (e : Table) (n : ℤ) → IsKnown (environment r e) r.expr.0 (known_as.Number n)
-    → fault_of (value_of r.expr.0 (environment r e)) ≡ None
+pub known_number : (r : Rule) (e : Table) (n : ℤ) → IsKnown (environment r e) r.expr.tree (known_as.Number n)
+    → fault_of (value_of r.expr.tree (environment r e)) ≡ None
 known_number r e n known = cc (known.holds (environment r e) [] (alike_itself (environment r e)), outs-Num n)
 
 pub ruleset known_values = (known_clean, known_number)

@@ -53,7 +53,7 @@ environment r e k = value_at e (slice_get r.args k)
 
 -- a test: an error arises in a rule of a node with these values
 abbrev pub is_arising : Table → Rule → Bool
-is_arising e r = arises r.expr.0 (environment r e)
+is_arising e r = arises r.expr.tree (environment r e)
 
 -- the number of rules of a production in which an error arises
 abbrev pub arising_count : Option Production → Table → ℕ

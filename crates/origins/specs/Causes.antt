@@ -30,8 +30,8 @@ exchanged_below n env k = if nat_lt k n then exchanged (env k) else env k
 -- a test: a rule's value is an error, and is still this error if the errors among the rule's first n arguments are exchanged
 unfoldable pub is_still : Rule → Table → ℕ → Bool
 is_still r e n =
-    is_same_error (fault_of (value_of r.expr.0 (environment r e)))
-    (fault_of (value_of r.expr.0 (exchanged_below n (environment r e))))
+    is_same_error (fault_of (value_of r.expr.tree (environment r e)))
+    (fault_of (value_of r.expr.tree (exchanged_below n (environment r e))))
 
 -- Argument k (counted from 0) passes its error on to a rule. If the errors among the arguments before k are exchanged, the rule
 -- still has its error. If the error of argument k is exchanged as well, the rule does not have this error.
@@ -42,7 +42,7 @@ pub record IsSource (r : Rule) (e : Table) (k : ℕ) : Type 0 where
 -- `Some`: this argument passes its error on to the rule. `None`: the rule's value is not an error, or an error arises in the
 -- rule.
 abbrev pub AnswersSource : Rule → Table → Option Target → Type 0
-AnswersSource r e None = (fault_of (value_of r.expr.0 (environment r e)) ≡ None) ⊎ (is_arising e r ≡ true)
+AnswersSource r e None = (fault_of (value_of r.expr.tree (environment r e)) ≡ None) ⊎ (is_arising e r ≡ true)
 AnswersSource r e (Some o) = (k : ℕ) × (slice_get r.args k ≡ Some o) × IsSource r e k
 
 -- the tree at the end of a path of child numbers, if there is one

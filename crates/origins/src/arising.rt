@@ -22,8 +22,8 @@ impl<'a> Row<'a> {
     /// Evaluates a rule at the node. An argument that the record lacks has the value 0. Fails with
     /// NoMemory if memory is refused.
     fn evaluate(&self, alloc: Global, rule: &Rule) -> Result<Value, NoMemory>
-        requires arguments { length rule.now.args ≡ length rule.now.expr.1 }
-        ensures { IfOk result (λ v. v ≡ value_of rule.now.expr.0 (environment rule.now
+        requires arguments { length rule.now.args ≡ length rule.now.expr.occurrences }
+        ensures { IfOk result (λ v. v ≡ value_of rule.now.expr.tree (environment rule.now
             (table_of self.now.grammar.now self.now.production.now self.now.values.now))) }
     {
         let spare = Value::Num(0);
@@ -39,8 +39,8 @@ impl<'a> Row<'a> {
     /// Evaluates a rule with each error among its arguments exchanged, as by `ExchangedErrors`.
     /// Fails as `evaluate` does.
     fn evaluate_exchanged(&self, alloc: Global, rule: &Rule) -> Result<Value, NoMemory>
-        requires arguments { length rule.now.args ≡ length rule.now.expr.1 }
-        ensures { IfOk result (λ v. v ≡ value_of rule.now.expr.0 (λ k. exchanged (environment rule.now
+        requires arguments { length rule.now.args ≡ length rule.now.expr.occurrences }
+        ensures { IfOk result (λ v. v ≡ value_of rule.now.expr.tree (λ k. exchanged (environment rule.now
             (table_of self.now.grammar.now self.now.production.now self.now.values.now) k))) }
     {
         let spare = Value::Num(0);
@@ -68,8 +68,8 @@ impl<'a> Row<'a> {
         rule: &Rule,
         count: usize,
     ) -> Result<Value, NoMemory>
-        requires arguments { length rule.now.args ≡ length rule.now.expr.1 }
-        ensures { IfOk result (λ v. v ≡ value_of rule.now.expr.0 (exchanged_below count (environment rule.now
+        requires arguments { length rule.now.args ≡ length rule.now.expr.occurrences }
+        ensures { IfOk result (λ v. v ≡ value_of rule.now.expr.tree (exchanged_below count (environment rule.now
             (table_of self.now.grammar.now self.now.production.now self.now.values.now)))) }
     {
         let spare = Value::Num(0);
@@ -101,7 +101,7 @@ impl<'a> Row<'a> {
     /// argument is not evaluated. Requires an argument for each different occurrence of the rule's
     /// expression. Fails with NoMemory if memory is refused.
     pub fn is_arising(&self, alloc: Global, rule: &Rule) -> Result<bool, NoMemory>
-        requires arguments { length rule.now.args ≡ length rule.now.expr.1 }
+        requires arguments { length rule.now.args ≡ length rule.now.expr.occurrences }
         ensures { IfOk result (λ arises. arises ≡ is_arising
             (table_of self.now.grammar.now self.now.production.now self.now.values.now) rule.now) }
     {
@@ -120,7 +120,7 @@ impl<'a> Row<'a> {
     /// Returns the number of rules of the node's production in which an error arises. Fails as
     /// `is_arising` does.
     pub(crate) fn arising_count(&self, alloc: Global) -> Result<usize, NoMemory>
-        requires arguments { Each (λ (r : TheRule). length r.args ≡ length r.expr.1)
+        requires arguments { Each (λ (r : TheRule). length r.args ≡ length r.expr.occurrences)
             self.now.production.now.rules }
         ensures { IfOk result (λ count. count ≡ arising_count (Some self.now.production.now)
             (table_of self.now.grammar.now self.now.production.now self.now.values.now)) }
@@ -152,8 +152,8 @@ impl<'a> Row<'a> {
     /// Evaluates a rule, and returns its value's error code; `None` if the value is not an error.
     /// Fails as `evaluate` does.
     fn error_in(&self, alloc: Global, rule: &Rule) -> Result<Option<ErrorCode>, NoMemory>
-        requires arguments { length rule.now.args ≡ length rule.now.expr.1 }
-        ensures { IfOk result (λ code. code ≡ fault_of (value_of rule.now.expr.0 (environment rule.now
+        requires arguments { length rule.now.args ≡ length rule.now.expr.occurrences }
+        ensures { IfOk result (λ code. code ≡ fault_of (value_of rule.now.expr.tree (environment rule.now
             (table_of self.now.grammar.now self.now.production.now self.now.values.now)))) }
     {
         let value = self.evaluate(alloc, rule)?;
@@ -173,8 +173,8 @@ impl<'a> Row<'a> {
         code: ErrorCode,
         number: usize,
     ) -> Result<bool, NoMemory>
-        requires arguments { length rule.now.args ≡ length rule.now.expr.1 }
-        requires error { fault_of (value_of rule.now.expr.0 (environment rule.now (table_of
+        requires arguments { length rule.now.args ≡ length rule.now.expr.occurrences }
+        requires error { fault_of (value_of rule.now.expr.tree (environment rule.now (table_of
             self.now.grammar.now self.now.production.now self.now.values.now))) ≡ Some code }
         requires within { number < length rule.now.args }
         requires room { number < 2 ^ 64 - 1 }
@@ -194,7 +194,7 @@ impl<'a> Row<'a> {
     /// be known.
     fn known(&self, rule: &Rule) -> Known
         ensures { IsKnown (environment rule.now (table_of self.now.grammar.now
-            self.now.production.now self.now.values.now)) rule.now.expr.0 result }
+            self.now.production.now self.now.values.now)) rule.now.expr.tree result }
     {
         self.known_of(rule, rule.expr.tree())
     }
@@ -204,7 +204,7 @@ impl<'a> Row<'a> {
     /// is not an error.
     fn known_source(&self, rule: &Rule, number: usize) -> Option<Target>
         requires { IsKnown (environment rule.now (table_of self.now.grammar.now
-            self.now.production.now self.now.values.now)) rule.now.expr.0 (Known.ErrorOf number) }
+            self.now.production.now self.now.values.now)) rule.now.expr.tree (Known.ErrorOf number) }
         ensures { AnswersSource rule.now
             (table_of self.now.grammar.now self.now.production.now self.now.values.now) result }
     {
@@ -225,7 +225,7 @@ impl<'a> Row<'a> {
     /// the one that passes its error on.
     #[tactic(auto, using(crate::proofs::Sources::known_values))]
     pub fn source_of(&self, alloc: Global, rule: &Rule) -> Result<Option<Target>, NoMemory>
-        requires arguments { length rule.now.args ≡ length rule.now.expr.1 }
+        requires arguments { length rule.now.args ≡ length rule.now.expr.occurrences }
         ensures { IfOk result (AnswersSource rule.now
             (table_of self.now.grammar.now self.now.production.now self.now.values.now)) }
     {
@@ -241,7 +241,7 @@ impl<'a> Row<'a> {
     /// evaluations. Fails as `source_of` does.
     #[tactic(auto, using(crate::proofs::Caused::still_none, crate::proofs::Caused::arises_here))]
     fn evaluated_source(&self, alloc: Global, rule: &Rule) -> Result<Option<Target>, NoMemory>
-        requires arguments { length rule.now.args ≡ length rule.now.expr.1 }
+        requires arguments { length rule.now.args ≡ length rule.now.expr.occurrences }
         ensures { IfOk result (AnswersSource rule.now
             (table_of self.now.grammar.now self.now.production.now self.now.values.now)) }
     {

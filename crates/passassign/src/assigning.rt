@@ -249,9 +249,8 @@ pub(crate) fn assign_all(
 /// one list for each direction. Each list shows why no pass of its direction can compute these
 /// attributes. Fails with NoMemory if the allocator refuses memory.
 ///
-/// Allocates the result, a table of the attributes, the places of one production at a time, the
-/// dependencies of the rules and their edges, the strikes of up to two passes, and what the search
-/// of one pass needs.
+/// Allocates the result, a table of the attributes, the dependencies of the rules and their edges,
+/// the strikes of up to two passes, and what the search of one pass needs.
 pub fn assign(alloc: Global, grammar: &Grammar) -> Result<Assignment, AssignFault>
     ensures least { IfOk result (λ m. IsLeast grammar.now (passes_of m)) }
     ensures few { IfOk result AreWithinMaxPasses }

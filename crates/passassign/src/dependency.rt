@@ -82,7 +82,7 @@ impl<'a> NumberedRule<'a> {
     /// them.
     fn arguments(&self) -> &[Target]
         ensures lent { result.now ≡ self.now.rule.now.args }
-        ensures different { AreDifferent self.now.rule.now.expr.1 }
+        ensures different { AreDifferent self.now.rule.now.expr.occurrences }
     {
         let _different = occurrences(&self.rule.expr);
         self.rule.args.as_slice()

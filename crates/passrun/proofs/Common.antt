@@ -61,7 +61,7 @@ pub use Rattle.pass_rows.specs.reading.Reading.{AgreeAt, Agrees, IsNodeRead, IsR
 pub use Rattle.passassign.specs.Rows.{AreAtMost, IsGreatest, passes_of}
 pub use Rattle.passcode.specs.Counts.{is_computation}
 pub use Rattle.passcode.specs.Rows.{Lists}
-pub use Rattle.passcode.specs.Settings.{Setting, list_at, pass_direction, setting_of}
+pub use Rattle.passcode.specs.Settings.{EvaluationPlan, Setting, list_at, pass_direction, setting_of}
 pub use Rattle.passcode.specs.Sound.{IsSound}
 pub use Rattle.passcode.specs.declared.instr.Instr.{Instr}
 pub use Rattle.passcode.specs.declared.instr.Instr.TheVariants as instr
@@ -82,8 +82,8 @@ pub use Rattle.passrun.specs.passing.RunInvariant.{AreHeld, ContinuesAs, Entry, 
 pub use Rattle.passrun.specs.passing.RunInvariant.{IsEvaluatedTree, IsGone, IsHeld, IsOpenNode, IsReady, IsRootReady, Keeps}
 pub use Rattle.passrun.specs.passing.RunInvariant.{RunInvariant, Transcript, after_reading, below, put_of, root_body}
 pub use Rattle.passrun.specs.passing.RunInvariant.{root_number, rules_at, rules_left, state_of}
-pub use Rattle.passrun.specs.passing.Running.{Preserves, Runs, RunsRuleNext, World, any_world, between, first_device, meter_at}
-pub use Rattle.passrun.specs.passing.Running.{second_device, stack_of}
+pub use Rattle.passrun.specs.passing.Running.{Preserves, Runs, RunsRuleNext, World, between, stack_of, unknown_world}
+pub use Rattle.passrun.specs.passing.Running.{with_first_device, with_meter, with_second_device}
 pub use Rattle.passrun.specs.reading.Fetching.{HasFetched, IsMissing, IsUnfetched}
 pub use Rattle.treefile.proofs.framing.Backward.{back_is_file, damage_is_there, never_no_file, none_at_header, reads_on}
 pub use Rattle.treefile.proofs.framing.Backward.{reads_whole}

@@ -2,8 +2,8 @@
 -- holds for the content before the earlier passes ran.
 use Rattle.passrun.proofs.Common
 use Common.{◌≡◌, ℕ, suc, ◌-◌, ◌<◌, ◌≤◌, List, sym, arith, IsAccepted, Grammar, rules_of_pass, IsLegal, Same, Valuation, Tree}
-use Common.{IsTreeOf, node_count, max_depth, max_nodes, same_weaker, passes_of, Lists, Setting, setting_of, version_two_usable}
-use Common.{IsFileOfTree, RunsPass, RunsPasses, version_two, fits_version_two, RunFault, IsRunFault, IsPassed}
+use Common.{IsTreeOf, node_count, max_depth, max_nodes, same_weaker, passes_of, Setting, setting_of, version_two_usable}
+use Common.{EvaluationPlan, IsFileOfTree, RunsPass, RunsPasses, version_two, fits_version_two, RunFault, IsRunFault, IsPassed}
 use Common.fault
 use Rattle.treefile.specs.framing.ExpectedRecords.{HasNoTreeWithin}
 use Rattle.treefile.proofs.records.OneTree.{one_file}
@@ -49,18 +49,18 @@ passes_are_recorded g plan k from to count evals accepted legal positive is =
 
 -- If a pass fails after others succeeded, its fault holds for the content before these passes: R1, P2 and P3 can't occur then,
 -- since that content is the file of a tree within the limits.
-module _ (g : Grammar) (plan : List (List ℕ) × Lists) (k n : ℕ) (start now before : List ℕ)
-    (runs : RunsPasses version_two g (passes_of plan.0) (k - 1) (n - 1) start now before)
-    (held : HoldsTree g (passes_of plan.0) (k - 1) start) where
-  never_exceeds : HasNoTreeWithin max_depth max_nodes version_two g (passes_of plan.0) (n - 1) now → ⊥
+module _ (g : Grammar) (plan : EvaluationPlan) (k n : ℕ) (start now before : List ℕ)
+    (runs : RunsPasses version_two g (passes_of plan.assignment) (k - 1) (n - 1) start now before)
+    (held : HoldsTree g (passes_of plan.assignment) (k - 1) start) where
+  never_exceeds : HasNoTreeWithin max_depth max_nodes version_two g (passes_of plan.assignment) (n - 1) now → ⊥
   never_exceeds none =
-      refusal_within_goes_back max_depth max_nodes version_two g (passes_of plan.0) (k - 1) (n - 1) start now before runs
+      refusal_within_goes_back max_depth max_nodes version_two g (passes_of plan.assignment) (k - 1) (n - 1) start now before runs
       none held.tree held.values held.is_tree held.within held.file
 
   pub refused_back : (f : RunFault) → IsRunFault (setting_of g plan n) now f → IsRunFault (setting_of g plan k) start f
   refused_back (fault.Damaged at) damaged =
       absurd
-      (refusal_goes_back version_two g (passes_of plan.0) (k - 1)
+      (refusal_goes_back version_two g (passes_of plan.assignment) (k - 1)
       (n - 1) start now before runs damaged.none held.tree held.values held.is_tree held.file)
   refused_back fault.TooDeep deep = absurd (never_exceeds (deep.none max_nodes))
   refused_back fault.TooManyNodes many = absurd (never_exceeds (many.none max_depth))

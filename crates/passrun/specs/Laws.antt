@@ -10,9 +10,8 @@ use Rattle.ag_grammar.specs.grammars.Running.{IsLastPass, IsTheSolution}
 use Rattle.ag_grammar.specs.grammars.Solution.{Valuation}
 use Rattle.ag_grammar.specs.grammars.Tree.{Tree, IsTreeOf, node_count}
 use Rattle.passassign.specs.Rows.{IsGreatest, passes_of}
-use Rattle.passcode.specs.Rows.{Lists}
 use Rattle.planchecker.specs.Plans.{IsPlan}
-use Rattle.passcode.specs.Settings.{setting_of}
+use Rattle.passcode.specs.Settings.{EvaluationPlan, setting_of}
 use Rattle.treefile.specs.records.Records.{IsFileOfTree}
 use Rattle.treefile.specs.Runs.{RunsPass}
 use Rattle.treefile.specs.records.TreeFile.{version_two}
@@ -29,8 +28,8 @@ use Rattle.passrun.specs.Rounds.{HasRunAll}
 -- A pass of a plan of an accepted grammar can run, in a context that has the layout of each production.
 abbrev pub PlansCanRun : Type 0
 PlansCanRun = (context : PassContext) (passes : ℕ) → IsAccepted context.setting.grammar.now
-    → IsPlan context.setting.grammar.now context.setting.plan.now.0 context.setting.plan.now.1
-    → IsGreatest passes context.setting.plan.now.0 → 1 ≤ context.setting.pass → context.setting.pass ≤ passes
+    → IsPlan context.setting.grammar.now context.setting.plan.now.assignment context.setting.plan.now.code
+    → IsGreatest passes context.setting.plan.now.assignment → 1 ≤ context.setting.pass → context.setting.pass ≤ passes
     → IsLayout (setting context) context.rows.now → CanRun context
 
 -- For an accepted grammar, at most one of R1 with an offset, P2 and P3 shows (`Shows`) in a content.
@@ -46,10 +45,11 @@ CountsPass g m k from count evals = (t : Tree) (u : Valuation) → IsTreeOf g t 
 -- The result of a pass for some tree holds for every tree that has the file that the pass read: there is only one such tree.
 abbrev pub PassesAreRecorded : Type 0
 PassesAreRecorded =
-    (g : Grammar) (plan : List (List ℕ) × Lists) (k : ℕ) (from to : List ℕ) (count evals : ℕ) → IsAccepted g
-    → IsLegal g (passes_of plan.0) → 1 ≤ k
+    (g : Grammar) (plan : EvaluationPlan) (k : ℕ) (from to : List ℕ) (count evals : ℕ) → IsAccepted g
+    → IsLegal g (passes_of plan.assignment) → 1 ≤ k
     → IsPassed (setting_of g plan k) from to count evals
-    → RunsPass version_two g (passes_of plan.0) (k - 1) from to × CountsPass g (passes_of plan.0) (k - 1) from count evals
+    → RunsPass version_two g (passes_of plan.assignment) (k - 1) from to
+    × CountsPass g (passes_of plan.assignment) (k - 1) from count evals
 
 -- Passes 1 to the last evaluate as many rules as the tree has, for a legal assignment of an accepted grammar.
 abbrev pub AllRulesAreRun : Type 0

@@ -38,7 +38,7 @@ fn other(last: Last) -> Last
 
 /// Returns the number of the last pass of a plan.
 fn last_pass(plan: &Plan) -> u16
-    ensures { IsGreatest result plan.now.0 }
+    ensures { IsGreatest result plan.now.assignment }
 {
     plan.assignment().passes()
 }
@@ -60,9 +60,10 @@ fn next_pass<D: Device>(
     b: &mut D,
     meter: &mut Meter,
 ) -> Result<Passed, RunFault>
-    requires plan { IsPlan next.now.setting.grammar.now next.now.setting.plan.now.0 next.now.setting.plan.now.1 }
+    requires plan { IsPlan next.now.setting.grammar.now next.now.setting.plan.now.assignment
+        next.now.setting.plan.now.code }
     requires first { 1 ≤ next.now.setting.pass }
-    requires last { (passes : ℕ) × IsGreatest passes next.now.setting.plan.now.0
+    requires last { (passes : ℕ) × IsGreatest passes next.now.setting.plan.now.assignment
         × (next.now.setting.pass ≤ passes) }
     requires meter { meter.old ≤ 2 ^ 63 }
     ensures passed { WhenHonest (D.is_honest a.new) (WhenHonest (D.is_honest b.new)
@@ -154,19 +155,19 @@ pub fn run_all<D: Device>(
     b: &mut D,
     meter: &mut Meter,
 ) -> Result<(Last, Passed), RunFault>
-    requires plan { IsPlan grammar.now plan.now.0 plan.now.1 }
+    requires plan { IsPlan grammar.now plan.now.assignment plan.now.code }
     requires first { 1 ≤ first }
-    requires last { (passes : ℕ) × IsGreatest passes plan.now.0 × (first ≤ passes + 1) }
+    requires last { (passes : ℕ) × IsGreatest passes plan.now.assignment × (first ≤ passes + 1) }
     requires meter { meter.old ≤ 2 ^ 62 }
-    ensures passed { (passes : ℕ) → IsGreatest passes plan.now.0 →
+    ensures passed { (passes : ℕ) → IsGreatest passes plan.now.assignment →
         WhenHonest (D.is_honest a.new) (WhenHonest (D.is_honest b.new)
-        (IfOk result (λ r. HasRunAll grammar.now (passes_of plan.now.0) (first - 1) passes
+        (IfOk result (λ r. HasRunAll grammar.now (passes_of plan.now.assignment) (first - 1) passes
         (D.content a.old) r.0 (D.content a.new) (D.content b.new) (meter.new - meter.old) r.1))) }
     // if `first` is 1: the values in the last file, and in the file of the pass before it, are the
     // only ones that satisfy all equations
-    ensures solution { first ≡ 1 → (passes : ℕ) → IsGreatest passes plan.now.0 →
+    ensures solution { first ≡ 1 → (passes : ℕ) → IsGreatest passes plan.now.assignment →
         WhenHonest (D.is_honest a.new) (WhenHonest (D.is_honest b.new)
-        (IfOk result (λ r. LeavesSolutions grammar.now (passes_of plan.now.0) passes
+        (IfOk result (λ r. LeavesSolutions grammar.now (passes_of plan.now.assignment) passes
         (D.content a.old) (last_content r.0 (D.content a.new) (D.content b.new))
         (other_content r.0 (D.content a.new) (D.content b.new))))) }
     // R1, P2 and P3 only if they are true of the first file
@@ -176,7 +177,7 @@ pub fn run_all<D: Device>(
     // the input of the failed pass is kept; the other device has its content from before that pass,
     // or a prefix of a file of that pass
     ensures left { OnErr result (WhenHonest (D.is_honest a.new) (WhenHonest (D.is_honest b.new)
-        (LeavesAfterFailure grammar.now (passes_of plan.now.0) (first - 1) (D.content a.old)
+        (LeavesAfterFailure grammar.now (passes_of plan.now.assignment) (first - 1) (D.content a.old)
         (D.content b.old) (D.content a.new) (D.content b.new)))) }
     // each honest device has its old content, or a prefix of a tree file, also on success, and
     // whatever the other device does

@@ -26,10 +26,9 @@ IsUnusedIn s a q = Each (IsUnusedBy q s a) q.rules
 abbrev pub IsUnused : Grammar → ℕ → ℕ → Type 0
 IsUnused g s a = Each (IsUnusedIn s a) g.productions
 
--- a rule is a copy: its expression is one occurrence, such as `$1.p`. (`u.expr.0` is the tree of the expression, and n the index
--- of the occurrence in the expression's list of occurrences.)
+-- a rule is a copy: its expression is one occurrence, such as `$1.p` (n is its index in the expression's list of occurrences)
 abbrev pub IsCopy : Rule → Type 0
-IsCopy u = (n : ℕ) × (u.expr.0 ≡ node.Occurrence n)
+IsCopy u = (n : ℕ) × (u.expr.tree ≡ node.Occurrence n)
 
 -- rule u is a copy, or its target is not the attribute
 abbrev pub IsCopiedBy : Production → ℕ → ℕ → Rule → Type 0

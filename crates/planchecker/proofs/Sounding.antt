@@ -6,13 +6,16 @@ use Rattle.planchecker.specs.Laws.{PlansAreSound}
 use Rattle.passcode.specs.Settings.{list_at, setting_of}
 
 pub plans_are_sound : PlansAreSound
-plans_are_sound g rows code passes k accepted plan greatest one most = record {
+plans_are_sound g plan passes k accepted is greatest one most = record {
   accepted = accepted;
-  legal = plan.legal;
-  course = λ p q is. (
-      let there = list_there g rows code passes p k plan.shape.lists greatest (slice_get_within g.productions p q is) most in
-      let at = slice_get-get_or (lists_of code p) (k - 1) [] (let long = there.1 in omega arith) in
-      let xs = list_at (setting_of g (rows, code) k) p in
-      (lists_run g (passes_of rows) p k q xs accepted plan.legal is one).0 (plan.agrees p k q xs is (one, at)));
+  legal = is.legal;
+  course = λ p q occurs. (
+      let lists = lists_of plan.code p in
+      let within = slice_get_within g.productions p q occurs in
+      let there = list_there g plan.assignment plan.code passes p k is.shape.lists greatest within most in
+      let at = slice_get-get_or lists (k - 1) [] (let long = there.1 in omega arith) in
+      let xs = list_at (setting_of g plan k) p in
+      let runs = lists_run g (passes_of plan.assignment) p k q xs accepted is.legal occurs one in
+      runs.0 (is.agrees p k q xs occurs (one, at)));
   next = omega arith;
 }

@@ -9,7 +9,7 @@ use Rattle.passcode.specs.Rows.{Lists}
 use Rattle.passcode.specs.Shape.{HasLists}
 use Rattle.planchecker.specs.declared.plan.PlanFault.{PlanFault}
 use Rattle.planchecker.specs.Plans.{IsPlan, IsPlanFault}
-use Rattle.passcode.specs.Settings.{setting_of}
+use Rattle.passcode.specs.Settings.{EvaluationPlan, setting_of}
 use Rattle.passcode.specs.Sound.{IsSound}
 
 -- No fault of `check_plan` is true of a legal assignment and code that agrees with it, if no pass is above 8,192, there are no
@@ -21,5 +21,5 @@ MadeIsAccepted = (g : Grammar) (rows : List (List ℕ)) (code : Lists) → IsLeg
 
 -- Each pass of a plan for an accepted grammar is sound.
 abbrev pub PlansAreSound : Type 0
-PlansAreSound = (g : Grammar) (rows : List (List ℕ)) (code : Lists) (passes k : ℕ) → IsAccepted g → IsPlan g rows code
-    → IsGreatest passes rows → 1 ≤ k → k ≤ passes → IsSound (setting_of g (rows, code) k)
+PlansAreSound = (g : Grammar) (plan : EvaluationPlan) (passes k : ℕ) → IsAccepted g → IsPlan g plan.assignment plan.code
+    → IsGreatest passes plan.assignment → 1 ≤ k → k ≤ passes → IsSound (setting_of g plan k)

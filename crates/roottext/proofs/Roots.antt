@@ -17,7 +17,7 @@ use Rattle.passassign.specs.Rows.{AreAtMost, IsGreatest, passes_of}
 use Rattle.passcode.specs.Rows.{Lists}
 use Rattle.passcode.proofs.lists.Shaped.{greatest_most}
 use Rattle.planchecker.specs.Plans.{IsPlan}
-use Rattle.passcode.specs.Settings.{Setting, setting_of}
+use Rattle.passcode.specs.Settings.{EvaluationPlan, Setting, setting_of}
 use Rattle.pass_rows.specs.reading.Reading.{IsNoNode, IsNodeRead}
 use Rattle.pass_rows.specs.Places.{copies}
 use Rattle.passrun.proofs.course.Ahead.{no_record}
@@ -79,31 +79,31 @@ started c s p body old new start empty read =
     subst (λ xs. IsNodeRead c c.grammar.start p body xs new) empty (subst (λ n. IsNodeRead c n p body old new) start read)
 
 -- in the row read from the root's record the value of `out` is at its number
-pub out_in_row : (g : Grammar) (assignment : List (List ℕ)) (code : Lists) (last a p : ℕ) (body : List ℕ) (new : List Value)
-    → IsPlan g assignment code → IsGreatest last assignment → IsOut g a
-    → (read : IsNodeRead (setting_of g (assignment, code) (last + 1)) g.start p body [] new)
+pub out_in_row : (g : Grammar) (plan : EvaluationPlan) (last a p : ℕ) (body : List ℕ) (new : List Value)
+    → IsPlan g plan.assignment plan.code → IsGreatest last plan.assignment → IsOut g a
+    → (read : IsNodeRead (setting_of g plan (last + 1)) g.start p body [] new)
     → slice_get new a ≡ Some (read.values a)
-out_in_row g assignment code last a p body new plan greatest out read =
-    let pass = out_pass g (passes_of assignment) a plan.legal out in
-    let own = values_up_to (last + 1) (passes_of assignment g.start) read.values in
-    let copied = copies (setting_of g (assignment, code) (last + 1)) (last + 1) (stored_items read.production.items) read.table in
+out_in_row g plan last a p body new planned greatest out read =
+    let pass = out_pass g (passes_of plan.assignment) a planned.legal out in
+    let own = values_up_to (last + 1) (passes_of plan.assignment g.start) read.values in
+    let copied = copies (setting_of g plan (last + 1)) (last + 1) (stored_items read.production.items) read.table in
     ap (λ xs. slice_get xs a) read.row
     ∙ get_left own copied a (read.values a)
-    (values_are_whole (last + 1) (passes_of assignment g.start) read.values a pass.0
-    (λ i n is. let le = at_most assignment last g.start greatest.most i n is in omega arith) pass.1)
+    (values_are_whole (last + 1) (passes_of plan.assignment g.start) read.values a pass.0
+    (λ i n is. let le = at_most plan.assignment last g.start greatest.most i n is in omega arith) pass.1)
 
-pub out_within : (g : Grammar) (assignment : List (List ℕ)) (code : Lists) (last a p : ℕ) (body : List ℕ) (new : List Value)
-    → IsPlan g assignment code → IsGreatest last assignment → IsOut g a
-    → IsNodeRead (setting_of g (assignment, code) (last + 1)) g.start p body [] new → a < length new
-out_within g assignment code last a p body new plan greatest out read =
-    slice_get_within new a (read.values a) (out_in_row g assignment code last a p body new plan greatest out read)
+pub out_within : (g : Grammar) (plan : EvaluationPlan) (last a p : ℕ) (body : List ℕ) (new : List Value)
+    → IsPlan g plan.assignment plan.code → IsGreatest last plan.assignment → IsOut g a
+    → IsNodeRead (setting_of g plan (last + 1)) g.start p body [] new → a < length new
+out_within g plan last a p body new planned greatest out read =
+    slice_get_within new a (read.values a) (out_in_row g plan last a p body new planned greatest out read)
 
 -- the record that was read with the setting of pass `last` + 1 is one of the file of pass `last`
-record_of : (g : Grammar) (assignment : List (List ℕ)) (code : Lists) (last p : ℕ) (body : List ℕ) (new : List Value)
-    → (read : IsNodeRead (setting_of g (assignment, code) (last + 1)) g.start p body [] new)
-    → IsNodeRecord version_two g (passes_of assignment) (last + 1 - 1) g.start body p read.production read.values
-record_of g assignment code last p body new read =
-    let c = setting_of g (assignment, code) (last + 1) in
+record_of : (g : Grammar) (plan : EvaluationPlan) (last p : ℕ) (body : List ℕ) (new : List Value)
+    → (read : IsNodeRead (setting_of g plan (last + 1)) g.start p body [] new)
+    → IsNodeRecord version_two g (passes_of plan.assignment) (last + 1 - 1) g.start body p read.production read.values
+record_of g plan last p body new read =
+    let c = setting_of g plan (last + 1) in
     let xs = stored_items read.production.items in
     record {
       production = read.there;
@@ -116,12 +116,12 @@ record_of g assignment code last p body new read =
     }
 
 -- the record that was read is the root's, with the value at the number of `out`
-pub root_read : (g : Grammar) (assignment : List (List ℕ)) (code : Lists) (last a p : ℕ) (body : List ℕ) (new : List Value)
-    (x : Value) → IsPlan g assignment code → IsGreatest last assignment → IsOut g a
-    → IsNodeRead (setting_of g (assignment, code) (last + 1)) g.start p body [] new → x ≡ get_or new a x
-    → IsRootRecord g assignment body x
-root_read g assignment code last a p body new x plan greatest out read is =
-    let here = out_in_row g assignment code last a p body new plan greatest out read in
+pub root_read : (g : Grammar) (plan : EvaluationPlan) (last a p : ℕ) (body : List ℕ) (new : List Value)
+    (x : Value) → IsPlan g plan.assignment plan.code → IsGreatest last plan.assignment → IsOut g a
+    → IsNodeRead (setting_of g plan (last + 1)) g.start p body [] new → x ≡ get_or new a x
+    → IsRootRecord g plan.assignment body x
+root_read g plan last a p body new x planned greatest out read is =
+    let here = out_in_row g plan last a p body new planned greatest out read in
     let there = slice_get-get_or new a x (slice_get_within new a (read.values a) here) in
     let both : Some (read.values a) ≡ Some (get_or new a x) = sym here ∙ there in
     let same : read.values a ≡ get_or new a x = cc in
@@ -133,23 +133,23 @@ root_read g assignment code last a p body new x plan greatest out read is =
       production = read.production;
       values = read.values;
       node =
-          subst (λ k. IsNodeRecord version_two g (passes_of assignment) k g.start body p read.production read.values) back
-          (record_of g assignment code last p body new read);
+          subst (λ k. IsNodeRecord version_two g (passes_of plan.assignment) k g.start body p read.production read.values) back
+          (record_of g plan last p body new read);
       attribute = a;
       out = out;
       value = same ∙ sym is;
     }
 
 -- if the body is not the record of a node of the start symbol in the file of pass `last`, it is not a root's record
-pub no_root : (g : Grammar) (assignment : List (List ℕ)) (code : Lists) (last : ℕ) (body : List ℕ) → IsGreatest last assignment
-    → IsNoNode (setting_of g (assignment, code) (last + 1)) g.start body → (x : Value) → IsRootRecord g assignment body x → ⊥
-no_root g assignment code last body greatest nothing x root =
-    let m = passes_of assignment in
+pub no_root : (g : Grammar) (plan : EvaluationPlan) (last : ℕ) (body : List ℕ) → IsGreatest last plan.assignment
+    → IsNoNode (setting_of g plan (last + 1)) g.start body → (x : Value) → IsRootRecord g plan.assignment body x → ⊥
+no_root g plan last body greatest nothing x root =
+    let m = passes_of plan.assignment in
     let n = root.number in
-    let same : root.last ≡ last + 1 - 1 = one_greatest assignment root.last last root.greatest greatest ∙ omega arith in
+    let same : root.last ≡ last + 1 - 1 = one_greatest plan.assignment root.last last root.greatest greatest ∙ omega arith in
     let it : IsNodeRecord version_two g m (last + 1 - 1) g.start body n root.production root.values =
     subst (λ k. IsNodeRecord version_two g m k g.start body n root.production root.values) same root.node in
-    no_record (setting_of g (assignment, code) (last + 1)) (item.Symbol g.start) body None nothing _
+    no_record (setting_of g plan (last + 1)) (item.Symbol g.start) body None nothing _
     (n, root.production, root.values, it, refl, tt)
 
 -- the value of `out` in the root's record is well

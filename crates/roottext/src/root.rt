@@ -60,11 +60,11 @@ fn read_out(
     out: usize,
     body: &[u8],
 ) -> Result<Carried, RecordFault>
-    requires plan { IsPlan grammar.now plan.now.0 plan.now.1 }
+    requires plan { IsPlan grammar.now plan.now.assignment plan.now.code }
     requires out { IsOut grammar.now out }
-    ensures read { IfOk result (λ v. IsRootRecord grammar.now plan.now.0 body.now v) }
+    ensures read { IfOk result (λ v. IsRootRecord grammar.now plan.now.assignment body.now v) }
     ensures none { IsErrOf result RecordFault.Damaged →
-        (x : TheValue) → IsRootRecord grammar.now plan.now.0 body.now x → ⊥ }
+        (x : TheValue) → IsRootRecord grammar.now plan.now.assignment body.now x → ⊥ }
     ensures well { IfOk result (λ v. IsWell v) }
 {
     let last = plan.assignment().passes();
@@ -89,11 +89,11 @@ fn out_value(
     out: usize,
     body: &[u8],
 ) -> Result<Value, RecordFault>
-    requires plan { IsPlan grammar.now plan.now.0 plan.now.1 }
+    requires plan { IsPlan grammar.now plan.now.assignment plan.now.code }
     requires out { IsOut grammar.now out }
-    ensures read { IfOk result (IsRootRecord grammar.now plan.now.0 body.now) }
+    ensures read { IfOk result (IsRootRecord grammar.now plan.now.assignment body.now) }
     ensures none { IsErrOf result RecordFault.Damaged →
-        (x : TheValue) → IsRootRecord grammar.now plan.now.0 body.now x → ⊥ }
+        (x : TheValue) → IsRootRecord grammar.now plan.now.assignment body.now x → ⊥ }
     ensures well { IfOk result IsWell }
 {
     let carried = read_out(alloc, grammar, plan, out, body)?;
@@ -113,10 +113,10 @@ fn last_value<D: Device>(
     out: usize,
     device: &mut D,
 ) -> Result<Value, FrameFault>
-    requires plan { IsPlan grammar.now plan.now.0 plan.now.1 }
+    requires plan { IsPlan grammar.now plan.now.assignment plan.now.code }
     requires out { IsOut grammar.now out }
     ensures found { WhenHonest (D.is_honest device.new)
-        (FindsValue grammar.now plan.now.0 (D.content device.old) result) }
+        (FindsValue grammar.now plan.now.assignment (D.content device.old) result) }
     ensures well { IfOk result IsWell }
     ensures content { LeavesContent (D.is_honest device.new)
         (D.content device.old) (D.content device.new) }
@@ -153,13 +153,13 @@ pub fn root_text<D: Device>(
     plan: &Plan,
     device: &mut D,
 ) -> Result<Text, OutFault>
-    requires plan { IsPlan grammar.now plan.now.0 plan.now.1 }
+    requires plan { IsPlan grammar.now plan.now.assignment plan.now.code }
     // The text, O1, B1 and B2 agree with the content.
     ensures found { WhenHonest (D.is_honest device.new)
-        (FindsText grammar.now plan.now.0 (D.content device.old) result) }
+        (FindsText grammar.now plan.now.assignment (D.content device.old) result) }
     // For the file of a tree: the value of the root's `out` if it is a text, or O1 with this value.
     ensures root { WhenHonest (D.is_honest device.new)
-        (MatchesRoot grammar.now plan.now.0 (D.content device.old) result) }
+        (MatchesRoot grammar.now plan.now.assignment (D.content device.old) result) }
     // The text is UTF-8 and within the limit of its length, whatever the device returns.
     ensures well { IfOk result IsWellText }
     ensures content { LeavesContent (D.is_honest device.new)

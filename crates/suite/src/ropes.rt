@@ -14,8 +14,7 @@ const PIECE: usize = 129;
 /// A recursion over all of them would need more than the usual 8 megabytes of stack.
 const DEEP: u32 = 100_000;
 
-/// Returns the byte of the piece with this number in the text of `grown_at_end` and
-/// `grown_at_start`.
+/// Returns the byte of the piece with this number in the texts of these tests.
 fn byte_at(number: u32) -> u8 {
     (number % 251) as u8
 }
@@ -84,7 +83,8 @@ fn deep_ropes(rt: HostRuntime) -> Result<(), Fail> {
     Ok(())
 }
 
-/// Compares ropes with one text and different shapes, which `same` compares in blocks.
+/// Compares ropes with one text and different shapes, which `same` compares in blocks, and with a
+/// longer text, which differs in its length.
 #[test]
 fn ropes_of_different_shapes(rt: HostRuntime) -> Result<(), Fail> {
     let end = grown_at_end(rt.alloc(), 2_000)?;

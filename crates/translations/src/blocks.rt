@@ -161,7 +161,7 @@ fn assignment(alloc: Global) -> Result<Assignment, AllocError> {
 /// Returns a plan of three passes for the grammar `GROUPS`. Its first two passes have no rules:
 /// they are there so that three passes run over one tree.
 fn plan(alloc: Global, grammar: &Grammar) -> Result<Plan, Mistake>
-    ensures { IfOk result (λ plan. IsPlan grammar.now plan.0 plan.1) }
+    ensures { IfOk result (λ plan. IsPlan grammar.now plan.assignment plan.code) }
 {
     let code = code(alloc)?;
     let assignment = assignment(alloc)?;
@@ -192,7 +192,7 @@ fn run<'p>(
     a: &mut CountingDevice<'p>,
     b: &mut CountingDevice<'p>,
 ) -> Result<String, Mistake>
-    requires { IsPlan grammar.now plan.now.0 plan.now.1 }
+    requires { IsPlan grammar.now plan.now.assignment plan.now.code }
 {
     let mut meter = Meter::new();
     // unused at run time: the contract of `passes` says that there is a greatest pass, as `run_all`
@@ -209,7 +209,7 @@ fn run<'p>(
 
 /// Parses the sentence and runs three passes. Returns their counts, and what the devices counted.
 fn run_thrice(alloc: Global, translator: &Translator, plan: &Plan) -> Result<String, Mistake>
-    requires { IsPlan translator.now plan.now.0 plan.now.1 }
+    requires { IsPlan translator.now plan.now.assignment plan.now.code }
 {
     let puts = Cell::new(0);
     let mut a = CountingDevice::new(alloc, &puts);

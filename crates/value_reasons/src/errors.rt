@@ -102,7 +102,7 @@ impl<'a> ExplainedTree<'a> {
         number: u16,
         row: &Row<'_>,
     ) -> Result<u64, NoMemory>
-        requires arguments { Each (λ (r : TheRule). length r.args ≡ length r.expr.1)
+        requires arguments { Each (λ (r : TheRule). length r.args ≡ length r.expr.occurrences)
             row.now.production.now.rules }
     {
         let mut count = 0u64;

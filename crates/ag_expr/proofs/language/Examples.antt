@@ -56,7 +56,7 @@ sum_characters : chars (codes "2 + 3 * 4") ≡ codes "2 + 3 * 4"
 unfolding chars
 sum_characters = refl
 
-pub sum_is_read : ReadsAsExpr (codes "2 + 3 * 4") (sum_and_product, [])
+pub sum_is_read : ReadsAsExpr (codes "2 + 3 * 4") (record { tree = sum_and_product; occurrences = [] })
 unfolding sum_tokens
 sum_is_read = record {
   placed = sum_tokens;

@@ -2,6 +2,7 @@
 use Rattle.ag_expr.proofs.Common
 use Common.{◌≡◌, ◌≢◌, ℕ, true, false, List, [], ◌∷◌, ◌++◌, length, Result, Ok, Err, IfOk, chars, drop, IsUtf8, inl, inr, refl, ap}
 use Common.{sym, ◌∙◌, arith, append_assoc, append-nil, length-append, IsErrAnd, ExprFault, Node, Occ, Ending, offset_of}
+use Common.{Expression}
 use Common.{max_levels, ReadsAsExpr, IsRefused, IsFaultOf, IsFaultFrom, State, IsReadToEnd, start, all_occurrences}
 use Common.{distinct_occurrences, PlacedToken, Input, tokens, is_end, AreTokens, Lexes}
 use Common.fault
@@ -21,7 +22,7 @@ use Rattle.ag_expr.proofs.language.Listing.{listed_are_different}
 use Rattle.ag_expr.proofs.language.Offsets.{refuses_at_the_first}
 
 abbrev pub Answer : Type 0
-Answer = Result (Node × List Occ) ExprFault
+Answer = Result Expression ExprFault
 
 -- the result of parsing the tokens of a text is the answer, since the text has no other tokens
 pub read_to : (text : List ℕ) (from : ℕ) (j : Input) → Lexes from (chars (drop from text)) j
@@ -58,14 +59,14 @@ module _ (s : State) where
   refused_after (Err x) e f j is read more says = λ memory. rw (read, more) (ap Err (cc says))
 
   pub read_all : (f : Node) (j : Input) (listed : List Occ) → expr_from (complete_list s) max_levels (input s) ≡ Ok (f, j)
-      → is_end j.ending j.left ≡ true → listed ≡ complete_list s → IsReadToEnd s (Ok (f, listed))
+      → is_end j.ending j.left ≡ true → listed ≡ complete_list s → IsReadToEnd s (Ok (record { tree = f; occurrences = listed }))
   read_all f j listed read ends same =
       λ memory. cc (read_of (complete_list s) max_levels (input s) j f read ends)
 
 -- ---- what follows for the text
 
-answered_tree : (listed : List Occ) (o : Outcome Node) (x : Node × List Occ) → answer_of listed o ≡ Ok x
-    → (j : Input) × (o ≡ Ok (x.0, j)) × (x.1 ≡ listed)
+answered_tree : (listed : List Occ) (o : Outcome Node) (x : Expression) → answer_of listed o ≡ Ok x
+    → (j : Input) × (o ≡ Ok (x.tree, j)) × (x.occurrences ≡ listed)
 answered_tree listed (Ok (e, j)) x h = (j, cc, cc)
 answered_tree listed (Err f) x h = cc
 
@@ -73,27 +74,27 @@ answered_fault : (listed : List Occ) (o : Outcome Node) (e : ExprFault) → answ
 answered_fault listed o e h = grind arith
 
 -- The tokens end with the text and spell the result.
-pub record Spells (i : Input) (x : Node × List Occ) : Type 0 where
+pub record Spells (i : Input) (x : Expression) : Type 0 where
   pub at : ℕ
   pub ends : i.ending ≡ ending.EndsAt at
-  pub listed : x.1 ≡ occurrences_of i
-  pub spells : IsExpr (occurrences_of i) max_levels (tokens i.left) x.0
+  pub listed : x.occurrences ≡ occurrences_of i
+  pub spells : IsExpr (occurrences_of i) max_levels (tokens i.left) x.tree
 
-pub spells_of : (i : Input) (x : Node × List Occ) → read_from i ≡ Ok x → Spells i x
+pub spells_of : (i : Input) (x : Expression) → read_from i ≡ Ok x → Spells i x
 spells_of i x is =
     let one = answered_tree (occurrences_of i) (expr_of (occurrences_of i) max_levels i) x is in
-    let read = read_to_end (occurrences_of i) max_levels i one.0 x.0 one.1 in
-    let all = whole_is (occurrences_of i) max_levels i one.0 x.0 read.0 read.1 in
+    let read = read_to_end (occurrences_of i) max_levels i one.0 x.tree one.1 in
+    let all = whole_is (occurrences_of i) max_levels i one.0 x.tree read.0 read.1 in
     record { at = all.0; ends = all.1; listed = one.2; spells = all.2 }
 
 -- the tokens of an expression are parsed to it
-pub spelled_back : (placed : List PlacedToken) (at : ℕ) (x : Node × List Occ)
-    → x.1 ≡ distinct_occurrences (all_occurrences placed) → IsExpr x.1 max_levels (tokens placed) x.0
+pub spelled_back : (placed : List PlacedToken) (at : ℕ) (x : Expression)
+    → x.occurrences ≡ distinct_occurrences (all_occurrences placed) → IsExpr x.occurrences max_levels (tokens placed) x.tree
     → read_from (record { left = placed; ending = ending.EndsAt at }) ≡ Ok x
 spelled_back placed at x listed spells =
     let i : Input = record { left = placed; ending = ending.EndsAt at } in
     ap (λ os. answer_of os (expr_of os max_levels i)) (sym listed)
-    ∙ ap (answer_of x.1) (read_whole x.1 max_levels at placed x.0 spells)
+    ∙ ap (answer_of x.occurrences) (read_whole x.occurrences max_levels at placed x.tree spells)
 
 -- a fault of the parser is at the first token that cannot be accepted
 pub reported_of : (i : Input) (e : ExprFault) → read_from i ≡ Err e → IsReportedFirst (occurrences_of i) max_levels i e
@@ -112,7 +113,7 @@ module _ (text : List ℕ) where
       record { placed = i.left; lexes = rw (← wide, ← s.ends) lexes; listed = s.listed; spells = rw s.listed s.spells }
   reads_as (Err e) utf8 is = tt
 
-  read_back : (x : Node × List Occ) (reads : ReadsAsExpr text x)
+  read_back : (x : Expression) (reads : ReadsAsExpr text x)
       → read_from (record { left = reads.placed; ending = ending.EndsAt (length text) }) ≡ Ok x
   read_back x reads = spelled_back reads.placed (length text) x reads.listed reads.spells
 
@@ -247,7 +248,7 @@ offsets_of text (Err e) is =
     (λ memory. reported_at 0 (chars text) i.0 i.1 (occurrences_of i.0) max_levels e (first_of text (Err e) is i.0 i.1 memory))
 
 -- a text reads as at most one expression
-pub one_expression : (text : List ℕ) (one other : Node × List Occ) → ReadsAsExpr text one → ReadsAsExpr text other → one ≡ other
+pub one_expression : (text : List ℕ) (one other : Expression) → ReadsAsExpr text one → ReadsAsExpr text other → one ≡ other
 one_expression text one other is also =
     let same = same_input 0 (chars text) _ _ is.lexes also.lexes in
     let both = sym (read_back text one is) ∙ ap read_from same ∙ read_back text other also in

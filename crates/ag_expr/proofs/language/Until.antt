@@ -3,7 +3,7 @@ use Rattle.ag_expr.proofs.Common
 use Common.{◌≡◌, ℕ, Bool, true, false, List, [], ◌∷◌, ◌++◌, drop, Option, Some, None, Result, Ok, Err, IfOk, chars, inl, inr}
 use Common.{refl, ap, sym, ◌∙◌, subst, arith, Ending, sees, is_sign, is_end, offset, next, PlacedToken, Input, tokens}
 use Common.{GrammarToken, mark, Lexes, ExprFault, Node, Occ, max_levels, IsFaultFrom, all_occurrences, IsReadEnded, KeepsContext}
-use Common.{State, from_end, start}
+use Common.{Expression, State, from_end, start}
 use Common.punctuation
 use Common.ending
 use Rattle.std.proofs.Common.{IfErr}
@@ -60,7 +60,7 @@ from_first (q ∷ qs) p ps h = let more = from_first qs p ps in (grind arith, gr
 -- ---- parsing the tokens before the semicolon
 
 -- the result, from that of the tokens before the semicolon
-abbrev by_end : Option ℕ → Ending → Result (Node × List Occ) ExprFault → Result Ended ExprFault
+abbrev by_end : Option ℕ → Ending → Result Expression ExprFault → Result Ended ExprFault
 by_end (Some at) e r = with_offset at r
 by_end None e r = or_fault (ending_fault e) r
 
@@ -92,7 +92,8 @@ module _ (i : Input) where
     ending_is = ap (λ (k : Input). k.ending) same
 
     pub ended : sees is_semicolon c ≡ true
-        → (read_until_from i ≡ Ok ((e, all), offset c)) × (next c ≡ record i { left = after_semicolon i.left })
+        → (read_until_from i ≡ Ok (record { tree = e; occurrences = all }, offset c))
+        × (next c ≡ record i { left = after_semicolon i.left })
     ended h =
         let from = from_first i.left in
         let here = rest in
@@ -131,7 +132,8 @@ module _ (i : Input) (s : State) (e : Node) (read : expr_from (all i) max_levels
   following = sym (ap (λ b. from_end b s.tokens) kept.kind) ∙ kept.following
 
   pub ended_of : sees is_semicolon s.tokens ≡ true
-      → (read_until_from i ≡ Ok ((e, all i), offset s.tokens)) × (next s.tokens ≡ record i { left = after_semicolon i.left })
+      → (read_until_from i ≡ Ok (record { tree = e; occurrences = all i }, offset s.tokens))
+      × (next s.tokens ≡ record i { left = after_semicolon i.left })
   ended_of h = ended i s.tokens e (read ∙ ap (λ j. Ok (e, j)) tokens_are) following h
 
   pub refused_of : sees is_semicolon s.tokens ≡ false → read_until_from i ≡ Err (refusal (input s))
@@ -149,12 +151,12 @@ module _ (i : Input) (f : ExprFault) where
       reported_of (record { left = before_semicolon i.left; ending = ending.EndsAt at }) f in reported (grind arith)
   reported_until None is = go (read_from i) refl is
     where
-      go : (r : Result (Node × List Occ) ExprFault) → read_from i ≡ r → or_fault (ending_fault i.ending) r ≡ Err f
+      go : (r : Result Expression ExprFault) → read_from i ≡ r → or_fault (ending_fault i.ending) r ≡ Err f
           → IsReportedUntil None i f
       go (Ok x) read is =
           let s = spells_of i x read in
           let same : ending_fault i.ending ≡ f = cc in
-          inr (record { at = s.at; ends = s.ends; says = sym same ∙ ap ending_fault s.ends; tree = x.0; spells = s.spells })
+          inr (record { at = s.at; ends = s.ends; says = sym same ∙ ap ending_fault s.ends; tree = x.tree; spells = s.spells })
       go (Err g) read is = let same : g ≡ f = cc in inl (reported_of i f (read ∙ ap Err same))
 
   says_until : (from : ℕ) (cs : List ℕ) → Lexes from cs i → (o : Option ℕ) → first_semicolon i.left ≡ o → IsReportedUntil o i f
@@ -195,7 +197,7 @@ module _ (text : List ℕ) (from : ℕ) (j : Input) (lexes : Lexes from (chars (
         lexes = subst (λ ps. Lexes from (chars (drop from text)) (record { left = ps; ending = j.ending })) cut.0 lexes;
         first = cut.1;
         listed = s.listed;
-        spells = subst (λ os. IsExpr os max_levels (tokens (before_semicolon j.left)) x.0.0) (sym s.listed) s.spells;
+        spells = subst (λ os. IsExpr os max_levels (tokens (before_semicolon j.left)) x.0.tree) (sym s.listed) s.spells;
       }
 
   pub reads_until : (r : Result Ended ExprFault) → IsReadUntil text from r → IfOk r (ReadsUntil text from)

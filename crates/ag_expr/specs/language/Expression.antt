@@ -6,8 +6,7 @@ use Rattle.ag_tokens.specs.declared.token.Punctuation.TheVariants as punctuation
 use Rattle.ag_tokens.specs.GrammarToken.{GrammarToken}
 use Rattle.ag_tokens.specs.GrammarToken as token
 use Rattle.ag_grammar.specs.declared.limits.TheConstants.{MAX_EXPR_LEVELS}
-use Rattle.ag_grammar.specs.declared.syntax.node.Node.{Node}
-use Rattle.ag_grammar.specs.declared.syntax.occurrence.Occ.{Occ}
+use Rattle.ag_grammar.specs.expressions.Expression.{Expression}
 use Rattle.ag_tokens.specs.Ending as ending
 use Rattle.ag_tokens.specs.PlacedToken.{PlacedToken, tokens}
 use Rattle.ag_tokens.specs.Tokens.{Lexes, NoTokenAt, TooLargeAt, TokenAt, EndsAt}
@@ -22,15 +21,15 @@ max_levels = MAX_EXPR_LEVELS
 -- The text reads as the expression, which is a tree and a list of occurrences: the text is separators and
 -- longest tokens, with each number and place within its limit; the list has the distinct occurrences among the tokens;
 -- and the tokens spell the tree.
-pub record ReadsAsExpr (text : List ℕ) (expr : Node × List Occ) : Type 0 where
+pub record ReadsAsExpr (text : List ℕ) (expr : Expression) : Type 0 where
   pub placed : List PlacedToken
   pub lexes : Lexes 0 (chars text) (record { left = placed; ending = ending.EndsAt (length text) })
-  pub listed : expr.1 ≡ distinct_occurrences (all_occurrences placed)
-  pub spells : IsExpr expr.1 max_levels (tokens placed) expr.0
+  pub listed : expr.occurrences ≡ distinct_occurrences (all_occurrences placed)
+  pub spells : IsExpr expr.occurrences max_levels (tokens placed) expr.tree
 
 -- the text does not read as an expression
 abbrev pub ReadsAsNone : List ℕ → Type 0
-ReadsAsNone text = (expr : Node × List Occ) → ReadsAsExpr text expr → ⊥
+ReadsAsNone text = (expr : Expression) → ReadsAsExpr text expr → ⊥
 
 -- a fault means that the text does not read as an expression, unless memory ran out
 abbrev pub IsRefused : List ℕ → ExprFault → Type 0

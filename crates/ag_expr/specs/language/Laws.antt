@@ -2,6 +2,7 @@
 use Rattle.std.specs.Prelude.{◌≡◌, ◌↔◌, List, [], ℕ, Ok, Err}
 use Rattle.ag_grammar.specs.declared.syntax.node.Node.{Node}
 use Rattle.ag_grammar.specs.declared.syntax.occurrence.Occ.{Occ}
+use Rattle.ag_grammar.specs.expressions.Expression.{Expression}
 use Rattle.ag_expr.specs.language.Expression.{ReadsAsExpr}
 use Rattle.ag_expr.specs.declared.fault.ExprFault.{ExprFault}
 use Rattle.ag_tokens.specs.Ending as ending
@@ -24,4 +25,4 @@ RefusesAtTheFirst = (listed : List Occ) (levels : ℕ) (i : Input) (f : ExprFaul
 
 -- A text reads as at most one expression.
 abbrev pub OneExpression : Type 0
-OneExpression = (text : List ℕ) (one other : Node × List Occ) → ReadsAsExpr text one → ReadsAsExpr text other → one ≡ other
+OneExpression = (text : List ℕ) (one other : Expression) → ReadsAsExpr text one → ReadsAsExpr text other → one ≡ other

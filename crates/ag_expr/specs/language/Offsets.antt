@@ -4,6 +4,7 @@ use Rattle.ag_expr.specs.declared.fault.ExprFault.{ExprFault}
 use Rattle.ag_expr.specs.declared.fault.ExprFault.TheVariants as fault
 use Rattle.ag_grammar.specs.declared.syntax.node.Node.{Node}
 use Rattle.ag_grammar.specs.declared.syntax.occurrence.Occ.{Occ}
+use Rattle.ag_grammar.specs.expressions.Expression.{Expression}
 use Rattle.ag_tokens.specs.Ending.{Ending}
 use Rattle.ag_tokens.specs.Ending as ending
 use Rattle.ag_expr.specs.language.Expression.{begins_expression, max_levels}
@@ -52,8 +53,8 @@ abbrev pub IsReportedFirst : List Occ → ℕ → Input → ExprFault → Type 0
 IsReportedFirst listed levels i f = IsFirstWrong listed i f ⊎ IsTooDeep listed levels i f
 
 -- the outcome of a parser as a result: a tree and the distinct occurrences, or a fault
-abbrev pub answer_of : List Occ → Outcome Node → Result (Node × List Occ) ExprFault
-answer_of listed (Ok p) = Ok (p.0, listed)
+abbrev pub answer_of : List Occ → Outcome Node → Result Expression ExprFault
+answer_of listed (Ok p) = Ok (record { tree = p.0; occurrences = listed })
 answer_of listed (Err f) = Err f
 
 -- the distinct occurrences among the tokens
@@ -61,16 +62,16 @@ abbrev pub occurrences_of : Input → List Occ
 occurrences_of i = distinct_occurrences (all_occurrences i.left)
 
 -- the result of parsing the tokens of a text: a tree and the distinct occurrences among them, or a fault
-abbrev pub read_from : Input → Result (Node × List Occ) ExprFault
+abbrev pub read_from : Input → Result Expression ExprFault
 read_from i = answer_of (occurrences_of i) (expr_of (occurrences_of i) max_levels i)
 
 -- The answer is the result of parsing the tokens of the text from the offset `from` on, or memory ran out.
-abbrev pub IsReadFrom : List ℕ → ℕ → Result (Node × List Occ) ExprFault → Type 0
+abbrev pub IsReadFrom : List ℕ → ℕ → Result Expression ExprFault → Type 0
 IsReadFrom text from answer = (i : Input) → Lexes from (chars (drop from text)) i → answer ≢ Err fault.NoMemory
     → read_from i ≡ answer
 
 -- the same for a whole text
-abbrev pub IsRead : List ℕ → Result (Node × List Occ) ExprFault → Type 0
+abbrev pub IsRead : List ℕ → Result Expression ExprFault → Type 0
 IsRead text = IsReadFrom text 0
 
 -- A fault other than `NoMemory` is at the first token of the text that cannot be accepted.

@@ -11,12 +11,12 @@ use Rattle.ag_tokens.specs.GrammarToken as token
 use Rattle.ag_expr.specs.declared.fault.ExprFault.{ExprFault}
 use Rattle.ag_expr.specs.declared.fault.ExprFault.TheVariants as fault
 use Rattle.ag_grammar.specs.declared.syntax.occurrence.Occ.{Occ}
+use Rattle.ag_grammar.specs.expressions.Expression.{Expression}
 use Rattle.ag_expr.specs.language.Names.{Names}
 use Rattle.ag_expr.specs.language.Occurrences.{all_occurrences, listed_with_all, position_of}
 use Rattle.ag_expr.specs.language.Expression.{max_levels}
 use Rattle.ag_expr.specs.language.Offsets.{answer_of}
 use Rattle.ag_expr.specs.language.Reading.{Parser, begins, expr_of, level_fault_of}
-use Rattle.ag_grammar.specs.declared.syntax.node.Node.{Node}
 use Rattle.ag_expr.specs.language.Until.{Ended, before_semicolon, after_semicolon, first_semicolon, from_semicolon}
 use Rattle.ag_expr.specs.language.Until.{read_until_from}
 
@@ -119,7 +119,7 @@ abbrev pub Reads : {X : Type 0} → (List Occ → Names → Parser X) → State 
 Reads = ReadsAs (λ x. x)
 
 -- The answer is the result of parsing the remaining tokens to their end, or memory ran out.
-abbrev pub IsReadToEnd : State → Result (Node × List Occ) ExprFault → Type 0
+abbrev pub IsReadToEnd : State → Result Expression ExprFault → Type 0
 IsReadToEnd s answer = answer ≢ Err fault.NoMemory
     → answer_of (complete_list s) (expr_of (complete_list s) max_levels (input s)) ≡ answer
 

@@ -3,7 +3,7 @@ use Rattle.std.specs.Prelude.{◌≡◌, ◌≢◌, ℕ, cond, List, [], ◌∷�
 use Rattle.ag_expr.specs.declared.fault.ExprFault.{ExprFault}
 use Rattle.ag_expr.specs.declared.fault.ExprFault.TheVariants as fault
 use Rattle.ag_grammar.specs.declared.syntax.node.Node.{Node}
-use Rattle.ag_grammar.specs.declared.syntax.occurrence.Occ.{Occ}
+use Rattle.ag_grammar.specs.expressions.Expression.{Expression}
 use Rattle.ag_tokens.specs.declared.token.Punctuation.TheVariants as punctuation
 use Rattle.ag_tokens.specs.Ending.{Ending}
 use Rattle.ag_tokens.specs.Ending as ending
@@ -20,7 +20,7 @@ use Rattle.ag_tokens.specs.Tokens.{Lexes}
 
 -- an expression, with the offset of the semicolon after it
 abbrev pub Ended : Type 0
-Ended = (Node × List Occ) × ℕ
+Ended = Expression × ℕ
 
 -- a semicolon at an offset
 abbrev pub semicolon : ℕ → PlacedToken
@@ -47,12 +47,12 @@ after_semicolon [] = []
 after_semicolon (p ∷ ps) = cond (is_sign (mark punctuation.Semicolon) p.token) ps (after_semicolon ps)
 
 -- the expression with this offset of the semicolon after it, or the fault
-abbrev pub with_offset : ℕ → Result (Node × List Occ) ExprFault → Result Ended ExprFault
+abbrev pub with_offset : ℕ → Result Expression ExprFault → Result Ended ExprFault
 with_offset at (Ok x) = Ok (x, at)
 with_offset at (Err f) = Err f
 
 -- always a fault: that of the result if it is one, else e
-abbrev pub or_fault : ExprFault → Result (Node × List Occ) ExprFault → Result Ended ExprFault
+abbrev pub or_fault : ExprFault → Result Expression ExprFault → Result Ended ExprFault
 or_fault e (Ok x) = Err e
 or_fault e (Err f) = Err f
 
@@ -80,8 +80,8 @@ pub record ReadsUntil (text : List ℕ) (from : ℕ) (x : Ended) : Type 0 where
   pub ending : Ending
   pub lexes : Lexes from (chars (drop from text)) (record { left = placed ++ semicolon x.1 ∷ rest; ending = ending })
   pub first : first_semicolon placed ≡ None
-  pub listed : x.0.1 ≡ distinct_occurrences (all_occurrences placed)
-  pub spells : IsExpr x.0.1 max_levels (tokens placed) x.0.0
+  pub listed : x.0.occurrences ≡ distinct_occurrences (all_occurrences placed)
+  pub spells : IsExpr x.0.occurrences max_levels (tokens placed) x.0.tree
 
 -- a fault means that no expression followed by a semicolon begins at `from`, unless memory ran out
 abbrev pub IsRefusedUntil : List ℕ → ℕ → ExprFault → Type 0

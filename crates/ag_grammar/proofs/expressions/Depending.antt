@@ -122,11 +122,12 @@ argument [] k less = absurd (omega arith)
 argument (o ∷ xs) k less = (get_or (o ∷ xs) k o, slice_get-get_or (o ∷ xs) k o less)
 
 pub rule_has_one_value : RuleHasOneValue
-rule_has_one_value g q r e env other named lends also = settled r.expr.0 env other same []
+rule_has_one_value g q r e env other named lends also = settled r.expr.tree env other same []
   where
-    same : AgreeOn r.expr.0 env other
+    same : AgreeOn r.expr.tree env other
     same k has =
-        let less : k < length r.expr.1 = occurrences_are_listed (length r.expr.1) k 0 r.expr.0 named.listed has in
+        let n = length r.expr.occurrences in
+        let less : k < n = occurrences_are_listed n k 0 r.expr.tree named.listed has in
         let long = named.arguments.equally_long in
         let o = argument r.args k (omega arith) in
         lends k o.0 o.1 ∙ sym (also k o.0 o.1)
@@ -135,8 +136,8 @@ pub rule_holds_by_one : RuleHoldsByOne
 rule_holds_by_one g q r e env named lends is other also = is ∙ rule_has_one_value g q r e env other named lends also
 
 -- `$0.i + 1` has the same value in two environments with the same value for its occurrence
-pub same : (env other : ℕ → Value) → env 0 ≡ other 0 → value_of rule_s.expr.0 env ≡ value_of rule_s.expr.0 other
-same env other e = value_of_occurrences rule_s.expr.0 env other [] at
+pub same : (env other : ℕ → Value) → env 0 ≡ other 0 → value_of rule_s.expr.tree env ≡ value_of rule_s.expr.tree other
+same env other e = value_of_occurrences rule_s.expr.tree env other [] at
   where
     first : (k : ℕ) → (nat_eq 0 k || (false || false)) ≡ true → env k ≡ other k
     first zero h = e
@@ -146,7 +147,7 @@ same env other e = value_of_occurrences rule_s.expr.0 env other [] at
         let bad : ⊥ = cc in
         absurd bad
 
-    at : (k : ℕ) → has_occurrence k rule_s.expr.0 ≡ true → env k ≡ other k
+    at : (k : ℕ) → has_occurrence k rule_s.expr.tree ≡ true → env k ≡ other k
     at k h = first k (sym (has_sum k) ∙ h)
 
 pub ruleset one_occurrence = (occurs, alone, same)

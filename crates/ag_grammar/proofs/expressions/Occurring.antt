@@ -111,15 +111,15 @@ has_none : (k : ℕ) (v : Value) → has_occurrence k (node_of.Literal v) ≡ fa
 has_none k v = ap (has_occurrence k) (sym (node_of.rolls-Literal v)) ∙ has_layer k (Node-F.Literal v)
 
 -- the occurrences in `$0.i + 1`
-pub has_sum : (k : ℕ) → has_occurrence k rule_s.expr.0 ≡ (nat_eq 0 k || (false || false))
+pub has_sum : (k : ℕ) → has_occurrence k rule_s.expr.tree ≡ (nat_eq 0 k || (false || false))
 has_sum k =
     ap (has_occurrence k) (sym (node_of.rolls-Chain (node_of.Occurrence 0) ((Add, node_of.Literal (Num (pos 1))) ∷ [])))
     ∙ has_layer k (Node-F.Chain (node_of.Occurrence 0) ((Add, node_of.Literal (Num (pos 1))) ∷ []))
     ∙ ap (λ b. b || (has_occurrence k (node_of.Literal (Num (pos 1))) || false)) (has_own k 0)
     ∙ ap (λ b. nat_eq 0 k || (b || false)) (has_none k (Num (pos 1)))
 
-pub occurs : has_occurrence 0 rule_s.expr.0 ≡ true
+pub occurs : has_occurrence 0 rule_s.expr.tree ≡ true
 occurs = has_sum 0
 
-pub alone : has_occurrence 1 rule_s.expr.0 ≡ false
+pub alone : has_occurrence 1 rule_s.expr.tree ≡ false
 alone = has_sum 1

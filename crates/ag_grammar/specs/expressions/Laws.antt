@@ -26,9 +26,9 @@ OccurrencesAreListed = (n k bound : ℕ) (e : Node) → is_within n e bound ≡ 
 -- its arguments. `e` has the values of attributes, by place and number.
 abbrev pub RuleHasOneValue : Type 0
 RuleHasOneValue = (g : Grammar) (q : Production) (r : Rule) (e : ℕ → ℕ → Value) (env other : ℕ → Value) → IsNamedRule g q r
-    → Supplies r e env → Supplies r e other → value_of r.expr.0 env ≡ value_of r.expr.0 other
+    → Supplies r e env → Supplies r e other → value_of r.expr.tree env ≡ value_of r.expr.tree other
 
 -- Hence a rule holds if its target has the value of the expression in one such environment.
 abbrev pub RuleHoldsByOne : Type 0
 RuleHoldsByOne = (g : Grammar) (q : Production) (r : Rule) (e : ℕ → ℕ → Value) (env : ℕ → Value) → IsNamedRule g q r
-    → Supplies r e env → e r.target.place r.target.attr ≡ value_of r.expr.0 env → Holds r e
+    → Supplies r e env → e r.target.place r.target.attr ≡ value_of r.expr.tree env → Holds r e

@@ -102,12 +102,12 @@ abbrev pub IsInUse : Grammar → Terminal → Type 0
 IsInUse g a = (p : ℕ) × (q : Production) × IsProduction g p q × Has q.items (item.Terminal a)
 
 -- A rule whose numbers are in range (Knuth 1968). Its target exists, and may be synthesized or inherited. Each occurrence in
--- the tree of its expression (`r.expr.0`) is one of those in the expression's list (`r.expr.1`). There is one argument for each
--- listed occurrence, in the same order: the attribute that the occurrence refers to.
+-- the tree of its expression is one of those in the expression's list. There is one argument for each listed occurrence, in the
+-- same order: the attribute that the occurrence refers to.
 pub record IsNamedRule (g : Grammar) (q : Production) (r : Rule) : Type 0 where
   pub target : (k : Kind) × HasKind g q r.target k
-  pub listed : is_below (length r.expr.1) r.expr.0 ≡ true
-  pub arguments : AreRelated (RefersTo g q) r.expr.1 r.args
+  pub listed : is_below (length r.expr.occurrences) r.expr.tree ≡ true
+  pub arguments : AreRelated (RefersTo g q) r.expr.occurrences r.args
 
 -- Names and numbers are consistent (this project's): each number is in range; no symbol, attribute of a
 -- symbol, literal or class appears twice; each literal and class occurs in a production; and no literal

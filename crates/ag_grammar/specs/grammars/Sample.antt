@@ -48,11 +48,16 @@ symbol_a = record { name = 65 ∷ []; syn = s_name ∷ []; inh = i_name ∷ [] }
 -- a rule whose target gets the value of the attribute at place j with this name and the number a
 abbrev pub copy_rule : Target → ℕ → List ℕ → ℕ → Rule
 copy_rule target j name a =
-    record { target = target; expr = (node_of.Occurrence 0, named j name ∷ []); args = attribute j a ∷ [] }
+    record {
+      target = target;
+      expr = record { tree = node_of.Occurrence 0; occurrences = named j name ∷ [] };
+      args = attribute j a ∷ [];
+    }
 
 -- a rule that sets its target to 0
 abbrev pub zero_rule : Target → Rule
-zero_rule target = record { target = target; expr = (node_of.Literal (Num (pos 0)), []); args = [] }
+zero_rule target =
+    record { target = target; expr = record { tree = node_of.Literal (Num (pos 0)); occurrences = [] }; args = [] }
 
 -- $0.out = $1.s
 abbrev pub rule_out : Rule
@@ -70,7 +75,10 @@ rule_second = zero_rule (attribute 2 1)
 abbrev pub rule_s : Rule
 rule_s = record {
   target = attribute 0 0;
-  expr = (node_of.Chain (node_of.Occurrence 0) ((Add, node_of.Literal (Num (pos 1))) ∷ []), named 0 i_name ∷ []);
+  expr = record {
+    tree = node_of.Chain (node_of.Occurrence 0) ((Add, node_of.Literal (Num (pos 1))) ∷ []);
+    occurrences = named 0 i_name ∷ [];
+  };
   args = attribute 0 1 ∷ [];
 }
 

@@ -48,7 +48,7 @@ Supplies r e env = (k : ℕ) (o : Target) → slice_get r.args k ≡ Some o → 
 -- A rule holds: its target has the value of its expression for the values of the attributes that its occurrences
 -- refer to (Knuth 1968).
 abbrev pub Holds : Rule → (ℕ → ℕ → Value) → Type 0
-Holds r e = (env : ℕ → Value) → Supplies r e env → e r.target.place r.target.attr ≡ value_of r.expr.0 env
+Holds r e = (env : ℕ → Value) → Supplies r e env → e r.target.place r.target.attr ≡ value_of r.expr.tree env
 
 -- each rule of a production holds, if the rule satisfies W
 abbrev pub RulesHold : (Production → Rule → Type 0) → Option Production → (ℕ → ℕ → Value) → Type 0

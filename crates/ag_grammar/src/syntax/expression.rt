@@ -10,8 +10,7 @@ use smallvec::SmallVec;
 use std::marker::Model;
 
 /// An expression: its tree, and the list of its distinct occurrences. The parser lists them in the
-/// order of their first appearance. Contracts see the pair of both: `e.0` is the tree of `e`, and
-/// `e.1` the list.
+/// order of their first appearance. Contracts see a record of both, `Expression`.
 #[derive(Debug, Drop)]
 pub struct Expr {
     node: Node,
@@ -19,19 +18,18 @@ pub struct Expr {
 }
 
 impl Model for Expr {
-    ghost use Rattle.std.specs.Prelude.{◌≡◌, List, length, true};
+    ghost use Rattle.std.specs.Prelude.{◌≡◌, length, true};
     ghost use Rattle.ag_grammar.specs.expressions.Occurrences.{AreDifferent};
     ghost use Rattle.ag_grammar.specs.expressions.Trees.{is_below};
     ghost use Rattle.std.specs.Coded.{codes};
-    ghost use Rattle.ag_grammar.specs.declared.syntax.node.Node.{Node};
-    ghost use Rattle.ag_grammar.specs.declared.syntax.occurrence.Occ.{Occ};
     ghost use Rattle.ag_grammar.specs.contracts.syntax.node.Node as node_row;
+    ghost use Rattle.ag_grammar.specs.expressions.Expression.{Expression};
 
-    ghost Value = { Node × List Occ };
+    ghost Value = { Expression };
 
     ghost coded = { Prim.hlevel (codes, node_row.the_row.coded) };
 
-    ghost view = { λ e. (e.node, e.occurrences.items) };
+    ghost view = { λ e. record { tree = e.node; occurrences = e.occurrences.items } };
 
     ghost invariant = { λ e. (is_below (length e.occurrences.items) e.node ≡ true)
         × AreDifferent e.occurrences.items };
@@ -45,15 +43,15 @@ impl Expr {
     pub fn new(node: Node, occurrences: SmallVec<Occ, 4>) -> Expr
         requires below { is_below (length occurrences.items) node ≡ true }
         requires different { AreDifferent occurrences.items }
-        ensures { result ≡ (node, occurrences.items) }
+        ensures { result ≡ record { tree = node; occurrences = occurrences.items } }
     {
         Expr { node, occurrences }
     }
 
     /// Returns the tree.
     pub fn tree(&self) -> &Node
-        ensures value { result.now ≡ self.now.0 }
-        ensures below { is_below (length self.now.1) result.now ≡ true }
+        ensures value { result.now ≡ self.now.tree }
+        ensures below { is_below (length self.now.occurrences) result.now ≡ true }
     {
         &self.node
     }
@@ -61,8 +59,8 @@ impl Expr {
 
 /// Returns the distinct occurrences of an expression, in the order in which `Expr::new` got them.
 pub fn occurrences(expr: &Expr) -> &[Occ]
-    ensures lent { result.now ≡ expr.now.1 }
-    ensures listed { is_below (length result.now) expr.now.0 ≡ true }
+    ensures lent { result.now ≡ expr.now.occurrences }
+    ensures listed { is_below (length result.now) expr.now.tree ≡ true }
     ensures different { AreDifferent result.now }
 {
     expr.occurrences.as_slice()

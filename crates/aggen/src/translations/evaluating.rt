@@ -37,8 +37,8 @@ impl Translator {
         a: &mut D,
         b: &mut D,
     ) -> Result<Report, Fault>
-        requires least { IsLeastPlan self.now plan.now.0 plan.now.1 }
-        ensures left { IfOk result (λ report. LeavesFilesOfTree self.now plan.now.0
+        requires least { IsLeastPlan self.now plan.now.assignment plan.now.code }
+        ensures left { IfOk result (λ report. LeavesFilesOfTree self.now plan.now.assignment
             (T.is_honest tree.new) (D.is_honest a.new) (D.is_honest b.new) (T.content tree.old)
             (D.content a.new) (D.content b.new) report) }
         ensures refused { IfErr result (λ e. IsTreeFaultBeforeText self.now (T.is_honest tree.new)

@@ -32,8 +32,8 @@ impl Translator {
         a: &mut D,
         b: &mut D,
     ) -> Result<Report, Fault>
-        requires least { IsLeastPlan self.now plan.now.0 plan.now.1 }
-        ensures left { IfOk result (λ report. LeavesFiles self.now sentence.now plan.now.0
+        requires least { IsLeastPlan self.now plan.now.assignment plan.now.code }
+        ensures left { IfOk result (λ report. LeavesFiles self.now sentence.now plan.now.assignment
             (D.is_honest a.new) (D.is_honest b.new) (D.content a.new) (D.content b.new) report) }
         ensures refused { IfErr result (λ e. IsFaultBeforeText self.now sentence.now
             (D.is_honest a.new) (D.is_honest b.new) e) }
@@ -70,9 +70,9 @@ impl Translator {
         a: &mut D,
         b: &mut D,
     ) -> Result<Text, OutFault>
-        requires plan { IsPlan self.now plan.now.0 plan.now.1 }
+        requires plan { IsPlan self.now plan.now.assignment plan.now.code }
         ensures root { WhenHonest (D.is_honest a.new) (WhenHonest (D.is_honest b.new)
-            (MatchesRoot self.now plan.now.0
+            (MatchesRoot self.now plan.now.assignment
             (last_content last (D.content a.old) (D.content b.old)) result)) }
         ensures well { IfOk result IsWellText }
         ensures a_content { LeavesContent (D.is_honest a.new) (D.content a.old) (D.content a.new) }

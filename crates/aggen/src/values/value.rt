@@ -102,7 +102,7 @@ fn value_of(alloc: Global, text: &str) -> Result<Value, Fault>
 /// Returns the expression of a text, which has no occurrences. Fails as `value_of` does.
 fn read_closed(alloc: Global, text: &str) -> Result<Expr, Fault>
     ensures reads { IfOk result (λ expr. ReadsAsExpr text.now expr) }
-    ensures closed { IfOk result (λ expr. expr.1 ≡ []) }
+    ensures closed { IfOk result (λ expr. expr.occurrences ≡ []) }
     ensures kind { IfErr result IsTextFault }
     ensures refused { IfErr result (λ e. IsExprFault e → HasNoValue text.now) }
     ensures offsets { IfErr result (IsExplained text.now) }
@@ -117,7 +117,7 @@ fn read_closed(alloc: Global, text: &str) -> Result<Expr, Fault>
 
 /// Returns the offset in bytes of the first occurrence in an expression, if it has one.
 fn first_occurrence(expr: &Expr) -> Option<usize>
-    ensures { result ≡ first_offset expr.now.1 }
+    ensures { result ≡ first_offset expr.now.occurrences }
 {
     match occurrences(expr) {
         [first, ..] => Some(first.at),

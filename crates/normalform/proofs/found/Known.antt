@@ -88,12 +88,12 @@ module _ (raw : RawGrammar) (q : RawProduction) where
 
   -- a rule whose names are known is named
   rule_named : (r : RawRule) → first_wrong (rule_checks (symbols raw) (places raw q) r) ≡ None
-      → is_below (length r.expr.1) r.expr.0 ≡ true
+      → is_below (length r.expr.occurrences) r.expr.tree ≡ true
       → IsNamedRule (numbered raw) (produces raw q) (rule_of (symbols raw) (places raw q) r)
-  rule_named r h listed = let w = both_right (check r.target ∷ []) (map check r.expr.1) h in record {
+  rule_named r h listed = let w = both_right (check r.target ∷ []) (map check r.expr.occurrences) h in record {
     target = some_kind raw q r.target (is_right (check r.target) w.0);
     listed = listed;
-    arguments = related r.expr.1 (map_each check r.expr.1 w.1);
+    arguments = related r.expr.occurrences (map_each check r.expr.occurrences w.1);
   }
 
   found_there : (o : Occ) → RefersTo (numbered raw) (produces raw q) o (target o) → IsKnown o
@@ -105,10 +105,10 @@ module _ (raw : RawGrammar) (q : RawProduction) where
   named_rule : (r : RawRule) → IsNamedRule (numbered raw) (produces raw q) (rule_of (symbols raw) (places raw q) r)
       → first_wrong (rule_checks (symbols raw) (places raw q) r) ≡ None
   named_rule r named =
-      together (check r.target ∷ []) (map check r.expr.1)
+      together (check r.target ∷ []) (map check r.expr.occurrences)
       (right_is (check r.target) (named_there raw q r.target named.target.0 named.target.1))
-      (each_map check r.expr.1
-      (λ i o e. found_there o (named.arguments.each i o (target o) e (at_mapped target r.expr.1 i o e))))
+      (each_map check r.expr.occurrences
+      (λ i o e. found_there o (named.arguments.each i o (target o) e (at_mapped target r.expr.occurrences i o e))))
 
 name_right : (ss : List Symbol) (name : Named) → number_in (declared_names ss) name.name < length ss
     → first_wrong (name_check (declared_names ss) name ∷ []) ≡ None
@@ -125,15 +125,15 @@ lefts_known raw h = each_mapped _ _ _ (λ i q e.
 
 -- rules are named
 pub rules_named : (raw : RawGrammar) → first_wrong (unknown_checks (symbols raw) raw.productions) ≡ None
-    → Each (λ q. Each (λ r. is_below (length r.expr.1) r.expr.0 ≡ true) q.rules) (numbered raw).productions
+    → Each (λ q. Each (λ r. is_below (length r.expr.occurrences) r.expr.tree ≡ true) q.rules) (numbered raw).productions
     → Each (λ q. Each (IsNamedRule (numbered raw) q) q.rules) (numbered raw).productions
 rules_named raw h listed = each_mapped (produces raw) (λ q. Each (IsNamedRule (numbered raw) q) q.rules) raw.productions (λ p q e.
     let parts = unknown_parts (symbols raw) q (flat_each (unknown_in (symbols raw)) raw.productions h p q e) in
     each_mapped (rule_of (symbols raw) (placed (symbols raw) q)) (IsNamedRule (numbered raw) (produces raw q)) q.rules (λ i r f.
     rule_named raw q r (flat_each (rule_checks (symbols raw) (placed (symbols raw) q)) q.rules parts.2 i r f)
-    (mapped_each (rule_of (symbols raw) (placed (symbols raw) q)) (λ s. is_below (length s.expr.1) s.expr.0 ≡ true) q.rules
-    (mapped_each (produces raw) (λ s. Each (λ r. is_below (length r.expr.1) r.expr.0 ≡ true) s.rules) raw.productions listed p q
-    e) i r f)))
+    (mapped_each (rule_of (symbols raw) (placed (symbols raw) q)) (λ s. is_below (length s.expr.occurrences) s.expr.tree ≡ true)
+    q.rules (mapped_each (produces raw) (λ s. Each (λ r. is_below (length r.expr.occurrences) r.expr.tree ≡ true) s.rules)
+    raw.productions listed p q e) i r f)))
 
 -- the names of a named grammar are known
 item_right : (raw : RawGrammar) (x : RawItem)

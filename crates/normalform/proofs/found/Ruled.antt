@@ -234,16 +234,16 @@ module _ (raw : RawGrammar) (q : RawProduction) where
   IsUsed o = HasKind (numbered raw) (produces raw q) o (used_kind o.place)
 
   abbrev used_checks : RawRule → List Check
-  used_checks r = map (used_check (symbols raw) (places raw q)) r.expr.1
+  used_checks r = map (used_check (symbols raw) (places raw q)) r.expr.occurrences
 
   pub arguments_found : first_wrong (not_normal_in (symbols raw) q) ≡ None → IsNormal (numbered raw) (produces raw q)
   arguments_found h = each_mapped made (λ r. Each IsUsed r.args) q.rules (λ i r e. each_mapped _ _ _ (λ j o f.
-      kind_has raw q _ _ (map_each (used_check (symbols raw) (places raw q)) r.expr.1
+      kind_has raw q _ _ (map_each (used_check (symbols raw) (places raw q)) r.expr.occurrences
       (flat_each used_checks q.rules h i r e) j o f)))
 
   pub found_arguments : IsNormal (numbered raw) (produces raw q) → first_wrong (not_normal_in (symbols raw) q) ≡ None
   found_arguments h =
-      each_flat used_checks q.rules (λ i r e. each_map (used_check (symbols raw) (places raw q)) r.expr.1 (λ j o f.
+      each_flat used_checks q.rules (λ i r e. each_map (used_check (symbols raw) (places raw q)) r.expr.occurrences (λ j o f.
       let t = target_of (symbols raw) (places raw q) o in
       has_its_kind raw q t (used_kind t.place)
       (mapped_each _ IsUsed _ (mapped_each made (λ s. Each IsUsed s.args) q.rules h i r e) j o f)))

@@ -104,7 +104,7 @@ items_named raw readable h = each_mapped _ _ _ (λ p q e.
     each_mapped _ _ _ (λ i x f. item_named raw p q i x e f (readable p q e i x f) (flat_each _ _ parts.1 i x f)))
 
 abbrev AreListed : RawGrammar → Type 0
-AreListed raw = Each (λ q. Each (λ r. is_below (length r.expr.1) r.expr.0 ≡ true) q.rules) (numbered raw).productions
+AreListed raw = Each (λ q. Each (λ r. is_below (length r.expr.occurrences) r.expr.tree ≡ true) q.rules) (numbered raw).productions
 
 named : (raw : RawGrammar) → IsReadable raw → AreListed raw → first_wrong (naming_checks raw) ≡ None → IsNamed (numbered raw)
 named raw readable listed h = let parts = naming_parts raw h in record {
@@ -288,7 +288,7 @@ each_of : {X : Type 0} (P : X → Type 0) (xs : List X) → All P xs → Each P 
 each_of P xs all i x e = subst P (get_or_from_slice_get xs i x x e) (all i x (slice_get_within xs i x e))
 
 listed_each : (qs : List Production) → All AreListedIn qs
-    → Each (λ q. Each (λ r. is_below (length r.expr.1) r.expr.0 ≡ true) q.rules) qs
+    → Each (λ q. Each (λ r. is_below (length r.expr.occurrences) r.expr.tree ≡ true) q.rules) qs
 listed_each qs all i q e = each_of IsListed q.rules (each_of AreListedIn qs all i q e)
 
 -- the grammar that is made of the numbered parts is accepted

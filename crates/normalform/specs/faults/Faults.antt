@@ -66,7 +66,7 @@ occurrence_check ss items o = (fault.UnknownName o.at, list_any (bytes_eq o.attr
 
 -- N1. The checks of a rule: of its target, then of the occurrences in its expression.
 abbrev pub rule_checks : List Symbol → List Item → RawRule → List Check
-rule_checks ss items r = occurrence_check ss items r.target ∷ map (occurrence_check ss items) r.expr.1
+rule_checks ss items r = occurrence_check ss items r.target ∷ map (occurrence_check ss items) r.expr.occurrences
 
 -- N1. The checks of a production: of its left side, then of its items, then of its rules.
 abbrev pub unknown_in : List Symbol → RawProduction → List Check
@@ -210,7 +210,7 @@ used_check ss items o = let t = target_of ss items o in (fault.NotNormal o.at, h
 
 -- N9. The checks of the rules of a production.
 abbrev pub not_normal_in : List Symbol → RawProduction → List Check
-not_normal_in ss q = flat_map (λ r. map (used_check ss (placed ss q)) r.expr.1) q.rules
+not_normal_in ss q = flat_map (λ r. map (used_check ss (placed ss q)) r.expr.occurrences) q.rules
 
 -- all checks of N9
 abbrev pub not_normal : List Symbol → List RawProduction → List Check
@@ -302,7 +302,7 @@ IsReadable raw = Each (λ q. Each IsReadableItem q.items) raw.productions
 
 -- each occurrence in a rule's expression is in the expression's list of occurrences, and the expression has no unbound name
 abbrev pub IsListed : Rule → Type 0
-IsListed r = is_below (length r.expr.1) r.expr.0 ≡ true
+IsListed r = is_below (length r.expr.occurrences) r.expr.tree ≡ true
 
 -- the same for each rule of a production
 abbrev pub AreListedIn : Production → Type 0

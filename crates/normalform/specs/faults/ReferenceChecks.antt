@@ -25,7 +25,7 @@ check_of_occurrence rule_check.Used ss items o = used_check ss items o
 abbrev pub checks_of_rule : RuleCheck → List Symbol → List Item → RawRule → List Check
 checks_of_rule rule_check.Known ss items r = rule_checks ss items r
 checks_of_rule rule_check.Defined ss items r = defined_check ss items r ∷ []
-checks_of_rule rule_check.Used ss items r = map (used_check ss items) r.expr.1
+checks_of_rule rule_check.Used ss items r = map (used_check ss items) r.expr.occurrences
 
 -- the checks of the rules of a production
 abbrev pub checks_of_production : RuleCheck → List Symbol → RawProduction → List Check

@@ -78,7 +78,7 @@ fn rows_of_places(
     production: &Production,
 ) -> Result<(Items<PlaceRow>, u16), NoMemory>
     requires first { 1 ≤ setting.now.pass }
-    requires small { AreSmall (passes_of setting.now.plan.now.0) }
+    requires small { AreSmall (passes_of setting.now.plan.now.assignment) }
     requires few { length (places_of production.now) ≤ max_children + 1 }
     ensures rows { IfOk result (λ found. found.0
         ≡ place_rows (pass_setting setting.now) production.now) }
@@ -112,10 +112,10 @@ fn rows_of_places(
 /// Returns the slot of an argument in a pass: among the node's own values, or among the copies.
 #[tactic(auto, using(crate::proofs::places::Found::item_found, crate::proofs::places::Found::start_found))]
 fn argument_slot(setting: &Setting<'_>, places: &[PlaceRow], argument: Target) -> u16
-    requires small { AreSmall (passes_of setting.now.plan.now.0) }
+    requires small { AreSmall (passes_of setting.now.plan.now.assignment) }
     requires starts { start_in places.now argument.place ≤ max_width }
     requires place { argument.place < length places.now }
-    ensures { result ≡ argument_slot_by (passes_of setting.now.plan.now.0) setting.now.pass
+    ensures { result ≡ argument_slot_by (passes_of setting.now.plan.now.assignment) setting.now.pass
         places.now argument }
 {
     let row = places[argument.place as usize];
@@ -126,10 +126,10 @@ fn argument_slot(setting: &Setting<'_>, places: &[PlaceRow], argument: Target) -
 /// begins after them.
 #[tactic(auto, using(crate::proofs::places::Found::item_found))]
 fn target_slot(setting: &Setting<'_>, width: u16, places: &[PlaceRow], target: Target) -> u16
-    requires small { AreSmall (passes_of setting.now.plan.now.0) }
+    requires small { AreSmall (passes_of setting.now.plan.now.assignment) }
     requires width { width ≤ max_width }
     requires place { target.place < length places.now }
-    ensures { result ≡ target_slot_by (passes_of setting.now.plan.now.0) setting.now.pass width
+    ensures { result ≡ target_slot_by (passes_of setting.now.plan.now.assignment) setting.now.pass width
         places.now target }
 {
     let rank = rank_of(setting, places[target.place as usize].item, target.attr);
@@ -146,11 +146,11 @@ fn argument_slots(
     places: &[PlaceRow],
     arguments: &[Target],
 ) -> Result<Items<u16>, NoMemory>
-    requires small { AreSmall (passes_of setting.now.plan.now.0) }
+    requires small { AreSmall (passes_of setting.now.plan.now.assignment) }
     requires starts { AreLow places.now }
     requires within { Each (λ (o : TheTarget). o.place < length places.now) arguments.now }
     ensures { IfOk result (λ slots. slots
-        ≡ map (argument_slot_by (passes_of setting.now.plan.now.0) setting.now.pass places.now)
+        ≡ map (argument_slot_by (passes_of setting.now.plan.now.assignment) setting.now.pass places.now)
         arguments.now) }
 {
     let mut slots = Vec::new(alloc);
@@ -168,12 +168,12 @@ fn slots_of_rules(
     places: &[PlaceRow],
     rules: &[Rule],
 ) -> Result<Items<RuleSlots>, NoMemory>
-    requires small { AreSmall (passes_of setting.now.plan.now.0) }
+    requires small { AreSmall (passes_of setting.now.plan.now.assignment) }
     requires width { width ≤ max_width }
     requires starts { AreLow places.now }
     requires within { AreWithin (length places.now) rules.now }
     ensures { IfOk result (λ slots. slots
-        ≡ map (rule_slots_by (passes_of setting.now.plan.now.0) setting.now.pass width places.now)
+        ≡ map (rule_slots_by (passes_of setting.now.plan.now.assignment) setting.now.pass width places.now)
         rules.now) }
 {
     let mut slots = Vec::new(alloc);
@@ -219,7 +219,7 @@ fn row_of_production(
     production: &Production,
 ) -> Result<ProductionRow, NoMemory>
     requires first { 1 ≤ setting.now.pass }
-    requires small { AreSmall (passes_of setting.now.plan.now.0) }
+    requires small { AreSmall (passes_of setting.now.plan.now.assignment) }
     requires few { length (places_of production.now) ≤ max_children + 1 }
     requires within { AreWithin (length (places_of production.now)) production.now.rules }
     ensures { IfOk result (λ row. row
@@ -250,7 +250,7 @@ fn row_of_production(
 /// argument of a rule. For the hints, it reads for each rule of an earlier pass at most the whole
 /// expression, and the slots of one row.
 pub fn build_layout(alloc: Global, setting: &Setting<'_>) -> Result<Layout, NoMemory>
-    requires plan { IsPlan setting.now.grammar.now setting.now.plan.now.0 setting.now.plan.now.1 }
+    requires plan { IsPlan setting.now.grammar.now setting.now.plan.now.assignment setting.now.plan.now.code }
     requires first { 1 ≤ setting.now.pass }
     ensures layouts { IfOk result (λ l. l.productions ≡ layout_of (pass_setting setting.now)) }
     ensures accepted { IsAccepted setting.now.grammar.now }

@@ -21,7 +21,7 @@ use std::alloc::Global;
 /// Returns the passes of a symbol's attributes; empty if the plan does not have the symbol. (The
 /// method `rows` returns these passes by symbol, not rows of values.)
 pub fn passes_at(plan: &Plan, symbol: u16) -> &[u16]
-    ensures { result.now ≡ passes_of plan.now.0 symbol }
+    ensures { result.now ≡ passes_of plan.now.assignment symbol }
 {
     let rows = plan.assignment().rows();
     if (symbol as usize) < rows.len() {
@@ -34,7 +34,7 @@ pub fn passes_at(plan: &Plan, symbol: u16) -> &[u16]
 /// Returns the passes of a symbol's synthesized attributes, which come before its inherited ones;
 /// empty if the grammar or the plan does not have the symbol.
 pub fn synthesized_at<'a>(grammar: &Grammar, plan: &'a Plan, symbol: u16) -> &'a [u16]
-    ensures { result.now ≡ synthesized_passes grammar.now (passes_of plan.now.0) symbol }
+    ensures { result.now ≡ synthesized_passes grammar.now (passes_of plan.now.assignment) symbol }
 {
     let passes = passes_at(plan, symbol);
     let symbols = grammar.symbols();
@@ -121,7 +121,7 @@ pub fn row_passes(
 /// setting's pass.
 pub fn copied_width(setting: &Setting<'_>, item: Item) -> usize
     ensures width { result ≡ copied_width (pass_setting setting.now) item }
-    ensures room { AreSmall (passes_of setting.now.plan.now.0) → result ≤ max_attributes }
+    ensures room { AreSmall (passes_of setting.now.plan.now.assignment) → result ≤ max_attributes }
 {
     row_length(copied_passes(setting, item), setting.pass)
 }
@@ -131,7 +131,7 @@ pub fn copied_width(setting: &Setting<'_>, item: Item) -> usize
 pub fn known_width(setting: &Setting<'_>, item: Item) -> usize
     requires { 1 ≤ setting.now.pass }
     ensures width { result ≡ known_width (pass_setting setting.now) item }
-    ensures room { AreSmall (passes_of setting.now.plan.now.0) → result ≤ max_attributes }
+    ensures room { AreSmall (passes_of setting.now.plan.now.assignment) → result ≤ max_attributes }
 {
     row_length(copied_passes(setting, item), setting.pass - 1)
 }
@@ -139,9 +139,9 @@ pub fn known_width(setting: &Setting<'_>, item: Item) -> usize
 /// Returns the index of an attribute's value in the row of an item's node or token, in the
 /// setting's pass.
 pub fn rank_of(setting: &Setting<'_>, item: Item, attr: u16) -> u16
-    requires small { AreSmall (passes_of setting.now.plan.now.0) }
+    requires small { AreSmall (passes_of setting.now.plan.now.assignment) }
     ensures rank { result ≡ rank setting.now.pass
-        (item_passes (passes_of setting.now.plan.now.0) (Some item)) attr }
+        (item_passes (passes_of setting.now.plan.now.assignment) (Some item)) attr }
     ensures room { result ≤ max_attributes }
 {
     match item {

@@ -84,14 +84,15 @@ module _ (g : Grammar) (accepted : IsAccepted g) (p : ℕ) (q : Production) (at 
       few (λ r. r.target) q.rules (accepted.complete p q at).single
       (λ i r e. small_parts r.target (defined_kind r.target.place) ((accepted.complete p q at).no_other i r e))
 
-  pub few_arguments : (r : Rule) → IsRule q r → AreDifferent r.expr.1 → length r.args ≤ 65536
+  pub few_arguments : (r : Rule) → IsRule q r → AreDifferent r.expr.occurrences → length r.args ≤ 65536
   few_arguments r is different =
       few (λ o. o) r.args single (λ i o e. small_parts o (used_kind o.place) (accepted.normal p q at is.0 r is.1 i o e))
     where
-      named : (i : ℕ) (x : Occ) (o : Target) → slice_get r.expr.1 i ≡ Some x → slice_get r.args i ≡ Some o → RefersTo g q x o
+      named : (i : ℕ) (x : Occ) (o : Target) → slice_get r.expr.occurrences i ≡ Some x → slice_get r.args i ≡ Some o
+          → RefersTo g q x o
       named = (accepted.named.rules_named p q at is.0 r is.1).arguments.each
 
-      long : length r.expr.1 ≡ length r.args
+      long : length r.expr.occurrences ≡ length r.args
       long = (accepted.named.rules_named p q at is.0 r is.1).arguments.equally_long
 
       -- occurrences at two indices are of different attributes
@@ -99,10 +100,10 @@ module _ (g : Grammar) (accepted : IsAccepted g) (p : ℕ) (q : Production) (at 
       apart i j o w less e f same =
           let within = slice_get_within r.args j w f in
           let d : Occ = record { place = 0; attr = []; at = 0 } in
-          let x = get_or r.expr.1 i d in
-          let y = get_or r.expr.1 j d in
-          let first = named i x o (slice_get-get_or r.expr.1 i d (omega (arith, long))) e in
-          let second = named j y w (slice_get-get_or r.expr.1 j d (omega (arith, long))) f in
+          let x = get_or r.expr.occurrences i d in
+          let y = get_or r.expr.occurrences j d in
+          let first = named i x o (slice_get-get_or r.expr.occurrences i d (omega (arith, long))) e in
+          let second = named j y w (slice_get-get_or r.expr.occurrences j d (omega (arith, long))) f in
           let places : x.place ≡ y.place = cc in
           let names : Some x.attr ≡ Some y.attr = cc in
           let attrs : x.attr ≡ y.attr = cc in

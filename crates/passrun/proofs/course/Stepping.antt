@@ -1,8 +1,8 @@
 -- One more pass, alternating between two devices.
 use Rattle.passrun.proofs.Common
 use Common.{◌≡◌, ℕ, suc, ◌+◌, ◌-◌, ◌<◌, ◌≤◌, Bool, inl, inr, List, Result, Ok, Err, refl, arith, OnErr, OnOk, cases_lt}
-use Common.{IsAccepted, Grammar, IsLegal, Passes, node_count, IsGreatest, passes_of, Lists, setting_of, Persists, WhenHonest}
-use Common.{RunsPass, RunsPasses, version_two, Passed, Last, A, B, RunFault, IsRunFault, CountsPass}
+use Common.{IsAccepted, Grammar, IsLegal, Passes, node_count, IsGreatest, passes_of, setting_of, Persists, WhenHonest}
+use Common.{EvaluationPlan, RunsPass, RunsPasses, version_two, Passed, Last, A, B, RunFault, IsRunFault, CountsPass}
 use Rattle.std.proofs.Math.Nat.{suc-mul}
 use Rattle.treefile.specs.framing.Beginning.{BeginsFile, LeavesBeginning}
 use Rattle.treefile.proofs.Run.{goes_on_run, starts_run}
@@ -64,35 +64,35 @@ all_starts {g} {m} {k} {a} {b} same fresh =
     })
 
 -- After pass `last` one more pass ran, pass n, from the device with the last file to the other.
-module _ {g : Grammar} (plan : List (List ℕ) × Lists) {k last n : ℕ} {start a b a_new b_new : List ℕ} {which : Last}
-    {evals more : ℕ} {sum : Passed} (passed : Passed) (accepted : IsAccepted g) (legal : IsLegal g (passes_of plan.0))
-    (le : k ≤ last) (is : n ≡ suc last) (before : HasRunAll g (passes_of plan.0) k last start which a b evals sum)
+module _ {g : Grammar} (plan : EvaluationPlan) {k last n : ℕ} {start a b a_new b_new : List ℕ} {which : Last}
+    {evals more : ℕ} {sum : Passed} (passed : Passed) (accepted : IsAccepted g) (legal : IsLegal g (passes_of plan.assignment))
+    (le : k ≤ last) (is : n ≡ suc last) (before : HasRunAll g (passes_of plan.assignment) k last start which a b evals sum)
     (step : IsPassedOn (setting_of g plan n) which a b a_new b_new passed.nodes more) (read : passed.read ≡ passed.nodes)
     (written : passed.written ≡ passed.nodes) where
-  exact : RunsPass version_two g (passes_of plan.0) last (last_content which a b) (other_content which a_new b_new)
-      × CountsPass g (passes_of plan.0) last (last_content which a b) passed.nodes more
+  exact : RunsPass version_two g (passes_of plan.assignment) last (last_content which a b) (other_content which a_new b_new)
+      × CountsPass g (passes_of plan.assignment) last (last_content which a b) passed.nodes more
   exact =
       let here : n - 1 ≡ last = omega arith in
       rw (← here)
       (passes_are_recorded g plan n (last_content which a b) (other_content which a_new b_new) passed.nodes more accepted legal
       (omega arith) step.passed)
 
-  runs_on : RunsPasses version_two g (passes_of plan.0) k (suc last) start (last_content (other_last which) a_new b_new)
+  runs_on : RunsPasses version_two g (passes_of plan.assignment) k (suc last) start (last_content (other_last which) a_new b_new)
       (other_content (other_last which) a_new b_new)
   runs_on =
       rw (turned_last, turned_other, step.kept)
-      (goes_on_run version_two g (passes_of plan.0) k last start (last_content which a b) (other_content which a b)
+      (goes_on_run version_two g (passes_of plan.assignment) k last start (last_content which a b) (other_content which a b)
       (other_content which a_new b_new) legal le before.runs exact.0)
 
-  counts_on : CountsPasses g (passes_of plan.0) k (suc last - k) start (evals + more) (one_more sum passed)
+  counts_on : CountsPasses g (passes_of plan.assignment) k (suc last - k) start (evals + more) (one_more sum passed)
   counts_on =
       let here : k + (last - k) ≡ last = omega arith in
       let there : suc last - k ≡ suc (last - k) = omega arith in
       rw there
-      (counts_go_on g (passes_of plan.0) k (last - k) evals more start (last_content which a b)
+      (counts_go_on g (passes_of plan.assignment) k (last - k) evals more start (last_content which a b)
       (other_content which a b) sum passed (rw here before.runs) before.counts (rw here exact.1) read written)
 
-  held_on : k < suc last → HoldsTree g (passes_of plan.0) k start
+  held_on : k < suc last → HoldsTree g (passes_of plan.assignment) k start
   held_on less = elim (cases_lt k last) [
     | inl before_it ↦ before.held before_it
     | inr none ↦ (
@@ -104,7 +104,7 @@ module _ {g : Grammar} (plan : List (List ℕ) × Lists) {k last n : ℕ} {start
   ]
 
   pub all_goes_on : {total : ℕ} {which_now : Last} {sum_now : Passed} → total ≡ evals + more → which_now ≡ other_last which
-      → sum_now ≡ one_more sum passed → HasRunAll g (passes_of plan.0) k n start which_now a_new b_new total sum_now
+      → sum_now ≡ one_more sum passed → HasRunAll g (passes_of plan.assignment) k n start which_now a_new b_new total sum_now
   all_goes_on f h i = rw (is, f, h, i) (record {
     runs = runs_on;
     counts = counts_on;
@@ -113,9 +113,9 @@ module _ {g : Grammar} (plan : List (List ℕ) × Lists) {k last n : ℕ} {start
     nothing = λ e. absurd (omega arith);
   })
 
-pub all_refused : {g : Grammar} (plan : List (List ℕ) × Lists) (first : ℕ) {last n : ℕ} {start a b : List ℕ} {which : Last}
+pub all_refused : {g : Grammar} (plan : EvaluationPlan) (first : ℕ) {last n : ℕ} {start a b : List ℕ} {which : Last}
     {evals : ℕ} {sum : Passed} → n ≡ suc last → 1 ≤ first → first - 1 ≤ last
-    → HasRunAll g (passes_of plan.0) (first - 1) last start which a b evals sum → (f : RunFault)
+    → HasRunAll g (passes_of plan.assignment) (first - 1) last start which a b evals sum → (f : RunFault)
     → IsRunFault (setting_of g plan n) (last_content which a b) f → IsRunFault (setting_of g plan first) start f
 all_refused {g} plan first {last} {n} {start} {a} {b} {which} is positive le h f fault = elim (cases_lt (first - 1) last) [
   | inl some ↦ (

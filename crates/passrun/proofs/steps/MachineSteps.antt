@@ -8,8 +8,8 @@ use Common.{slice_get-get_or, slice_get_within, drop_at, length-reverse, reverse
 use Common.{Item, Production, Rule, Literal, Class, Target, IsArgument, IsProduction, item_at, stored_items, value_of, Node}
 use Common.{Token, LeavesContent, values_up_to, BackState, Setting, IsSound, PlaceRow, ProductionRow, RuleSlots, Machine}
 use Common.{OpenNode, HasFetched, AreSlotsOf, IsRowAt, IsRowOf, after_step, ContinuesAs, IsConsistent, copied_passes, copies}
-use Common.{RootPath, kept_values, HasPut, Agrees, IsRead, read_values, Runs, World, Preserves, any_world}
-use Common.{RunsRuleNext, first_device, meter_at, second_device, stack_of}
+use Common.{RootPath, kept_values, HasPut, Agrees, IsRead, read_values, Runs, World, Preserves, unknown_world}
+use Common.{RunsRuleNext, with_first_device, with_meter, with_second_device, stack_of}
 use Common.{argument_slot, copied_width, copy_start, known_width, target_slot, count_of_values, place_is, place_within}
 use Common.{slots_found, some_at, empty_is}
 use Common.item
@@ -141,7 +141,7 @@ pub record Giver (c : Setting) (m : Machine) (x : OpenNode) (r : ℕ) (q : Produ
   pub numbered : slice_get q.rules r ≡ Some u
   pub within : x.base + target_slot c q u.target.place u.target.attr < length m.values.items
   pub arguments : HasArguments c x q u m.values.items
-  pub occurrences : length u.expr.1 ≡ length u.args
+  pub occurrences : length u.expr.occurrences ≡ length u.args
 
 -- The slots of a rule's target and arguments, as the code finds them.
 pub are_slots : {c : Setting} {m : Machine} {x : OpenNode} {r : ℕ} {q : Production} {u : Rule} {row : ProductionRow}
@@ -152,7 +152,7 @@ are_slots h is same at = slots_found _ _ _ _ _ _ _ _ is h.numbered same at
 pub entered : {c : Setting} {m : Machine} {x child : OpenNode} {waiting : RootPath} {values : List Value}
     → waiting.root ≡ m.waiting.root → values ≡ m.values.items
     → ContinuesAs c m.waiting.root (x ∷ reverse m.waiting.nodes) values (child ∷ reverse waiting.nodes) values
-    → Preserves c any_world any_world m (record m { waiting = waiting }) (Some x) (Some child)
+    → Preserves c unknown_world unknown_world m (record m { waiting = waiting }) (Some x) (Some child)
 entered same vs goes w r = gone_runs r same (rw vs at goes)
 
 module _ {c : Setting} where
@@ -252,7 +252,7 @@ module _ {c : Setting} (sound : IsSound c) where
       → HasAgreed c q x j row.item read (read_values c row.item p h.body m.values.items read h.taken))
       → values.items ≡ kept_values row.item m.values.items read → (honest' ≡ true → honest ≡ true)
       → LeavesContent honest' content content' → next ≡ after_step x p
-      → Preserves c (first_device honest content) (first_device honest' content')
+      → Preserves c (with_first_device honest content) (with_first_device honest' content')
       m (record m { back = back; values = values }) (Some x) (Some next)
   got_leads {m} {p = p} {row = row} {read = read} at is h count agreed kept before leaves on rest r =
       let i = got_place r at is in
@@ -273,7 +273,7 @@ module _ {c : Setting} (sound : IsSound c) where
       → row.item ≡ item.Terminal t → text ≡ take 1 (drop (x.base + row.start) m.values.items)
       → HasPut Token x.child text honest' content content' m.writer out → (honest' ≡ true → honest ≡ true)
       → next ≡ after_step x x.child
-      → Preserves c (second_device honest content) (second_device honest' content')
+      → Preserves c (with_second_device honest content) (with_second_device honest' content')
       m (record m { writer = out }) (Some x) (Some next)
   put_leads {m} {x = x} {j = j} t at is token text_is h before on rest r =
       let i = put_is r at is in
@@ -304,7 +304,7 @@ module _ {c : Setting} (sound : IsSound c) where
       → (honest' ≡ true → honest ≡ true)
       → values.items ≡ take from m.values.items
       ++ (take row.width (drop x.base m.values.items) ++ drop (from + row.width) (take x.base m.values.items))
-      → Preserves c (second_device honest content) (second_device honest' content') m
+      → Preserves c (with_second_device honest content) (with_second_device honest' content') m
       (record m { writer = out; values = values; waiting = waiting }) (Some x) (Some y)
   ended_leads {m} {waiting = waiting} {x} {y} {row} {from = from} at same pushed is from_is put_is' h before vs rest r =
       let xs = m.values.items in
@@ -383,10 +383,10 @@ module _ {c : Setting} (sound : IsSound c) where
   pub rule_leads : {m : Machine} {values : Vec Value} {x next : OpenNode} {meter meter' : ℕ} (rule : ℕ) {q : Production}
       {u : Rule} {slots : RuleSlots} (spare : Value) {v : Value}
       → RunsRuleNext c x rule → IsProduction c.grammar x.production q → slice_get q.rules rule ≡ Some u → AreSlotsOf c q u slots
-      → v ≡ value_of u.expr.0 (λ k. get_or (drop x.base m.values.items) (slice_index slots.args k) spare) → IsWell v
+      → v ≡ value_of u.expr.tree (λ k. get_or (drop x.base m.values.items) (slice_index slots.args k) spare) → IsWell v
       → values.items ≡ set m.values.items (x.base + slots.target) v
       → meter' ≡ meter + 1 → next ≡ after_step x x.child
-      → Preserves c (meter_at meter) (meter_at meter') m (record m { values = values }) (Some x) (Some next)
+      → Preserves c (with_meter meter) (with_meter meter') m (record m { values = values }) (Some x) (Some next)
   rule_leads {m} {x = x} {meter = meter} {meter'} rule {slots = slots} spare {v}
       (j, a, z, giving, at) there num are is well vs count on rest r =
       let b = r.begun in

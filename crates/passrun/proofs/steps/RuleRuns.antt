@@ -38,7 +38,7 @@ module _ {c : Setting} (sound : IsSound c) where
   pub open_after_rule : {entry : Entry} {level p : ℕ} {q : Production} {state : State} {e : Table} {ts : Forest}
       {ws : ℕ → Valuation} {new : Transcript} {j a r : ℕ} (v : Value)
       → (g : MayCompute c.passes q c.write state j a r)
-      → ((env : ℕ → Value) → Supplies g.rule e env → v ≡ value_of g.rule.expr.0 env) → IsPlaced c q state j
+      → ((env : ℕ → Value) → Supplies g.rule e env → v ≡ value_of g.rule.expr.tree env) → IsPlaced c q state j
       → IsOpenNode c entry level p q state e ts ws new
       → IsOpenNode c entry level p q (record state { done = r ∷ state.done }) (set e j a v) ts ws new
   open_after_rule {entry} {level} {p} {q} {state} {e} {ts} {ws} {new} {j} {a} {r} v g is placed is_open =

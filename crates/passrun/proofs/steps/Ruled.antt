@@ -21,7 +21,7 @@ use Rattle.passrun.proofs.places.Tables.{body_same, set_here, set_other}
 
 -- A rule has as many occurrences as arguments.
 pub rule_named : (c : Setting) → IsSound c → (p r : ℕ) (q : Production) (u : Rule) → IsProduction c.grammar p q
-    → slice_get q.rules r ≡ Some u → (length u.expr.1 ≡ length u.args)
+    → slice_get q.rules r ≡ Some u → (length u.expr.occurrences ≡ length u.args)
 rule_named c sound p r q u there num = (sound.accepted.named.rules_named p q there r u num).arguments.equally_long
 
 -- The row of the child that was read last, after one of its values was replaced.
@@ -172,7 +172,7 @@ module _ {c : Setting} (sound : IsSound c) where
       {now : ℕ} {todo : Pending} {j a r : ℕ} {v : Value} {z : Instr} {q0 : Production} {u0 : Rule} {slots : RuleSlots}
       → IsGivingOf j a r z → IsNext c x z → IsProduction c.grammar x.production q0
       → slice_get q0.rules r ≡ Some u0 → AreSlotsOf c q0 u0 slots
-      → v ≡ value_of u0.expr.0 (λ k. get_or (drop x.base values) (slice_index slots.args k) spare)
+      → v ≡ value_of u0.expr.tree (λ k. get_or (drop x.base values) (slice_index slots.args k) spare)
       → new ≡ set values (x.base + slots.target) v
       → RunInvariant c root (x ∷ xs) values t now todo → RunInvariant c root (after_step x x.child ∷ xs) new t (now + 1) todo
   step_give root {x} xs spare {values} {t = t} {j = j} {a} {r} {v} {z} {q0} {u0} {slots} giving at there num are0 is0 written
@@ -254,7 +254,7 @@ module _ {c : Setting} (sound : IsSound c) where
           let to : slots.target ≡ target_slot c q j a = cc (are.target, g.target) in
           omega (arith, o.base)
 
-      value_is : (env : ℕ → Value) → Supplies g.rule e env → v ≡ value_of g.rule.expr.0 env
+      value_is : (env : ℕ → Value) → Supplies g.rule e env → v ≡ value_of g.rule.expr.tree env
       value_is env lends =
           let lent : ℕ → Value = λ k. get_or prefix (slice_index slots.args k) spare in
           let dropped : drop x.base values ≡ prefix = cc (drop_at entry.under prefix x.base (sym o.base)) in

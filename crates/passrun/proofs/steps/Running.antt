@@ -4,7 +4,7 @@ use Common.{Vec, flat_map, ℕ, ◌≡◌, ◌-◌, ◌≤◌, Bool, true, List,
 use Common.{append_assoc, append-nil, length-append, All-append, Value, IsWell, Item, stored_items, Pending, before_frame}
 use Common.{LeavesContent, WhenHonest, values_up_to, body_of, frame, header, version_two, reads_on, values_well, BackState}
 use Common.{Setting, Machine, OpenNode, AreRecords, source, HasFetched, ContinuesAs, RunInvariant, copies, kept_values, HasPut}
-use Common.{copies_well, IsNodeRead, RootPath, Runs, World, first_device, second_device, meter_at, stack_of}
+use Common.{copies_well, IsNodeRead, RootPath, Runs, World, with_first_device, with_second_device, with_meter, stack_of}
 use Common.item
 use Common.writing
 use Rattle.std.proofs.lemmas.Grind.{flat_map-append}
@@ -48,7 +48,7 @@ module _ {c : Setting} {w : World} {m : Machine} {node : Option OpenNode} (r : R
   pub still_runs : {meter : ℕ} {values : Vec Value} {waiting : RootPath} {next : Option OpenNode}
       → RunInvariant c waiting.root (stack_of next waiting.nodes) values.items r.transcript (meter - m.begun) r.todo
       → All IsWell values.items → m.begun ≤ meter
-      → Runs c (meter_at meter (w.first, w.second)) (record m { values = values; waiting = waiting }) next
+      → Runs c (with_meter meter (w.first, w.second)) (record m { values = values; waiting = waiting }) next
   still_runs invariant well begun =
       record {
         transcript = r.transcript;
@@ -86,7 +86,7 @@ module _ {c : Setting} {w : World} {m : Machine} {node : Option OpenNode} (r : R
       → RunInvariant c m.waiting.root (stack_of next m.waiting.nodes) values.items
       (record { read = r.transcript.read ++ h.body ∷ []; put = r.transcript.put }) (w.meter - m.begun) todo
       → AreRecords (source c) (r.transcript.read ++ h.body ∷ []) todo
-      → Runs c (first_device honest content (w.second, w.meter)) (record m { back = back; values = values }) next
+      → Runs c (with_first_device honest content (w.second, w.meter)) (record m { back = back; values = values }) next
   read_more todo h before leaves well invariant ahead =
       let at = ap (λ g. g.at) h.progress in
       let records = ap (λ g. g.records) h.progress in
@@ -122,8 +122,8 @@ module _ {c : Setting} {w : World} {m : Machine} {node : Option OpenNode} (r : R
       → All IsWell values.items
       → RunInvariant c waiting.root (stack_of next waiting.nodes) values.items
       (record { read = r.transcript.read; put = r.transcript.put ++ body_of kind number put ∷ [] }) (w.meter - m.begun) r.todo
-      → Runs c (second_device honest content (w.first, w.meter)) (record m { writer = out; values = values; waiting = waiting })
-      next
+      → Runs c (with_second_device honest content (w.first, w.meter))
+      (record m { writer = out; values = values; waiting = waiting }) next
   put_on {kind = kind} {number = number} {put = put} h before well invariant =
       let written = ap (λ w. w.written) h.counted in
       let len = length-append r.transcript.put (body_of kind number put ∷ []) in

@@ -35,26 +35,26 @@ pub record World : Type 0 where
   pub meter : ℕ
 
 -- A world with this first device, and with the rest as given: the second device and the count of the meter.
-abbrev pub first_device : (honest : Bool) (content : List ℕ) → DeviceState × ℕ → World
-first_device honest content (second, meter) =
+abbrev pub with_first_device : (honest : Bool) (content : List ℕ) → DeviceState × ℕ → World
+with_first_device honest content (second, meter) =
     record { first = record { honest = honest; content = content }; second = second; meter = meter }
 
 -- A world with this second device, and with the rest as given: the first device and the count of the meter.
-abbrev pub second_device : (honest : Bool) (content : List ℕ) → DeviceState × ℕ → World
-second_device honest content (first, meter) =
+abbrev pub with_second_device : (honest : Bool) (content : List ℕ) → DeviceState × ℕ → World
+with_second_device honest content (first, meter) =
     record { first = first; second = record { honest = honest; content = content }; meter = meter }
 
 -- A world with this count of the meter, and with the two devices as given.
-abbrev pub meter_at : ℕ → DeviceState × DeviceState → World
-meter_at meter (first, second) = record { first = first; second = second; meter = meter }
+abbrev pub with_meter : ℕ → DeviceState × DeviceState → World
+with_meter meter (first, second) = record { first = first; second = second; meter = meter }
 
 -- The world with these two devices and this count of the meter.
 abbrev pub between : (honest : Bool) (content : List ℕ) (to_honest : Bool) (to : List ℕ) (meter : ℕ) → World
-between honest content to_honest to meter = first_device honest content (record { honest = to_honest; content = to }, meter)
+between honest content to_honest to meter = with_first_device honest content (record { honest = to_honest; content = to }, meter)
 
 -- A world of which no part is known.
-abbrev pub any_world : World → World
-any_world w = w
+abbrev pub unknown_world : World → World
+unknown_world w = w
 
 -- The invariant of a pass: the machine m runs the pass of the setting c in the world w. The node `next` continues (none if the
 -- root is done). The transcript has the bodies read and written, and agrees with the machine's reader and writer. Each body that
@@ -81,7 +81,7 @@ pub record Runs (c : Setting) (w : World) (m : Machine) (next : Option OpenNode)
   pub low : m.begun ≤ 2 ^ 63
 
 -- The machine runs in some of the worlds `parts rest`. A function's contract knows those parts of the world that the function
--- uses: `parts` sets them (as `first_device` does), and the rest may be anything.
+-- uses: `parts` sets them (as `with_first_device` does), and the rest may be anything.
 abbrev pub RunsWith : {Rest : Type 0} → Setting → (parts : Rest → World) → Machine → Option OpenNode → Type 0
 RunsWith {Rest} c parts m next = (rest : Rest) × Runs c (parts rest) m next
 

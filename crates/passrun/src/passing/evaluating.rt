@@ -83,17 +83,17 @@ pub(crate) fn put_rule_value(
     values: &mut Vec<Carried>,
     meter: &mut Meter,
 ) -> Result<(), NoMemory>
-    requires slots { length at.now.slots.now.args ≡ length at.now.rule.now.expr.1 }
+    requires slots { length at.now.slots.now.args ≡ length at.now.rule.now.expr.occurrences }
     requires well { All IsWell values.old.items }
     requires target { at.now.base + at.now.slots.now.target < length values.old.items }
     requires arguments { All (λ slot. slot < length (drop at.now.base values.old.items)) at.now.slots.now.args }
     requires not_full { meter.old < 2 ^ 64 - 1 }
     ensures value { OnOk result (values.new.items
         ≡ set values.old.items (at.now.base + at.now.slots.now.target)
-        (value_of at.now.rule.now.expr.0 (λ k. get_or (drop at.now.base values.old.items)
+        (value_of at.now.rule.now.expr.tree (λ k. get_or (drop at.now.base values.old.items)
         (slice_index at.now.slots.now.args k) (Num (pos 0))))) }
     ensures well { OnOk result (IsWell
-        (value_of at.now.rule.now.expr.0 (λ k. get_or (drop at.now.base values.old.items)
+        (value_of at.now.rule.now.expr.tree (λ k. get_or (drop at.now.base values.old.items)
         (slice_index at.now.slots.now.args k) (Num (pos 0))))) }
     ensures counted { meter.new ≡ meter.old + 1 }
 {
@@ -128,11 +128,11 @@ fn evaluate_scalar(
     values: &[Carried],
     meter: &mut Meter,
 ) -> Option<Scalar>
-    requires slots { length slots.now ≡ length expr.now.1 }
+    requires slots { length slots.now ≡ length expr.now.occurrences }
     requires within { All (λ slot. slot < length values.now) slots.now }
     requires well { All IsWell values.now }
     requires not_full { meter.old < 2 ^ 64 - 1 }
-    ensures value { IfSome result (λ s. scalar_value s ≡ value_of expr.now.0
+    ensures value { IfSome result (λ s. scalar_value s ≡ value_of expr.now.tree
         (λ k. get_or values.now (slice_index slots.now k) (Num (pos 0)))) }
     ensures counted { IfSome result (λ _. meter.new ≡ meter.old + 1) }
     ensures kept { result ≡ None → meter.new ≡ meter.old }
@@ -152,11 +152,11 @@ fn evaluate_over(
     values: &[Carried],
     meter: &mut Meter,
 ) -> Result<Carried, NoMemory>
-    requires slots { length slots.now ≡ length expr.now.1 }
+    requires slots { length slots.now ≡ length expr.now.occurrences }
     requires within { All (λ slot. slot < length values.now) slots.now }
     requires well { All IsWell values.now }
     requires not_full { meter.old < 2 ^ 64 - 1 }
-    ensures value { IfOk result (λ v. v ≡ value_of expr.now.0
+    ensures value { IfOk result (λ v. v ≡ value_of expr.now.tree
         (λ k. get_or values.now (slice_index slots.now k) (Num (pos 0)))) }
     ensures well { IfOk result (λ v. IsWell v) }
     ensures counted { meter.new ≡ meter.old + 1 }

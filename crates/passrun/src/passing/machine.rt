@@ -12,8 +12,8 @@ ghost use Rattle.passrun.specs.passing.Ahead.{IsRunFault, IsResourceFault};
 ghost use Rattle.pass_rows.specs.layouts.Contexts.{CanRun, setting};
 ghost use Rattle.pass_rows.specs.Nodes.{left_at};
 ghost use Rattle.passrun.specs.passing.Putting.{AddsFrames, LeavesFrames};
-ghost use Rattle.passrun.specs.passing.Running.{Preserves, Runs, RunsRuleNext, RunsWith};
-ghost use Rattle.passrun.specs.passing.Running.{any_world, between, first_device, meter_at, second_device};
+ghost use Rattle.passrun.specs.passing.Running.{Preserves, Runs, RunsRuleNext, RunsWith, between};
+ghost use Rattle.passrun.specs.passing.Running.{unknown_world, with_first_device, with_meter, with_second_device};
 ghost use Rattle.passrun.specs.passing.Working.{measure};
 ghost use Rattle.passcode.specs.Settings.{list_at};
 ghost use Rattle.treefile.specs.devices.Device.{LeavesContent, Persists, WhenHonest};
@@ -43,9 +43,10 @@ pub(crate) struct Machine {
     pub(crate) back: Back,
     /// The writer to the second device.
     pub(crate) writer: Writer,
-    /// The rows of all open nodes, the outermost first. After them the row of the child whose
-    /// record was read last, if the child is a node of a symbol that the pass has not entered yet.
-    /// The row of a token is removed in the step that reads it, since its text is among the copies.
+    /// The rows of all open nodes, the outermost first. The root's row stays after its last
+    /// instruction. After these rows there is the row of the child whose record was read last, if
+    /// the child is a node of a symbol that the pass has not entered yet. The row of a token is
+    /// removed in the step that reads it, since its text is among the copies.
     pub(crate) values: Vec<Carried>,
     /// The open nodes without the innermost one.
     pub(crate) waiting: OpenNodes,
@@ -61,10 +62,10 @@ pub(crate) struct StepAt<'c, 'g> {
     pub(crate) node: OpenNode,
 }
 
-/// Enters the child of `node` at a place. This child's record was read last. Returns the child's
-/// node, which becomes the innermost open node. Pushes `node` on `waiting`, with the child's place
-/// and with the instruction after its `Go` as the next one. Fails with `NoMemory` if memory cannot
-/// be allocated.
+/// Enters the child of `node` at a place: the record that was read last is this child's. Returns
+/// the child's node, which becomes the innermost open node. Pushes `node` on `waiting`, with the
+/// child's place and with the instruction after its `Go` as the next one. Fails with `NoMemory` if
+/// memory cannot be allocated.
 pub(crate) fn open_child(
     context: &PassContext<'_>,
     node: OpenNode,
@@ -105,13 +106,13 @@ impl Machine {
     ) -> Result<OpenNode, RunFault>
         requires context { CanRun context.now }
         requires runs { RunsWith (setting context.now)
-            (first_device (D.is_honest from.old) (D.content from.old)) self.old (Some node) }
+            (with_first_device (D.is_honest from.old) (D.content from.old)) self.old (Some node) }
         requires next { slice_get (list_at (setting context.now) node.production) node.at
             ≡ Some (instr.Get place) }
         requires room { node.at + 1 < 2 ^ 64 }
         ensures runs { IfOk result (λ next. Preserves (setting context.now)
-            (first_device (D.is_honest from.old) (D.content from.old))
-            (first_device (D.is_honest from.new) (D.content from.new))
+            (with_first_device (D.is_honest from.old) (D.content from.old))
+            (with_first_device (D.is_honest from.new) (D.content from.new))
             self.old self.new (Some node) (Some next)) }
         ensures production { IfOk result (λ next. next.production ≡ node.production) }
         ensures refused { IfErr result (λ f. WhenHonest (D.is_honest from.new)
@@ -161,13 +162,13 @@ impl Machine {
         to: &mut E,
     ) -> Result<OpenNode, RunFault>
         requires context { CanRun context.now }
-        requires runs { RunsWith (setting context.now) any_world self.old (Some node) }
+        requires runs { RunsWith (setting context.now) unknown_world self.old (Some node) }
         requires next { slice_get (list_at (setting context.now) node.production) node.at
             ≡ Some (instr.Put place) }
         requires room { node.at + 1 < 2 ^ 64 }
         ensures runs { IfOk result (λ next. Preserves (setting context.now)
-            (second_device (E.is_honest to.old) (E.content to.old))
-            (second_device (E.is_honest to.new) (E.content to.new))
+            (with_second_device (E.is_honest to.old) (E.content to.old))
+            (with_second_device (E.is_honest to.new) (E.content to.new))
             self.old self.new (Some node) (Some next)) }
         ensures added { OnOk result (AddsFrames (E.is_honest to.new)
             (E.content to.old) (E.content to.new)) }
@@ -204,11 +205,11 @@ impl Machine {
         meter: &mut Meter,
     ) -> Result<OpenNode, NoMemory>
         requires context { CanRun context.now }
-        requires runs { RunsWith (setting context.now) (meter_at meter.old) self.old (Some node) }
+        requires runs { RunsWith (setting context.now) (with_meter meter.old) self.old (Some node) }
         requires next { RunsRuleNext (setting context.now) node rule }
         requires room { node.at + 1 < 2 ^ 64 }
         ensures runs { IfOk result (λ next. Preserves (setting context.now)
-            (meter_at meter.old) (meter_at meter.new) self.old self.new (Some node) (Some next)) }
+            (with_meter meter.old) (with_meter meter.new) self.old self.new (Some node) (Some next)) }
         ensures production { IfOk result (λ next. next.production ≡ node.production) }
         ensures rises { meter.old ≤ meter.new }
         ensures less { IfOk result (λ next.
@@ -239,11 +240,11 @@ impl Machine {
         place: u16,
     ) -> Result<OpenNode, NoMemory>
         requires context { CanRun context.now }
-        requires runs { RunsWith (setting context.now) any_world self.old (Some node) }
+        requires runs { RunsWith (setting context.now) unknown_world self.old (Some node) }
         requires next { slice_get (list_at (setting context.now) node.production) node.at
             ≡ Some (instr.Go place) }
         requires room { node.at + 1 < 2 ^ 64 }
-        ensures runs { IfOk result (λ next. Preserves (setting context.now) any_world any_world
+        ensures runs { IfOk result (λ next. Preserves (setting context.now) unknown_world unknown_world
             self.old self.new (Some node) (Some next)) }
         ensures less { IfOk result (λ next.
             measure (setting context.now) self.new (Some next)
@@ -266,8 +267,8 @@ impl Machine {
         node: OpenNode,
     ) -> Result<OpenNode, NoMemory>
         requires context { CanRun context.now }
-        requires runs { RunsWith (setting context.now) any_world self.old (Some node) }
-        ensures runs { IfOk result (λ next. Preserves (setting context.now) any_world any_world
+        requires runs { RunsWith (setting context.now) unknown_world self.old (Some node) }
+        ensures runs { IfOk result (λ next. Preserves (setting context.now) unknown_world unknown_world
             self.old self.new (Some node) (Some next)) }
         ensures most { IfOk result (λ next.
             measure (setting context.now) self.new (Some next)
@@ -294,12 +295,12 @@ impl Machine {
         to: &mut E,
     ) -> Result<Option<OpenNode>, RunFault>
         requires context { CanRun context.now }
-        requires runs { RunsWith (setting context.now) any_world self.old (Some node) }
+        requires runs { RunsWith (setting context.now) unknown_world self.old (Some node) }
         requires next { slice_get (list_at (setting context.now) node.production) node.at
             ≡ Some instr.End }
         ensures runs { IfOk result (λ next. Preserves (setting context.now)
-            (second_device (E.is_honest to.old) (E.content to.old))
-            (second_device (E.is_honest to.new) (E.content to.new))
+            (with_second_device (E.is_honest to.old) (E.content to.old))
+            (with_second_device (E.is_honest to.new) (E.content to.new))
             self.old self.new (Some node) next) }
         ensures added { OnOk result (AddsFrames (E.is_honest to.new)
             (E.content to.old) (E.content to.new)) }
@@ -330,8 +331,8 @@ impl Machine {
     #[inline(always)]
     pub(crate) fn skip_put(&self, context: &PassContext<'_>, node: OpenNode) -> OpenNode
         requires context { CanRun context.now }
-        requires runs { RunsWith (setting context.now) any_world self.now (Some node) }
-        ensures runs { Preserves (setting context.now) any_world any_world
+        requires runs { RunsWith (setting context.now) unknown_world self.now (Some node) }
+        ensures runs { Preserves (setting context.now) unknown_world unknown_world
             self.now self.now (Some node) (Some result) }
         ensures most { measure (setting context.now) self.now (Some result)
             ≤ measure (setting context.now) self.now (Some node) }
@@ -358,10 +359,10 @@ impl Machine {
     ) -> Result<Option<OpenNode>, RunFault>
         requires context { CanRun context.now }
         requires runs { RunsWith (setting context.now)
-            (second_device (E.is_honest to.old) (E.content to.old)) self.old (Some node) }
+            (with_second_device (E.is_honest to.old) (E.content to.old)) self.old (Some node) }
         ensures runs { IfOk result (λ next. Preserves (setting context.now)
-            (second_device (E.is_honest to.old) (E.content to.old))
-            (second_device (E.is_honest to.new) (E.content to.new))
+            (with_second_device (E.is_honest to.old) (E.content to.old))
+            (with_second_device (E.is_honest to.new) (E.content to.new))
             self.old self.new (Some node) next) }
         ensures added { OnOk result (AddsFrames (E.is_honest to.new)
             (E.content to.old) (E.content to.new)) }

@@ -10,9 +10,10 @@ use pass_rows::open_node::OpenNode;
 use std::alloc::Global;
 use std::marker::Model;
 
-/// The open nodes without the innermost one, the outermost first. Each waits until the child that
-/// the pass entered from it is finished. They are a path from the root: the first is the root, and
-/// each next one is the child that the node before it entered. With the innermost node they are at
+/// The open nodes that wait for a child, the outermost first: all open nodes but the innermost one.
+/// Each waits until the child that the pass entered from it is finished. By the numbers of their
+/// productions they are a path from the root: the first node has the root's number, and each next
+/// one the number of the child that the node before it entered. With the innermost node they are at
 /// most `MAX_DEPTH` nodes.
 #[derive(Drop)]
 pub(crate) struct OpenNodes {
@@ -69,9 +70,9 @@ impl OpenNodes {
         self.nodes.len()
     }
 
-    /// Adds the node that continued, after it entered a child. It is the child that the last of the
-    /// other nodes entered, or the root if there is none. Fails with `NoMemory` if memory cannot be
-    /// allocated, and then changes nothing.
+    /// Adds the innermost open node, after it entered a child. Its production has to be that of the
+    /// child that the last of the other nodes entered, or the root's if there is no other node.
+    /// Fails with `NoMemory` if memory cannot be allocated, and then changes nothing.
     #[inline(always)]
     pub(crate) fn push(&mut self, node: OpenNode) -> Result<(), NoMemory>
         requires path { node.production ≡ end_of self.old.root self.old.nodes }

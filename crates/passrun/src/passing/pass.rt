@@ -97,18 +97,18 @@ pub fn run_pass<D: Device, E: Device>(
     to: &mut E,
     meter: &mut Meter,
 ) -> Result<Passed, RunFault>
-    requires plan { IsPlan grammar.now plan.now.0 plan.now.1 }
+    requires plan { IsPlan grammar.now plan.now.assignment plan.now.code }
     requires first { 1 ≤ pass }
-    requires last { (passes : ℕ) × IsGreatest passes plan.now.0 × (pass ≤ passes) }
+    requires last { (passes : ℕ) × IsGreatest passes plan.now.assignment × (pass ≤ passes) }
     requires meter { meter.old ≤ 2 ^ 63 }
     ensures passed { WhenHonest (D.is_honest from.new) (WhenHonest (E.is_honest to.new)
         (IfOk result (λ p. IsPassed (setting_of grammar.now plan.now pass) (D.content from.old)
         (E.content to.new) p.nodes (meter.new - meter.old)))) }
     // the same for every tree and all values that the first file encodes (there is only one tree)
     ensures exact { WhenHonest (D.is_honest from.new) (WhenHonest (E.is_honest to.new)
-        (IfOk result (λ p. RunsPass version_two grammar.now (passes_of plan.now.0) (pass - 1)
+        (IfOk result (λ p. RunsPass version_two grammar.now (passes_of plan.now.assignment) (pass - 1)
         (D.content from.old) (E.content to.new)
-        × CountsPass grammar.now (passes_of plan.now.0) (pass - 1) (D.content from.old)
+        × CountsPass grammar.now (passes_of plan.now.assignment) (pass - 1) (D.content from.old)
         p.nodes (meter.new - meter.old)))) }
     // R1, P2 and P3 only if they are true of the file
     ensures refused { IfErr result (λ f. WhenHonest (D.is_honest from.new)

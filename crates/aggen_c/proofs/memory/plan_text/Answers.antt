@@ -3,6 +3,6 @@ use Rattle.aggen_c.proofs.memory.plan_text.Goals as goal
 
 pub returns-in-Ok-clause-text : goal.returns-in-Ok-clause-text
 returns-in-Ok-clause-text c =
-    plan_text_of c.args.translator.now c.grammar.result.now c.plan.result.now.0 c.plan.result.now.1 c.new-text.result.items
-    c.write_plan.new.out.items
+    let plan = c.plan.result.now in
+    plan_text_of _ _ plan.assignment plan.code c.new-text.result.items c.write_plan.new.out.items
     c.plan.ensures c.grammar.ensures.grammar c.new-text.ensures.items c.in-Ok.ensures.ok

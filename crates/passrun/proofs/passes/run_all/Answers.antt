@@ -81,7 +81,7 @@ pub returns-clause-solution : goal.returns-clause-solution
 returns-clause-solution g c = λ one passes is ha hb.
     let first : c.args.first - 1 ≡ 0 = omega arith in
     solutions_left c.start-start.ensures.accepted c.requires.plan.legal
-    (greatest_is_last passes c.args.plan.now.0 is) first (returns-clause-passed g c passes is ha hb)
+    (greatest_is_last passes c.args.plan.now.assignment is) first (returns-clause-passed g c passes is ha hb)
 
 pub returns-in_err-passed-clause-refused : goal.returns-in_err-passed-clause-refused
 returns-in_err-passed-clause-refused g c =

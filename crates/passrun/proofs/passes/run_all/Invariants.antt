@@ -20,6 +20,6 @@ invariant-loop-done g l = record {
   far : l.done ≡ l.first - 1 → g.D.Device.content l.b ≡ g.D.Device.content l.fn.b;
   runs : WhenHonest (g.D.Device.is_honest l.a)
       (WhenHonest (g.D.Device.is_honest l.b)
-      (HasRunAll l.grammar (passes_of l.plan.0) (l.first - 1) l.done (g.D.Device.content l.fn.a) l.last
+      (HasRunAll l.grammar (passes_of l.plan.assignment) (l.first - 1) l.done (g.D.Device.content l.fn.a) l.last
       (g.D.Device.content l.a) (g.D.Device.content l.b) (l.meter - l.fn.meter) l.sum));
 }

@@ -14,7 +14,7 @@ returns-in_err-read_node-clause-none c =
     let greatest = subst (IsGreatest last) c.assignment.ensures c.passes-last.ensures in
     let p = err_from_is_err_and c.from_residual.result c.from_residual.ensures.1 in
     rw (p.1, p.2)
-    (λ damaged x root. no_root g plan.0 plan.1 last c.args.body.now greatest
+    (λ damaged x root. no_root g plan last c.args.body.now greatest
     (subst (λ s. IsNoNode (setting_of g plan (last + 1)) s c.args.body.now) c.start.ensures.value
     (c.in_err-read_node.ensures.none (same_fault _ _ damaged))) x root)
 
@@ -29,7 +29,7 @@ swap_remove-requires c =
     started (setting_of g plan (last + 1)) c.start.result c.in_ok-read_node.field-0 c.args.body.now c.new-values.result.items
     c.read_node.new.values.items c.start.ensures.value c.new-values.ensures.items c.in_ok-read_node.ensures.read in
     let less =
-    out_within g plan.0 plan.1 last c.args.out c.in_ok-read_node.field-0 c.args.body.now c.read_node.new.values.items
+    out_within g plan last c.args.out c.in_ok-read_node.field-0 c.args.body.now c.read_node.new.values.items
     c.requires.plan greatest c.requires.out read in
     omega (arith, less, c.read_node.new.values.ok.0)
 
@@ -42,10 +42,11 @@ returns-clause-read c =
     let read =
     started (setting_of g plan (last + 1)) c.start.result c.in_ok-read_node.field-0 c.args.body.now c.new-values.result.items
     c.read_node.new.values.items c.start.ensures.value c.new-values.ensures.items c.in_ok-read_node.ensures.read in
-    root_read g plan.0 plan.1 last c.args.out c.in_ok-read_node.field-0 c.args.body.now c.read_node.new.values.items
+    root_read g plan last c.args.out c.in_ok-read_node.field-0 c.args.body.now c.read_node.new.values.items
     c.swap_remove.result c.requires.plan greatest c.requires.out read c.swap_remove.ensures.value
 
 pub returns-clause-well : goal.returns-clause-well
 returns-clause-well c =
-    out_well c.args.grammar.now c.args.plan.now.0 c.args.plan.now.1 c.args.body.now c.swap_remove.result c.requires.plan
+    let plan = c.args.plan.now in
+    out_well c.args.grammar.now plan.assignment plan.code c.args.body.now c.swap_remove.result c.requires.plan
     (returns-clause-read c)

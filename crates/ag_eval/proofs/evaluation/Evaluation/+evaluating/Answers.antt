@@ -9,7 +9,7 @@ chain_of-operand_of-requires g t c = λ κs le. (
   search (rules, the_lemmas),
   (
     le,
-    operand_below (length c.args.self.now.expr.now.1)
+    operand_below (length c.args.self.now.expr.now.occurrences)
         (length c.loop-other.bindings) _ c.args.others.now c.loop-other.other-index c.other-item.result c.loop-other-test.true
         c.other-item.is refl c.loop-other.invariant.below,
   ),
@@ -17,7 +17,7 @@ chain_of-operand_of-requires g t c = λ κs le. (
 
 pub operand_of-chain_of-requires : goal.operand_of-chain_of-requires
 operand_of-chain_of-requires g t c = λ κs le.
-    let n = length c.args.self.now.expr.now.1 in
+    let n = length c.args.self.now.expr.now.occurrences in
     let outer =
     chain_below n (length c.args.bindings.now) c.args.node.now c.in-Chain.first c.in-Chain.others c.in-Chain.is
     c.requires.below in
@@ -44,7 +44,7 @@ operand_of-returns-in_ok-value-in-Chain-clause-value g t c =
 
 pub operand_of-body_of-requires : goal.operand_of-body_of-requires
 operand_of-body_of-requires g t c = λ κs le.
-    let n = length c.args.self.now.expr.now.1 in
+    let n = length c.args.self.now.expr.now.occurrences in
     let s = c.operand_of-in-Let.new.bindings in
     let v = operand_value s c.in_ok-definition-in-Let.definition in
     let more : s ++ v ∷ [] ≡ c.args.bindings.now ++ v ∷ [] =

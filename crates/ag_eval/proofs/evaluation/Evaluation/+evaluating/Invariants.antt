@@ -10,7 +10,7 @@ invariant-chain_of-loop-other g l = record {
       (map (λ p. (p.0, value_in p.1)) (drop l.other-index l.others)) ≡ chain_value (g.V.Lender.lent l.self.env.now) l.fn.bindings
       (operand_value l.fn.bindings l.fn.so_far) (map (λ p. (p.0, value_in p.1)) l.others);
   within : IsIn l.bindings l.value;
-  below : all_below (length l.self.expr.now.1) (length l.bindings) (drop l.other-index l.others) ≡ true;
+  below : all_below (length l.self.expr.now.occurrences) (length l.bindings) (drop l.other-index l.others) ≡ true;
   unchanged : l.bindings ≡ l.fn.bindings;
 }
 
@@ -21,6 +21,6 @@ invariant-list_of-loop-item g l = record {
       (value.List
       (l.list ++ item_values (g.V.Lender.lent l.self.env.now) l.bindings (map value_in (drop l.item-index l.items)))))
       ≡ listed (item_values (g.V.Lender.lent l.self.env.now) l.fn.bindings (map value_in l.items));
-  below : each_within (length l.self.expr.now.1) (length l.bindings) (drop l.item-index l.items) ≡ true;
+  below : each_within (length l.self.expr.now.occurrences) (length l.bindings) (drop l.item-index l.items) ≡ true;
   unchanged : l.bindings ≡ l.fn.bindings;
 }

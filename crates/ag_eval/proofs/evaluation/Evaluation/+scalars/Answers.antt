@@ -13,7 +13,7 @@ scalar_of_chain-scalar-requires-in-loop-other g t c = λ κs le. (
   search (rules, the_lemmas),
   (
     le,
-    operand_below (length c.args.self.now.expr.now.1)
+    operand_below (length c.args.self.now.expr.now.occurrences)
         (length c.args.bindings.now) _ c.as_slice-other-items.result.now c.loop-other.other-index c.other-item.result
         c.loop-other-test.true c.other-item.is refl c.loop-other.invariant.below,
   ),

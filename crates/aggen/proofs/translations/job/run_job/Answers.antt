@@ -9,8 +9,8 @@ use Rattle.aggen.proofs.translations.job.run_job.Goals as goal
 pub returns-in_err-translator-clause-refused : goal.returns-in_err-translator-clause-refused
 returns-in_err-translator-clause-refused g c =
     at_exit _ _ _ c.from_residual-in_err-translator.ensures (inr (record {
-      text = c.in_ok-job.job.0;
-      sentence = c.in_ok-job.job.1;
+      text = c.in_ok-job.job.grammar;
+      sentence = c.in_ok-job.job.sentence;
       job = c.in_ok-job.ensures.job;
       exact = inl (record {
         reason = c.in_err-translator.field-0.0;
@@ -24,8 +24,8 @@ pub returns-clause-refused : goal.returns-clause-refused
 returns-clause-refused g c =
     let is = rw c.grammar.ensures at c.in_ok-translator.ensures.grammar in
     IfErr-weaker c.translate.result _ _ (λ e exact. inr (record {
-      text = c.in_ok-job.job.0;
-      sentence = c.in_ok-job.job.1;
+      text = c.in_ok-job.job.grammar;
+      sentence = c.in_ok-job.job.sentence;
       job = c.in_ok-job.ensures.job;
       exact = inr (c.in_ok-translator.translator, is, exact);
     })) (rw c.sentence.ensures at c.translate.ensures.refused)
@@ -52,8 +52,8 @@ pub returns-clause-files : goal.returns-clause-files
 returns-clause-files g c =
     let is = rw c.grammar.ensures at c.in_ok-translator.ensures.grammar in
     IfErr-weaker c.translate.result _ _ (λ e files. λ after. record {
-      text = c.in_ok-job.job.0;
-      sentence = c.in_ok-job.job.1;
+      text = c.in_ok-job.job.grammar;
+      sentence = c.in_ok-job.job.sentence;
       job = c.in_ok-job.ensures.job;
       grammar = c.in_ok-translator.translator;
       is = is;

@@ -7,7 +7,7 @@ use Rattle.origins.proofs.row.Row.is_arising.Goals as goal
 pub returns-in_default-error_of : goal.returns-in_default-error_of
 unfolding arises
 returns-in_default-error_of c =
-    let expr = c.args.rule.now.expr.0 in
+    let expr = c.args.rule.now.expr.tree in
     let env =
     environment c.args.rule.now
     (table_of c.args.self.now.grammar.now c.args.self.now.production.now c.args.self.now.values.now) in
@@ -22,7 +22,7 @@ returns c = search rules
 pub returns-in-Occurrence : goal.returns-in-Occurrence
 returns-in-Occurrence c =
     sym
-    (occurrence_is_quiet c.args.rule.now.expr.0 c.in-Occurrence.field-0
+    (occurrence_is_quiet c.args.rule.now.expr.tree c.in-Occurrence.field-0
     (environment c.args.rule.now
     (table_of c.args.self.now.grammar.now c.args.self.now.production.now c.args.self.now.values.now))
     (sym c.tree.ensures.value ∙ c.in-Occurrence.is))

@@ -4,5 +4,6 @@ use Rattle.pass_rows.proofs.layouts.building.argument_slots.Given as goal
 abbrev pub invariant-loop-argument : goal.invariant-loop-argument
 invariant-loop-argument l =
     l.slots.items
-    ++ map (argument_slot_by (passes_of l.setting.plan.now.0) l.setting.pass l.places) (drop l.argument-index l.arguments)
-    ≡ map (argument_slot_by (passes_of l.setting.plan.now.0) l.setting.pass l.places) l.arguments
+    ++ map (argument_slot_by (passes_of l.setting.plan.now.assignment) l.setting.pass l.places)
+    (drop l.argument-index l.arguments)
+    ≡ map (argument_slot_by (passes_of l.setting.plan.now.assignment) l.setting.pass l.places) l.arguments
