@@ -1,7 +1,7 @@
-//! What the commands of the program have in common: they read inputs, check and write output files,
-//! and make the reports of inputs that can't be read and of refused grammars and sentences. The
-//! checks compare written files with the inputs, and the files of translations with the tree files
-//! of `--work`.
+//! What the commands of the program have in common: they read inputs, open tree files, check and
+//! write output files, and make the reports of inputs that can't be read and of refused grammars and
+//! sentences. The checks compare written files with the inputs and with standard output, and the
+//! files of translations with the tree files of `--work`.
 #![tactic(auto)]
 
 mod files;
@@ -10,12 +10,17 @@ mod overlaps;
 mod paths;
 mod same_file;
 mod system_faults;
+mod tree_paths;
 
 pub use files::{
     build_translator, read_input, read_translator, report_of_input, report_of_sentence,
 };
 pub use output::write_file;
-pub use overlaps::{WORK_FILES, check_inputs, check_output, check_outputs, check_tree};
+pub use overlaps::{
+    WORK_FILES, check_inputs, check_new_tree, check_output, check_outputs, check_translation,
+    check_tree,
+};
 pub use paths::path_in;
 pub use same_file::FileId;
 pub use system_faults::fault_or;
+pub use tree_paths::open_tree;

@@ -1,10 +1,11 @@
 //! Checks for files that a command would both read and write, or to which it would write both a
-//! translation and a tree file. The checks fail with `Fault::Usage`, as a misused command line
+//! tree file and other output. The checks fail with `Fault::Usage`, as a misused command line
 //! does, with a message and the file's name. They fail with NoMemory if memory is refused. Paths
 //! are compared through links: a path that is a link counts as the file that it leads to.
 
 use crate::paths::{folder_of, path_in};
 use crate::same_file::FileId;
+use crate::tree_paths::check_tree_path;
 use ag_value::NoMemory;
 use aggen::Fault;
 use command_line::{InputPath, file_name_of};
@@ -28,6 +29,10 @@ const OUTPUT_IS_READ: &str = "the output is one of the inputs, write it to anoth
 
 /// The message about an output that is a work file.
 const OUTPUT_IS_TREE: &str = "the output is a tree file of `--work`, write it to another file";
+
+/// The message about a tree file that is standard output, to which the number of nodes is printed.
+const TREE_IS_OUTPUT: &str =
+    "the tree file is standard output, where the number of nodes is printed, write it to another file";
 
 /// Fails if `tree`, the tree file that `eval` translates, is one of the work files in `folder`, and
 /// if memory is refused.
@@ -55,10 +60,39 @@ pub fn check_inputs<R: Files>(
     Ok(())
 }
 
-/// Fails if the output at `path` is one of `inputs`. If there is a folder `work`, also fails if the
-/// output is a work file in this folder. The output is a translation's file, or the tree file that
-/// `parse` or `upgrade` writes. (For `upgrade`, `inputs` does not contain the old tree file.) Fails
-/// if memory is refused.
+/// Fails if the tree file at `path`, which `parse` or `upgrade` writes, is one of `inputs` or
+/// standard output, and if memory is refused. Also fails as `check_tree_path` does. (For `upgrade`,
+/// `inputs` does not contain the old tree file.)
+pub fn check_new_tree<R: Files>(
+    rt: &R,
+    alloc: Global,
+    path: &str,
+    inputs: &[InputPath<'_>],
+) -> Result<(), FaultReport> {
+    fail_if(alloc, is_input(rt, path, inputs), OUTPUT_IS_READ, path)?;
+    fail_if(alloc, is_standard_output(rt, path), TREE_IS_OUTPUT, path)?;
+    check_tree_path(rt, alloc, path)
+}
+
+/// Fails as `check_output` does if the translation is written to the file at `output`. If there is
+/// no `output`, the translation is printed: then fails if there is a folder `work` and standard
+/// output is a work file in it. Fails if memory is refused.
+pub fn check_translation<R: Files>(
+    rt: &R,
+    alloc: Global,
+    output: Option<&str>,
+    inputs: &[InputPath<'_>],
+    work: Option<&str>,
+) -> Result<(), FaultReport> {
+    match (output, work) {
+        (Some(path), _) => check_output(rt, alloc, path, inputs, work),
+        (None, Some(folder)) => check_standard_output(rt, alloc, folder),
+        (None, None) => Ok(()),
+    }
+}
+
+/// Fails if the translation's file at `path` is one of `inputs`. If there is a folder `work`, also
+/// fails if the output is a work file in this folder. Fails if memory is refused.
 pub fn check_output<R: Files>(
     rt: &R,
     alloc: Global,
@@ -95,6 +129,18 @@ pub fn check_outputs<R: Files>(
             OUTPUT_IS_READ,
             path,
         )?;
+    }
+    Ok(())
+}
+
+/// Fails if standard output is one of the work files in `folder`, and if memory is refused.
+fn check_standard_output<R: Files>(rt: &R, alloc: Global, folder: &str) -> Result<(), FaultReport> {
+    for name in WORK_FILES {
+        let Ok(path) = path_in(alloc, folder, name) else {
+            return Err(FaultReport::new(alloc, Fault::NoMemory));
+        };
+        let path = path.as_str();
+        fail_if(alloc, is_standard_output(rt, path), OUTPUT_IS_TREE, path)?;
     }
     Ok(())
 }
@@ -145,6 +191,14 @@ fn is_input<R: Files>(rt: &R, path: &str, inputs: &[InputPath<'_>]) -> Result<bo
         }
     }
     Ok(false)
+}
+
+/// Returns whether a path leads to a regular file that is also standard output.
+fn is_standard_output<R: Files>(rt: &R, path: &str) -> Result<bool, NoMemory> {
+    match FileId::at(rt, path)? {
+        Some(id) => Ok(FileId::of_standard_output(rt)? == Some(id)),
+        None => Ok(false),
+    }
 }
 
 /// Returns whether a path leads to a work file in a folder. The work file may not exist yet, so

@@ -8,10 +8,9 @@ use aggen::{Fault, Translator};
 use aggen_files::{WorkFiles, evaluate_file};
 use command_line::{EvalPaths, InputPath};
 use messages::{FaultReport, Source};
-use noted_file::CallRecord;
 use program_io::{
-    build_translator, check_inputs, check_output, check_tree, read_input, report_of_input,
-    write_file,
+    build_translator, check_inputs, check_translation, check_tree, open_tree, read_input,
+    report_of_input, write_file,
 };
 use screen::{Progress, Screen, ShownDevice};
 use std::alloc::Global;
@@ -24,10 +23,12 @@ use treefile::{Device, FileDevice, MemDevice, SharedDevice};
 ///
 /// Fails before the grammar is read:
 /// - if the tree file or the grammar is one of the tree files of `--work` (`usage`);
-/// - if the translation's file is an input or one of these tree files (`usage`).
+/// - if the translation's file is an input or one of these tree files, or if the translation is
+///   printed and standard output is one of these tree files (`usage`).
 ///
-/// Also fails if an input can't be read, if the grammar, the tree or the translation is refused, if
-/// a tree file or the output fails, and if memory is refused.
+/// Also fails if the tree file is a folder or a pipe (F1), if an input can't be read, if the grammar,
+/// the tree or the translation is refused, if a tree file or the output fails, and if memory is
+/// refused.
 pub fn evaluate<R: Files + Input + Print + Eprint + Clock>(
     rt: &R,
     alloc: Global,
@@ -38,9 +39,8 @@ pub fn evaluate<R: Files + Input + Print + Eprint + Clock>(
         check_tree(rt, alloc, paths.tree, folder)?;
         check_inputs(rt, alloc, &[paths.grammar], folder)?;
     }
-    if let Some(path) = paths.output {
-        check_output(rt, alloc, path, &[paths.grammar, paths.tree], paths.work)?;
-    }
+    let inputs = [paths.grammar, paths.tree];
+    check_translation(rt, alloc, paths.output, &inputs, paths.work)?;
     let text = read_input(rt, alloc, paths.grammar)?;
     let grammar = Source::new(paths.grammar.name(), text.as_slice());
     let translator = build_translator(alloc, grammar)?;
@@ -85,10 +85,8 @@ impl<R: Files + Input + Print + Eprint + Clock> EvaluationRun<'_, R> {
     fn run<W: Write>(&self, out: &mut W) -> Result<(), FaultReport> {
         match self.paths.tree {
             InputPath::File(path) => {
-                match FileDevice::existing(self.rt, self.alloc, path, CallRecord::new()) {
-                    Ok(mut tree) => self.run_file(&mut tree, out),
-                    Err(fault) => Err(FaultReport::of_file(self.alloc, Fault::from(fault), path)),
-                }
+                let mut tree = open_tree(self.rt, self.alloc, path)?;
+                self.run_file(&mut tree, out)
             }
             InputPath::Standard => match read_prefix(self.alloc, self.rt.reader(), u64::MAX) {
                 Ok(bytes) => self.run_device(&mut MemDevice::from_bytes(bytes), out),

@@ -13,7 +13,7 @@ use command_line::RunPaths;
 use messages::{FaultReport, Source};
 use noted_file::CallRecord;
 use program_io::{
-    build_translator, check_inputs, check_output, read_input, report_of_sentence, write_file,
+    build_translator, check_inputs, check_translation, read_input, report_of_sentence, write_file,
 };
 use screen::{Progress, Screen, ShownDevice};
 use std::alloc::Global;
@@ -26,7 +26,8 @@ use treefile::{Device, SharedDevice};
 ///
 /// Fails before the grammar is read:
 /// - if an input is one of the tree files of `--work` (`usage`);
-/// - if the translation's file is an input or one of these tree files (`usage`).
+/// - if the translation's file is an input or one of these tree files, or if the translation is
+///   printed and standard output is one of these tree files (`usage`).
 ///
 /// Also fails if an input can't be read, if the grammar, the sentence or the translation is
 /// refused, if a tree file or the output fails, and if memory is refused.
@@ -36,18 +37,11 @@ pub fn run_sentence<R: Files + Input + Print + Eprint + Clock>(
     paths: &RunPaths<'_>,
     screen: Screen,
 ) -> Result<(), FaultReport> {
+    let inputs = [paths.grammar, paths.sentence];
     if let Some(folder) = paths.work {
-        check_inputs(rt, alloc, &[paths.grammar, paths.sentence], folder)?;
+        check_inputs(rt, alloc, &inputs, folder)?;
     }
-    if let Some(path) = paths.output {
-        check_output(
-            rt,
-            alloc,
-            path,
-            &[paths.grammar, paths.sentence],
-            paths.work,
-        )?;
-    }
+    check_translation(rt, alloc, paths.output, &inputs, paths.work)?;
     let text = read_input(rt, alloc, paths.grammar)?;
     let grammar = Source::new(paths.grammar.name(), text.as_slice());
     let translator = build_translator(alloc, grammar)?;

@@ -10,14 +10,13 @@ use agoutput::write_text;
 use command_line::{ExplainWords, NodeWords, PlaceInSentence};
 use message_parts::display::PlainText;
 use messages::{FaultReport, Position, Source};
-use noted_file::CallRecord;
-use program_io::{build_translator, read_input};
+use program_io::{build_translator, open_tree, read_input};
 use std::alloc::{AllocError, Global};
 use std::io;
 use std::rt::Files;
 use tree_index::{FileFormat, TreeIndex};
 use tree_text::ShowFault;
-use treefile::{Device, FileDevice};
+use treefile::Device;
 use value_reasons::{ExplainedTree, NodeRequest, write_errors};
 
 /// The greatest number of characters that are printed of the text of a value. Numbers are printed
@@ -55,19 +54,15 @@ pub fn explain_tree<R: Files + Input + Print>(
         Ok(path) => path,
         Err(_) => return Err(no_memory(alloc)),
     };
-    match FileDevice::existing(rt, alloc, path.as_str(), CallRecord::new()) {
-        Ok(mut tree) => {
-            let explaining = ExplanationRun {
-                translator: &translator,
-                source,
-                sentence: sentence.as_slice(),
-                path: path.as_str(),
-                is_chosen: path.is_chosen(),
-            };
-            explaining.run(rt, alloc, words, &mut tree)
-        }
-        Err(fault) => Err(FaultReport::of_file(alloc, Fault::from(fault), path.as_str())),
-    }
+    let mut tree = open_tree(rt, alloc, path.as_str())?;
+    let explaining = ExplanationRun {
+        translator: &translator,
+        source,
+        sentence: sentence.as_slice(),
+        path: path.as_str(),
+        is_chosen: path.is_chosen(),
+    };
+    explaining.run(rt, alloc, words, &mut tree)
 }
 
 /// Returns the bytes of the sentence, if the command line names the node by line and column, and

@@ -5,14 +5,13 @@ use ag_grammar::Grammar;
 use aggen::{Fault, Translator};
 use command_line::ShowWords;
 use messages::FaultReport;
-use noted_file::CallRecord;
-use program_io::read_translator;
+use program_io::{open_tree, read_translator};
 use std::alloc::Global;
 use std::io;
 use std::rt::Files;
 use tree_index::{FileFormat, SentenceWalk};
 use tree_text::{SelectedAttribute, TreeText, selected_attribute, write_tree};
-use treefile::{Device, FileDevice};
+use treefile::Device;
 
 /// Prints nodes of a tree file: the node that the command line names, or the root if it names none,
 /// and the nodes below. Reads the grammar, and then the whole tree file, before it prints
@@ -33,10 +32,8 @@ pub fn show_tree<R: Files + Input + Print>(
     words: &ShowWords<'_>,
 ) -> Result<(), FaultReport> {
     let translator = read_translator(rt, alloc, words.grammar)?;
-    match FileDevice::existing(rt, alloc, words.tree, CallRecord::new()) {
-        Ok(mut tree) => show_device(rt, alloc, &translator, words, &mut tree),
-        Err(fault) => Err(FaultReport::of_file(alloc, Fault::from(fault), words.tree)),
-    }
+    let mut tree = open_tree(rt, alloc, words.tree)?;
+    show_device(rt, alloc, &translator, words, &mut tree)
 }
 
 /// Prints the nodes of the tree file on a device. Fails as `show_tree` does.

@@ -5,7 +5,7 @@ use aggen_files::{parse_to_file, upgrade_file};
 use command_line::{ParsePaths, UpgradePaths};
 use messages::{ConvertedPaths, FaultReport, Source};
 use noted_file::CallRecord;
-use program_io::{check_output, read_input, read_translator, report_of_sentence};
+use program_io::{check_new_tree, open_tree, read_input, read_translator, report_of_sentence};
 use std::alloc::Global;
 use std::io;
 use std::rt::Files;
@@ -14,16 +14,17 @@ use treefile::FileDevice;
 /// Writes the tree file of a sentence, and prints the number of nodes. Reads the grammar, then the
 /// sentence, and then creates the tree file.
 ///
-/// Fails before the grammar is read if the tree file is the grammar or the sentence. Fails if an
-/// input can't be read, if the grammar or the sentence is refused, if the tree file can't be
-/// created or written, if the output fails, and if memory is refused.
+/// Fails before the grammar is read if the tree file is the grammar, the sentence or standard output
+/// (`usage`), or a folder or a pipe (F1). Fails if an input can't be read, if the grammar or the
+/// sentence is refused, if the tree file can't be created or written, if the output fails, and if
+/// memory is refused.
 pub fn parse_file<R: Files + Input + Print>(
     rt: &R,
     alloc: Global,
     paths: &ParsePaths<'_>,
 ) -> Result<(), FaultReport> {
     let inputs = [paths.grammar, paths.sentence];
-    check_output(rt, alloc, paths.tree, &inputs, None)?;
+    check_new_tree(rt, alloc, paths.tree, &inputs)?;
     let translator = read_translator(rt, alloc, paths.grammar)?;
     parse_file_with(rt, alloc, &translator, paths)
 }
@@ -70,15 +71,15 @@ fn write_tree<R: Files + Print>(
 /// grammar, then opens the old file, and then creates the new one. Both may be one file: all of the
 /// old content is read before the new content is written.
 ///
-/// Fails before the grammar is read if the new file is the grammar. Fails if the grammar can't be
-/// read or is refused, if the old file is refused, if a file or the output fails, and if memory is
-/// refused.
+/// Fails before the grammar is read if the new file is the grammar or standard output (`usage`), or a
+/// folder or a pipe (F1). Fails if the grammar can't be read or is refused, if the old file is a
+/// folder or a pipe or is refused, if a file or the output fails, and if memory is refused.
 pub fn convert_file<R: Files + Input + Print>(
     rt: &R,
     alloc: Global,
     paths: &UpgradePaths<'_>,
 ) -> Result<(), FaultReport> {
-    check_output(rt, alloc, paths.tree, &[paths.grammar], None)?;
+    check_new_tree(rt, alloc, paths.tree, &[paths.grammar])?;
     let translator = read_translator(rt, alloc, paths.grammar)?;
     convert_file_with(rt, alloc, &translator, paths)
 }
@@ -91,10 +92,8 @@ fn convert_file_with<R: Files + Print>(
     translator: &Translator,
     paths: &UpgradePaths<'_>,
 ) -> Result<(), FaultReport> {
-    match FileDevice::existing(rt, alloc, paths.old, CallRecord::new()) {
-        Ok(mut old) => convert_tree(rt, alloc, translator, &mut old, paths),
-        Err(fault) => Err(FaultReport::of_file(alloc, Fault::from(fault), paths.old)),
-    }
+    let mut old = open_tree(rt, alloc, paths.old)?;
+    convert_tree(rt, alloc, translator, &mut old, paths)
 }
 
 /// Converts the tree file on the device `old`, and prints the number of nodes. On failure returns

@@ -1,0 +1,61 @@
+//! The paths of tree files. Passes read a tree file from its end, so it can be neither a folder nor a
+//! pipe.
+
+use crate::system_faults::fault_or;
+use aggen::Fault;
+use messages::FaultReport;
+use noted_file::CallRecord;
+use std::alloc::Global;
+use std::fs;
+use std::os::unix::fs::FileTypeExt;
+use std::rt::Files;
+use treefile::FileDevice;
+
+/// What the message says of a folder.
+const FOLDER: &str = "a tree file can't be a folder";
+
+/// What to do about a folder.
+const NAME_IN_FOLDER: &str = "name a file in it";
+
+/// What the message says of a pipe.
+const PIPE: &str = "a tree file can't be a pipe";
+
+/// What to do about a pipe.
+const NAME_REGULAR: &str = "name a regular file";
+
+/// Opens the tree file at `path` to read it. Fails as `check_tree_path` does, with F1 if the file
+/// can't be opened, and with NoMemory if memory is refused. The report of F1 names the file.
+pub fn open_tree<R: Files>(
+    rt: &R,
+    alloc: Global,
+    path: &str,
+) -> Result<FileDevice<R::File>, FaultReport> {
+    check_tree_path(rt, alloc, path)?;
+    match FileDevice::existing(rt, alloc, path, CallRecord::new()) {
+        Ok(tree) => Ok(tree),
+        Err(fault) => Err(FaultReport::of_file(alloc, Fault::from(fault), path)),
+    }
+}
+
+/// Fails with F1 if `path` leads to a folder or a pipe, through links, and with NoMemory if memory
+/// is refused. The report of F1 names the file. Does not fail if nothing is there.
+pub fn check_tree_path<R: Files>(rt: &R, alloc: Global, path: &str) -> Result<(), FaultReport> {
+    match fs::metadata(rt, path) {
+        Ok(found) if found.is_dir() => Err(misfit(alloc, path, FOLDER, NAME_IN_FOLDER)),
+        Ok(found) if found.file_type().is_fifo() => Err(misfit(alloc, path, PIPE, NAME_REGULAR)),
+        Ok(_) => Ok(()),
+        Err(error) => match fault_or(&error, Fault::File) {
+            Fault::NoMemory => Err(FaultReport::new(alloc, Fault::NoMemory)),
+            // the call that opens the file later fails too
+            _ => Ok(()),
+        },
+    }
+}
+
+/// Returns the report of F1 of the file at `path`. `found` says why it can't be a tree file, and
+/// `help` what to do.
+fn misfit(alloc: Global, path: &str, found: &str, help: &str) -> FaultReport {
+    let mut report = FaultReport::of_file(alloc, Fault::File, path);
+    let written = report.parts.add(found, help);
+    report.or_bare(written)
+}
