@@ -3,6 +3,7 @@
 pub mod conflicts;
 pub mod endless;
 pub mod further;
+pub mod left_recursion;
 pub mod limits;
 pub mod lookup;
 pub mod normal;

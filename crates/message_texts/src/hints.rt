@@ -33,6 +33,19 @@ const PARENTHESES: &str = "put an `if` or a `let` in parentheses here";
 /// What helps at a minus before an operand.
 const SIGN: &str = "`-a` is written `(0 - a)`";
 
+/// What helps at a single quote.
+const QUOTES: &str = "texts and literals are written in double quotes";
+
+/// What helps at `|` in a right side.
+const ALTERNATIVE: &str = "write a production for each alternative";
+
+/// What helps at a call of an unknown name.
+const CALLS: &str =
+    "the calls are `len`, `text`, `number`, `keys`, `iserr`, `nth`, `append`, `join`, `get`, `has`, `orelse` and `put`";
+
+/// What helps after the `{` of a table that has keys.
+const TABLE: &str = "a table with keys is written `put({}, k, v)`";
+
 /// What helps at a quote that begins no text.
 const TEXT: &str = "a text ends with a quote and has only the escapes \\\" \\\\ \\n \\t \\r";
 
@@ -42,9 +55,12 @@ const OCCURRENCE: &str =
 
 /// Hints about characters that begin no token, mostly operators of other languages: the characters,
 /// and the hint. The first entry that fits is used, so `!=` comes before `!`.
-const SIGNS: [(&str, &str); 8] = [
+const SIGNS: [(&str, &str); 11] = [
     ("\"", TEXT),
+    ("'", QUOTES),
     ("$", OCCURRENCE),
+    ("/", "`a / b` is written `a div b`"),
+    ("%", "`a % b` is written `a mod b`"),
     ("!=", "`a != b` is written `(a == b) == 0`"),
     ("!", "`!a` is written `(a) == 0`"),
     (">=", "`a >= b` is written `(a < b) == 0`"),
@@ -120,9 +136,13 @@ impl<'a> Context<'a> {
             Some("not") => "`not a` is written `(a) == 0`",
             Some("and") => "`a < b and c < d` is written `(a < b) * (c < d)`",
             Some("or") => "`a < b or c < d` is written `(a < b) + (c < d)`",
+            Some("true") => "`true` is written `1`",
+            Some("false") => "`false` is written `0`",
             Some("=") if self.before.ends_with('<') => "`a <= b` is written `(b < a) == 0`",
             Some("if" | "let") if is_operand => PARENTHESES,
             _ if is_operand => self.reserved_hint(RESERVED),
+            _ if expected.contains(&Expected::Part(Part::Sign("}"))) => TABLE,
+            _ if expected.contains(&Expected::Part(Part::BoundName)) && self.is_call() => CALLS,
             _ if expected.contains(&Expected::Part(Part::NewName)) => {
                 self.reserved_hint(RESERVED_NAME)
             }
@@ -143,10 +163,23 @@ impl<'a> Context<'a> {
         if expected.contains(&Expected::End) && matches!(self.found, Some("symbol")) {
             return DECLARATION;
         }
+        if expected.contains(&Expected::Item) && begins_with(self.found, '\'') {
+            return QUOTES;
+        }
+        if expected.contains(&Expected::Item) && begins_with(self.found, '|') {
+            return ALTERNATIVE;
+        }
         if expected.contains(&Expected::Name) || expected.contains(&Expected::Item) {
             return self.reserved_hint(RESERVED_NAME);
         }
         ""
+    }
+
+    /// Returns whether `(` follows what was found, as in a call.
+    fn is_call(&self) -> bool {
+        let length = self.found.unwrap_or("").len();
+        let after = self.rest.get(length..).unwrap_or("");
+        after.trim_start().starts_with('(')
     }
 
     /// Returns whether a comment of another language begins at the offset or, as `--` can, one

@@ -1,17 +1,19 @@
 //! Conflicts of two productions.
 
 use crate::grammar_text::GrammarText;
+use crate::grammars::left_recursion::{LeftRecursion, left_recursion_of};
 use crate::terminals::write_ahead;
 use ag_grammar::{Grammar, RawGrammar, RawItem, RawProduction};
 use llparse::{Ahead, TableFault};
 use message_parts::classes::class_name;
 use message_parts::display::QuotedText;
 use message_parts::{Location, Parts};
-use std::alloc::AllocError;
+use std::alloc::{AllocError, Global};
 
-/// Two productions as they are written, and the look-ahead that predicts both.
+/// Two productions of a grammar as they are written, and the look-ahead that predicts both.
 #[derive(Clone, Copy)]
 struct Conflict<'a> {
+    raw: &'a RawGrammar,
     first: &'a RawProduction,
     second: &'a RawProduction,
     ahead: Ahead,
@@ -29,6 +31,7 @@ fn conflict_of<'a>(fault: TableFault, raw: &'a RawGrammar) -> Option<Conflict<'a
         } => {
             let productions = raw.productions.as_slice();
             Some(Conflict {
+                raw,
                 first: productions.get(usize::from(first))?,
                 second: productions.get(usize::from(second))?,
                 ahead,
@@ -77,7 +80,7 @@ fn describe(
 ) -> Result<(), AllocError> {
     write_productions(&mut parts.found, conflict, text)?;
     write_ahead(&mut parts.found, grammar, conflict.ahead)?;
-    write_help(&mut parts.help, conflict, grammar)
+    write_help(&mut parts.help, conflict, grammar, text.alloc)
 }
 
 /// Writes the two productions that conflict.
@@ -100,13 +103,16 @@ fn write_help(
     out: &mut String,
     conflict: &Conflict<'_>,
     grammar: &Grammar,
+    alloc: Global,
 ) -> Result<(), AllocError> {
+    for production in [conflict.first, conflict.second] {
+        if let Some(recursion) = left_recursion_of(alloc, conflict.raw, production)? {
+            return write_recursion(out, production, recursion);
+        }
+    }
     let left = conflict.first.left.name.as_str();
     let first = conflict.first.items.as_slice();
     let second = conflict.second.items.as_slice();
-    if begins_with_symbol(first, left) || begins_with_symbol(second, left) {
-        return write_repetition(out, left);
-    }
     let common = common_length(first, second);
     if common == first.len() && common == second.len() {
         return out.push_str("remove one of the two: they are the same");
@@ -123,9 +129,89 @@ fn write_help(
     }
 }
 
+/// Writes what to do about a left-recursive production.
+fn write_recursion(
+    out: &mut String,
+    production: &RawProduction,
+    recursion: LeftRecursion<'_>,
+) -> Result<(), AllocError> {
+    let left = production.left.name.as_str();
+    match (recursion.before, production.items.as_slice()) {
+        (Some(before), _) => write_hidden(out, production, before),
+        (None, _) if recursion.symbol != left => write_indirect(out, production, recursion.symbol),
+        (None, [_]) => write_cycle(out, production),
+        (None, [_, middle @ .., last]) if is_symbol(last, left) => {
+            write_operator(out, left, middle)
+        }
+        _ => write_repetition(out, left),
+    }
+}
+
+/// Writes that a production begins with its left side after a symbol that can be empty.
+fn write_hidden(
+    out: &mut String,
+    production: &RawProduction,
+    before: &str,
+) -> Result<(), AllocError> {
+    write_beginning(out, production)?;
+    write!(
+        out,
+        ", after an empty `{before}` (left recursion), let `{before}` not be empty there"
+    )
+}
+
+/// Writes that a production begins with another symbol, which can begin with its left side.
+fn write_indirect(
+    out: &mut String,
+    production: &RawProduction,
+    symbol: &str,
+) -> Result<(), AllocError> {
+    write_beginning(out, production)?;
+    write!(
+        out,
+        ", by `{symbol}` (left recursion), replace `{symbol}` in it by each right side of `{symbol}`"
+    )
+}
+
+/// Writes that a production can begin with its left side again.
+fn write_beginning(out: &mut String, production: &RawProduction) -> Result<(), AllocError> {
+    write_production(out, production)?;
+    write!(
+        out,
+        " can begin with `{}` again",
+        production.left.name.as_str()
+    )
+}
+
+/// Writes that a production whose right side is its left side is of no use.
+fn write_cycle(out: &mut String, production: &RawProduction) -> Result<(), AllocError> {
+    out.push_str("remove ")?;
+    write_production(out, production)?;
+    out.push_str(", by which a sentence would have any number of trees")
+}
+
+/// Writes how a production such as `E = E "+" E` is written without left recursion. `middle` is
+/// what is between the two operands.
+fn write_operator(out: &mut String, left: &str, middle: &[RawItem]) -> Result<(), AllocError> {
+    let rest = other_name(left, "Rest", "More");
+    let operand = other_name(left, "Operand", "Part");
+    write!(
+        out,
+        "write the operators as `{left} = {operand} {rest}`, `{rest} ="
+    )?;
+    for item in middle {
+        out.push_str(" ")?;
+        write_item(out, item)?;
+    }
+    write!(
+        out,
+        " {operand} {rest}` and `{rest} =`, with the operands in a new symbol `{operand}`, and a further such symbol for operators that bind tighter"
+    )
+}
+
 /// Writes how left-recursive productions are written without left recursion.
 fn write_repetition(out: &mut String, left: &str) -> Result<(), AllocError> {
-    let rest = if left == "Rest" { "More" } else { "Rest" };
+    let rest = other_name(left, "Rest", "More");
     write!(
         out,
         "write `{left} = {left} b` and `{left} = a` as `{left} = a {rest}`, `{rest} = b {rest}` and `{rest} =`"
@@ -159,11 +245,16 @@ fn write_factored(out: &mut String, common: &[RawItem]) -> Result<(), AllocError
     out.push_str("` once, followed by a new symbol with a production for each ending")
 }
 
-/// Returns whether a right side begins with the symbol of a name.
-fn begins_with_symbol(items: &[RawItem], name: &str) -> bool {
-    match items.first() {
-        Some(RawItem::Name(first)) => first.name.as_str() == name,
-        _ => false,
+/// Returns `usual` as the name of a new symbol, or `other` if `left` has that name.
+fn other_name<'a>(left: &str, usual: &'a str, other: &'a str) -> &'a str {
+    if left == usual { other } else { usual }
+}
+
+/// Returns whether an item is the symbol of a name.
+fn is_symbol(item: &RawItem, name: &str) -> bool {
+    match item {
+        RawItem::Name(found) => found.name.as_str() == name,
+        RawItem::Literal(_) | RawItem::Class(_) => false,
     }
 }
 
