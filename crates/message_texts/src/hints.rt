@@ -36,7 +36,7 @@ const SIGN: &str = "`-a` is written `(0 - a)`";
 /// What helps at a single quote.
 const QUOTES: &str = "texts and literals are written in double quotes";
 
-/// What helps at `|` in a right side.
+/// What helps at `|` in or after a production.
 const ALTERNATIVE: &str = "write a production for each alternative";
 
 /// What helps at a call of an unknown name.
@@ -132,17 +132,18 @@ impl<'a> Context<'a> {
         if self.is_comment() {
             return COMMENT;
         }
+        let is_name = expected.contains(&Expected::Part(Part::BoundName));
         match self.found {
             Some("not") => "`not a` is written `(a) == 0`",
             Some("and") => "`a < b and c < d` is written `(a < b) * (c < d)`",
             Some("or") => "`a < b or c < d` is written `(a < b) + (c < d)`",
-            Some("true") => "`true` is written `1`",
-            Some("false") => "`false` is written `0`",
+            Some("true") if is_name => "`true` is written `1`",
+            Some("false") if is_name => "`false` is written `0`",
             Some("=") if self.before.ends_with('<') => "`a <= b` is written `(b < a) == 0`",
             Some("if" | "let") if is_operand => PARENTHESES,
             _ if is_operand => self.reserved_hint(RESERVED),
-            _ if expected.contains(&Expected::Part(Part::Sign("}"))) => TABLE,
-            _ if expected.contains(&Expected::Part(Part::BoundName)) && self.is_call() => CALLS,
+            Some(_) if expected.contains(&Expected::Part(Part::Sign("}"))) => TABLE,
+            _ if is_name && self.is_call() => CALLS,
             _ if expected.contains(&Expected::Part(Part::NewName)) => {
                 self.reserved_hint(RESERVED_NAME)
             }
@@ -163,13 +164,14 @@ impl<'a> Context<'a> {
         if expected.contains(&Expected::End) && matches!(self.found, Some("symbol")) {
             return DECLARATION;
         }
-        if expected.contains(&Expected::Item) && begins_with(self.found, '\'') {
+        let is_item = expected.contains(&Expected::Item);
+        if is_item && begins_with(self.found, '\'') {
             return QUOTES;
         }
-        if expected.contains(&Expected::Item) && begins_with(self.found, '|') {
+        if (is_item || expected.contains(&Expected::End)) && begins_with(self.found, '|') {
             return ALTERNATIVE;
         }
-        if expected.contains(&Expected::Name) || expected.contains(&Expected::Item) {
+        if expected.contains(&Expected::Name) || is_item {
             return self.reserved_hint(RESERVED_NAME);
         }
         ""

@@ -1,7 +1,7 @@
 //! What the commands of the program have in common: they read inputs, open tree files, check and
-//! write output files, and make the reports of inputs that can't be read and of refused grammars and
-//! sentences. The checks compare written files with the inputs and with standard output, and the
-//! files of translations with the tree files of `--work`.
+//! write output files, and make the reports of inputs that can't be read and of refused grammars
+//! and sentences. The checks compare written files with the inputs and with standard output, and
+//! the files of translations with the tree files of `--work`.
 #![tactic(auto)]
 
 mod files;
@@ -18,7 +18,7 @@ pub use files::{
 pub use output::write_file;
 pub use overlaps::{
     WORK_FILES, check_inputs, check_new_tree, check_output, check_outputs, check_translation,
-    check_tree,
+    check_tree, check_work_files,
 };
 pub use paths::path_in;
 pub use same_file::FileId;

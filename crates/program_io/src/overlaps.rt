@@ -74,6 +74,18 @@ pub fn check_new_tree<R: Files>(
     check_tree_path(rt, alloc, path)
 }
 
+/// Fails with F1 if one of the work files in `folder` is a folder or a pipe, and if memory is
+/// refused.
+pub fn check_work_files<R: Files>(rt: &R, alloc: Global, folder: &str) -> Result<(), FaultReport> {
+    for name in WORK_FILES {
+        match path_in(alloc, folder, name) {
+            Ok(path) => check_tree_path(rt, alloc, path.as_str())?,
+            Err(_) => return Err(FaultReport::new(alloc, Fault::NoMemory)),
+        }
+    }
+    Ok(())
+}
+
 /// Fails as `check_output` does if the translation is written to the file at `output`. If there is
 /// no `output`, the translation is printed: then fails if there is a folder `work` and standard
 /// output is a work file in it. Fails if memory is refused.
@@ -136,11 +148,13 @@ pub fn check_outputs<R: Files>(
 /// Fails if standard output is one of the work files in `folder`, and if memory is refused.
 fn check_standard_output<R: Files>(rt: &R, alloc: Global, folder: &str) -> Result<(), FaultReport> {
     for name in WORK_FILES {
-        let Ok(path) = path_in(alloc, folder, name) else {
-            return Err(FaultReport::new(alloc, Fault::NoMemory));
-        };
-        let path = path.as_str();
-        fail_if(alloc, is_standard_output(rt, path), OUTPUT_IS_TREE, path)?;
+        match path_in(alloc, folder, name) {
+            Ok(path) => {
+                let path = path.as_str();
+                fail_if(alloc, is_standard_output(rt, path), OUTPUT_IS_TREE, path)?;
+            }
+            Err(_) => return Err(FaultReport::new(alloc, Fault::NoMemory)),
+        }
     }
     Ok(())
 }

@@ -1,5 +1,5 @@
-//! The paths of tree files. Passes read a tree file from its end, so it can be neither a folder nor a
-//! pipe.
+//! The paths of tree files. A tree file can be neither a folder nor a pipe: passes read it from its
+//! end, which a pipe does not allow.
 
 use crate::system_faults::fault_or;
 use aggen::Fault;
@@ -46,7 +46,7 @@ pub fn check_tree_path<R: Files>(rt: &R, alloc: Global, path: &str) -> Result<()
         Ok(_) => Ok(()),
         Err(error) => match fault_or(&error, Fault::File) {
             Fault::NoMemory => Err(FaultReport::new(alloc, Fault::NoMemory)),
-            // the call that opens the file later fails too
+            // nothing is there, or the call that opens the file later fails too
             _ => Ok(()),
         },
     }

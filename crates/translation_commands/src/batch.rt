@@ -5,7 +5,8 @@ use aggen::{Fault, status};
 use command_line::{BatchPaths, InputPath, file_name_of};
 use messages::{FaultReport, Source};
 use program_io::{
-    build_translator, check_inputs, check_output, check_outputs, fault_or, path_in, read_input,
+    build_translator, check_inputs, check_output, check_outputs, check_work_files, fault_or,
+    path_in, read_input,
 };
 use screen::Screen;
 use std::alloc::{AllocError, Global};
@@ -21,6 +22,7 @@ use std::rt::{Clock, Files};
 /// Fails only before a sentence is read:
 /// - if a translation's file is one of the inputs (`usage`);
 /// - if an input or a translation's file is one of the tree files of `--work` (`usage`);
+/// - if one of these tree files is a folder or a pipe (F1);
 /// - if the folder for the translations is missing, can't be examined or is not a folder (F1);
 /// - if the grammar can't be read or is refused;
 /// - if memory is refused.
@@ -113,8 +115,8 @@ fn check_overlaps<R: Files>(
     Ok(())
 }
 
-/// Fails if an input, or a translation's file, is one of the tree files in `folder`, and if memory
-/// is refused.
+/// Fails if an input, or a translation's file, is one of the tree files in `folder`, if one of
+/// these tree files is a folder or a pipe (F1), and if memory is refused.
 fn check_work<R: Files>(
     rt: &R,
     alloc: Global,
@@ -122,6 +124,7 @@ fn check_work<R: Files>(
     outputs: &[String],
     folder: &str,
 ) -> Result<(), FaultReport> {
+    check_work_files(rt, alloc, folder)?;
     check_inputs(rt, alloc, &[paths.grammar], folder)?;
     for sentence in paths.sentences.iter() {
         check_inputs(rt, alloc, &[InputPath::File(*sentence)], folder)?;

@@ -9,8 +9,8 @@ use aggen_files::{WorkFiles, evaluate_file};
 use command_line::{EvalPaths, InputPath};
 use messages::{FaultReport, Source};
 use program_io::{
-    build_translator, check_inputs, check_translation, check_tree, open_tree, read_input,
-    report_of_input, write_file,
+    build_translator, check_inputs, check_translation, check_tree, check_work_files, open_tree,
+    read_input, report_of_input, write_file,
 };
 use screen::{Progress, Screen, ShownDevice};
 use std::alloc::Global;
@@ -24,11 +24,12 @@ use treefile::{Device, FileDevice, MemDevice, SharedDevice};
 /// Fails before the grammar is read:
 /// - if the tree file or the grammar is one of the tree files of `--work` (`usage`);
 /// - if the translation's file is an input or one of these tree files, or if the translation is
-///   printed and standard output is one of these tree files (`usage`).
+///   printed and standard output is one of these tree files (`usage`);
+/// - if one of these tree files is a folder or a pipe (F1).
 ///
-/// Also fails if the tree file is a folder or a pipe (F1), if an input can't be read, if the grammar,
-/// the tree or the translation is refused, if a tree file or the output fails, and if memory is
-/// refused.
+/// Also fails if the file of the tree is a folder or a pipe (F1; standard input may be a pipe), if
+/// an input can't be read, if the grammar, the tree or the translation is refused, if a tree file
+/// or the output fails, and if memory is refused.
 pub fn evaluate<R: Files + Input + Print + Eprint + Clock>(
     rt: &R,
     alloc: Global,
@@ -36,6 +37,7 @@ pub fn evaluate<R: Files + Input + Print + Eprint + Clock>(
     screen: Screen,
 ) -> Result<(), FaultReport> {
     if let Some(folder) = paths.work {
+        check_work_files(rt, alloc, folder)?;
         check_tree(rt, alloc, paths.tree, folder)?;
         check_inputs(rt, alloc, &[paths.grammar], folder)?;
     }

@@ -13,7 +13,8 @@ use command_line::RunPaths;
 use messages::{FaultReport, Source};
 use noted_file::CallRecord;
 use program_io::{
-    build_translator, check_inputs, check_translation, read_input, report_of_sentence, write_file,
+    build_translator, check_inputs, check_translation, check_work_files, read_input,
+    report_of_sentence, write_file,
 };
 use screen::{Progress, Screen, ShownDevice};
 use std::alloc::Global;
@@ -27,7 +28,8 @@ use treefile::{Device, SharedDevice};
 /// Fails before the grammar is read:
 /// - if an input is one of the tree files of `--work` (`usage`);
 /// - if the translation's file is an input or one of these tree files, or if the translation is
-///   printed and standard output is one of these tree files (`usage`).
+///   printed and standard output is one of these tree files (`usage`);
+/// - if one of these tree files is a folder or a pipe (F1).
 ///
 /// Also fails if an input can't be read, if the grammar, the sentence or the translation is
 /// refused, if a tree file or the output fails, and if memory is refused.
@@ -39,6 +41,7 @@ pub fn run_sentence<R: Files + Input + Print + Eprint + Clock>(
 ) -> Result<(), FaultReport> {
     let inputs = [paths.grammar, paths.sentence];
     if let Some(folder) = paths.work {
+        check_work_files(rt, alloc, folder)?;
         check_inputs(rt, alloc, &inputs, folder)?;
     }
     check_translation(rt, alloc, paths.output, &inputs, paths.work)?;

@@ -14,10 +14,10 @@ use treefile::FileDevice;
 /// Writes the tree file of a sentence, and prints the number of nodes. Reads the grammar, then the
 /// sentence, and then creates the tree file.
 ///
-/// Fails before the grammar is read if the tree file is the grammar, the sentence or standard output
-/// (`usage`), or a folder or a pipe (F1). Fails if an input can't be read, if the grammar or the
-/// sentence is refused, if the tree file can't be created or written, if the output fails, and if
-/// memory is refused.
+/// Fails before the grammar is read if the tree file is the grammar, the sentence or standard
+/// output (`usage`), or a folder or a pipe (F1). Fails if an input can't be read, if the grammar or
+/// the sentence is refused, if the tree file can't be created or written, if the output fails, and
+/// if memory is refused.
 pub fn parse_file<R: Files + Input + Print>(
     rt: &R,
     alloc: Global,
@@ -71,8 +71,8 @@ fn write_tree<R: Files + Print>(
 /// grammar, then opens the old file, and then creates the new one. Both may be one file: all of the
 /// old content is read before the new content is written.
 ///
-/// Fails before the grammar is read if the new file is the grammar or standard output (`usage`), or a
-/// folder or a pipe (F1). Fails if the grammar can't be read or is refused, if the old file is a
+/// Fails before the grammar is read if the new file is the grammar or standard output (`usage`), or
+/// a folder or a pipe (F1). Fails if the grammar can't be read or is refused, if the old file is a
 /// folder or a pipe or is refused, if a file or the output fails, and if memory is refused.
 pub fn convert_file<R: Files + Input + Print>(
     rt: &R,

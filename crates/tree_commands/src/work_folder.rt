@@ -1,12 +1,11 @@
 //! The choice of a tree file in a folder of `--work`.
 
 use ag_value::NoMemory;
-use noted_file::CallRecord;
-use program_io::{FileId, WORK_FILES, path_in};
+use aggen::Fault;
+use program_io::{FileId, WORK_FILES, open_tree, path_in};
 use std::alloc::Global;
 use std::rt::Files;
 use tree_index::{TreeFault, pass_of_file};
-use treefile::FileDevice;
 
 /// The path of a tree file.
 #[derive(Drop)]
@@ -50,11 +49,14 @@ impl<'a> TreePath<'a> {
 }
 
 /// Returns one more than the pass of the tree file at `path`. Returns 0, which is less than for
-/// pass 0, if the file can't be opened or read, or does not begin as a tree file of version 2.
+/// pass 0, if the file can't be opened (`open_tree`) or read, or does not begin as a tree file of
+/// version 2.
 /// Fails if memory is refused.
 fn pass_rank<R: Files>(rt: &R, alloc: Global, path: &str) -> Result<u32, NoMemory> {
-    let Ok(mut tree) = FileDevice::existing(rt, alloc, path, CallRecord::new()) else {
-        return Ok(0);
+    let mut tree = match open_tree(rt, alloc, path) {
+        Ok(tree) => tree,
+        Err(report) if matches!(report.fault, Fault::NoMemory) => return Err(NoMemory::NoMemory),
+        Err(_) => return Ok(0),
     };
     match pass_of_file(alloc, &mut tree) {
         Ok(pass) => Ok(u32::from(pass) + 1),

@@ -1,7 +1,7 @@
 //! Conflicts of two productions.
 
 use crate::grammar_text::GrammarText;
-use crate::grammars::left_recursion::{LeftRecursion, left_recursion_of};
+use crate::grammars::left_recursion::{direct_recursion_of, left_recursion_of};
 use crate::terminals::write_ahead;
 use ag_grammar::{Grammar, RawGrammar, RawItem, RawProduction};
 use llparse::{Ahead, TableFault};
@@ -9,6 +9,12 @@ use message_parts::classes::class_name;
 use message_parts::display::QuotedText;
 use message_parts::{Location, Parts};
 use std::alloc::{AllocError, Global};
+
+/// Names for a new symbol that derives what follows the first item of a list.
+const RESTS: [&str; 3] = ["Rest", "More", "Tail"];
+
+/// Names for a new symbol that derives an operand.
+const OPERANDS: [&str; 3] = ["Operand", "Part", "Factor"];
 
 /// Two productions of a grammar as they are written, and the look-ahead that predicts both.
 #[derive(Clone, Copy)]
@@ -107,7 +113,10 @@ fn write_help(
 ) -> Result<(), AllocError> {
     for production in [conflict.first, conflict.second] {
         if let Some(recursion) = left_recursion_of(alloc, conflict.raw, production)? {
-            return write_recursion(out, production, recursion);
+            return match recursion.before {
+                Some(before) => write_hidden(out, production, before),
+                None => write_recursion(out, conflict.raw, production, recursion.symbol),
+            };
         }
     }
     let left = conflict.first.left.name.as_str();
@@ -129,21 +138,34 @@ fn write_help(
     }
 }
 
-/// Writes what to do about a left-recursive production.
+/// Writes what to do about a production that begins with `symbol`, which is its left side or can
+/// begin with it. A symbol that begins with itself is changed first: replacing it would never end.
 fn write_recursion(
     out: &mut String,
+    raw: &RawGrammar,
     production: &RawProduction,
-    recursion: LeftRecursion<'_>,
+    symbol: &str,
+) -> Result<(), AllocError> {
+    if production.left.name.as_str() == symbol {
+        return write_direct(out, raw, production);
+    }
+    match direct_recursion_of(raw, symbol) {
+        Some(direct) => write_direct(out, raw, direct),
+        None => write_indirect(out, production, symbol),
+    }
+}
+
+/// Writes what to do about a production that begins with its left side.
+fn write_direct(
+    out: &mut String,
+    raw: &RawGrammar,
+    production: &RawProduction,
 ) -> Result<(), AllocError> {
     let left = production.left.name.as_str();
-    match (recursion.before, production.items.as_slice()) {
-        (Some(before), _) => write_hidden(out, production, before),
-        (None, _) if recursion.symbol != left => write_indirect(out, production, recursion.symbol),
-        (None, [_]) => write_cycle(out, production),
-        (None, [_, middle @ .., last]) if is_symbol(last, left) => {
-            write_operator(out, left, middle)
-        }
-        _ => write_repetition(out, left),
+    match production.items.as_slice() {
+        [_] => write_cycle(out, production),
+        [_, middle @ .., last] if is_symbol(last, left) => write_operator(out, raw, left, middle),
+        _ => write_repetition(out, raw, left),
     }
 }
 
@@ -192,9 +214,14 @@ fn write_cycle(out: &mut String, production: &RawProduction) -> Result<(), Alloc
 
 /// Writes how a production such as `E = E "+" E` is written without left recursion. `middle` is
 /// what is between the two operands.
-fn write_operator(out: &mut String, left: &str, middle: &[RawItem]) -> Result<(), AllocError> {
-    let rest = other_name(left, "Rest", "More");
-    let operand = other_name(left, "Operand", "Part");
+fn write_operator(
+    out: &mut String,
+    raw: &RawGrammar,
+    left: &str,
+    middle: &[RawItem],
+) -> Result<(), AllocError> {
+    let rest = new_name(raw, RESTS);
+    let operand = new_name(raw, OPERANDS);
     write!(
         out,
         "write the operators as `{left} = {operand} {rest}`, `{rest} ="
@@ -210,8 +237,8 @@ fn write_operator(out: &mut String, left: &str, middle: &[RawItem]) -> Result<()
 }
 
 /// Writes how left-recursive productions are written without left recursion.
-fn write_repetition(out: &mut String, left: &str) -> Result<(), AllocError> {
-    let rest = other_name(left, "Rest", "More");
+fn write_repetition(out: &mut String, raw: &RawGrammar, left: &str) -> Result<(), AllocError> {
+    let rest = new_name(raw, RESTS);
     write!(
         out,
         "write `{left} = {left} b` and `{left} = a` as `{left} = a {rest}`, `{rest} = b {rest}` and `{rest} =`"
@@ -245,9 +272,25 @@ fn write_factored(out: &mut String, common: &[RawItem]) -> Result<(), AllocError
     out.push_str("` once, followed by a new symbol with a production for each ending")
 }
 
-/// Returns `usual` as the name of a new symbol, or `other` if `left` has that name.
-fn other_name<'a>(left: &str, usual: &'a str, other: &'a str) -> &'a str {
-    if left == usual { other } else { usual }
+/// Returns the first of these names that the grammar does not declare, or the last if it declares
+/// all.
+fn new_name(raw: &RawGrammar, names: [&'static str; 3]) -> &'static str {
+    let [first, second, third] = names;
+    if !is_declared(raw, first) {
+        first
+    } else if !is_declared(raw, second) {
+        second
+    } else {
+        third
+    }
+}
+
+/// Returns whether a grammar declares a symbol with this name.
+fn is_declared(raw: &RawGrammar, name: &str) -> bool {
+    let symbols = raw.symbols.as_slice();
+    symbols
+        .iter()
+        .any(|symbol| symbol.name.name.as_str() == name)
 }
 
 /// Returns whether an item is the symbol of a name.

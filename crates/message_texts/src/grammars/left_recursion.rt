@@ -1,13 +1,10 @@
 //! Left recursion: a production whose right side can begin with its own left side again. It always
 //! leads to a conflict.
 
+use ag_grammar::limits::MAX_SYMBOLS;
 use ag_grammar::{RawGrammar, RawItem, RawProduction};
 use std::alloc::{AllocError, Global};
 use std::collections::HashSet;
-
-/// The greatest number of rounds over all productions in a search. The limit bounds the time for a
-/// message. If it is reached, left recursion may not be found.
-const MAX_ROUNDS: usize = 64;
 
 /// How a right side can begin with its own left side again.
 #[derive(Clone, Copy)]
@@ -18,21 +15,20 @@ pub struct LeftRecursion<'a> {
     pub before: Option<&'a str>,
 }
 
-/// Returns how a production can begin with its own left side again, or `None` if it can't. Also
-/// returns `None` if the production can begin so only by more than `MAX_ROUNDS` others. Fails if
-/// memory is refused.
+/// Returns how a production can begin with its own left side again, or `None` if it can't. The
+/// grammar has at most `MAX_SYMBOLS` symbols. Fails if memory is refused.
 pub fn left_recursion_of<'a>(
     alloc: Global,
     raw: &'a RawGrammar,
     production: &'a RawProduction,
 ) -> Result<Option<LeftRecursion<'a>>, AllocError> {
-    let left = production.left.name.as_str();
     let empty = empty_symbols(alloc, raw)?;
+    let recursive = symbols_that_begin_with(alloc, raw, &empty, production.left.name.as_str())?;
     let mut before = None;
     for item in starting_items(production, &empty) {
         if let RawItem::Name(name) = item {
             let symbol = name.name.as_str();
-            if first_symbols(alloc, raw, &empty, symbol)?.contains(left) {
+            if recursive.contains(symbol) {
                 return Ok(Some(LeftRecursion { symbol, before }));
             }
             before = Some(symbol);
@@ -41,10 +37,24 @@ pub fn left_recursion_of<'a>(
     Ok(None)
 }
 
-/// Returns the names of the symbols that can be empty; only those that `MAX_ROUNDS` rounds find.
+/// Returns the first production of a symbol that begins with the symbol itself, if there is one.
+pub fn direct_recursion_of<'a>(raw: &'a RawGrammar, symbol: &str) -> Option<&'a RawProduction> {
+    for production in raw.productions.as_slice() {
+        if production.left.name.as_str() == symbol {
+            if let Some(RawItem::Name(first)) = production.items.as_slice().first() {
+                if first.name.as_str() == symbol {
+                    return Some(production);
+                }
+            }
+        }
+    }
+    None
+}
+
+/// Returns the symbols that can be empty. Each round but the last adds one.
 fn empty_symbols<'a>(alloc: Global, raw: &'a RawGrammar) -> Result<HashSet<&'a str>, AllocError> {
     let mut empty = HashSet::new(alloc);
-    for _ in 0..MAX_ROUNDS {
+    for _ in 0..=MAX_SYMBOLS {
         if !add_empty(raw, &mut empty)? {
             break;
         }
@@ -59,7 +69,7 @@ fn add_empty<'a>(raw: &'a RawGrammar, empty: &mut HashSet<&'a str>) -> Result<bo
     for production in raw.productions.as_slice() {
         let left = production.left.name.as_str();
         let items = production.items.as_slice();
-        if !empty.contains(left) && items.iter().all(|item| is_empty(item, empty)) {
+        if !empty.contains(left) && items.iter().all(|item| is_among(item, empty)) {
             empty.insert(left)?;
             is_new = true;
         }
@@ -67,39 +77,38 @@ fn add_empty<'a>(raw: &'a RawGrammar, empty: &mut HashSet<&'a str>) -> Result<bo
     Ok(is_new)
 }
 
-/// Returns the symbols with which `symbol` can begin, itself among them; only those that
-/// `MAX_ROUNDS` rounds find.
-fn first_symbols<'a>(
+/// Returns the symbols that can begin with `symbol`, itself among them. `empty` has the symbols
+/// that can be empty. Each round but the last adds a symbol.
+fn symbols_that_begin_with<'a>(
     alloc: Global,
     raw: &'a RawGrammar,
     empty: &HashSet<&'a str>,
     symbol: &'a str,
 ) -> Result<HashSet<&'a str>, AllocError> {
-    let mut firsts = HashSet::new(alloc);
-    firsts.insert(symbol)?;
-    for _ in 0..MAX_ROUNDS {
-        if !add_firsts(raw, empty, &mut firsts)? {
+    let mut found = HashSet::new(alloc);
+    found.insert(symbol)?;
+    for _ in 0..=MAX_SYMBOLS {
+        if !add_beginning(raw, empty, &mut found)? {
             break;
         }
     }
-    Ok(firsts)
+    Ok(found)
 }
 
-/// Adds to `firsts` the symbols with which the productions of its symbols can begin. Returns
-/// whether one was added.
-fn add_firsts<'a>(
+/// Adds each symbol to `found` that has a production that can begin with a symbol in `found`.
+/// Returns whether one was added.
+fn add_beginning<'a>(
     raw: &'a RawGrammar,
     empty: &HashSet<&'a str>,
-    firsts: &mut HashSet<&'a str>,
+    found: &mut HashSet<&'a str>,
 ) -> Result<bool, AllocError> {
     let mut is_new = false;
     for production in raw.productions.as_slice() {
-        if firsts.contains(production.left.name.as_str()) {
-            for item in starting_items(production, empty) {
-                if let RawItem::Name(name) = item {
-                    is_new |= firsts.insert(name.name.as_str())?;
-                }
-            }
+        let left = production.left.name.as_str();
+        let items = starting_items(production, empty);
+        if !found.contains(left) && items.iter().any(|item| is_among(item, found)) {
+            found.insert(left)?;
+            is_new = true;
         }
     }
     Ok(is_new)
@@ -109,16 +118,16 @@ fn add_firsts<'a>(
 /// items before that.
 fn starting_items<'a>(production: &'a RawProduction, empty: &HashSet<&str>) -> &'a [RawItem] {
     let items = production.items.as_slice();
-    match items.iter().position(|item| !is_empty(item, empty)) {
+    match items.iter().position(|item| !is_among(item, empty)) {
         Some(last) => items.get(..=last).unwrap_or(items),
         None => items,
     }
 }
 
-/// Returns whether an item is a symbol in `empty`.
-fn is_empty(item: &RawItem, empty: &HashSet<&str>) -> bool {
+/// Returns whether an item is one of these symbols.
+fn is_among(item: &RawItem, symbols: &HashSet<&str>) -> bool {
     match item {
-        RawItem::Name(name) => empty.contains(name.name.as_str()),
+        RawItem::Name(name) => symbols.contains(name.name.as_str()),
         RawItem::Literal(_) | RawItem::Class(_) => false,
     }
 }
