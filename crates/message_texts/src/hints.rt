@@ -39,6 +39,18 @@ const QUOTES: &str = "texts and literals are written in double quotes";
 /// What helps at `|` in or after a production.
 const ALTERNATIVE: &str = "write a production for each alternative";
 
+/// What helps where another language ends the left side of a production or of a rule.
+const EQUALS: &str = "a production is written `A = B C { .. }`, and a rule `$0.a = ..;`";
+
+/// What helps at a sign of repeated or optional items.
+const LIST: &str = "what is repeated or left out is a symbol with two productions";
+
+/// What helps where a rule does not begin with its target.
+const RULE: &str = "a rule is written `$0.a = ..;`";
+
+/// What helps at the beginning of a text that is not a grammar.
+const START: &str = "a grammar begins with `start S;`";
+
 /// What helps at a call of an unknown name.
 const CALLS: &str =
     "the calls are `len`, `text`, `number`, `keys`, `iserr`, `nth`, `append`, `join`, `get`, `has`, `orelse` and `put`";
@@ -141,11 +153,11 @@ impl<'a> Context<'a> {
             Some("false") if is_name => "`false` is written `0`",
             Some("=") if self.before.ends_with('<') => "`a <= b` is written `(b < a) == 0`",
             Some("if" | "let") if is_operand => PARENTHESES,
-            _ if is_operand => self.reserved_hint(RESERVED),
+            _ if is_operand => self.name_hint(RESERVED),
             Some(_) if expected.contains(&Expected::Part(Part::Sign("}"))) => TABLE,
             _ if is_name && self.is_call() => CALLS,
             _ if expected.contains(&Expected::Part(Part::NewName)) => {
-                self.reserved_hint(RESERVED_NAME)
+                self.name_hint(RESERVED_NAME)
             }
             _ => "",
         }
@@ -164,17 +176,26 @@ impl<'a> Context<'a> {
         if expected.contains(&Expected::End) && matches!(self.found, Some("symbol")) {
             return DECLARATION;
         }
+        match self.found {
+            Some(found) => self.sign_hint(found, expected),
+            None => "",
+        }
+    }
+
+    /// Returns a hint about signs of other languages, and about names that can't be there, such as
+    /// reserved words.
+    fn sign_hint(&self, found: &str, expected: &[Expected]) -> &'static str {
         let is_item = expected.contains(&Expected::Item);
-        if is_item && begins_with(self.found, '\'') {
-            return QUOTES;
+        match found.chars().next() {
+            Some('\'') if is_item => QUOTES,
+            Some('|') if is_item || expected.contains(&Expected::End) => ALTERNATIVE,
+            Some('*' | '+' | '?' | '[') if is_item => LIST,
+            Some(':' | '-') if expected.contains(&Expected::Sign("=")) => EQUALS,
+            _ if expected.contains(&Expected::Sign("start")) => START,
+            _ if expected.contains(&Expected::Rule) => self.name_hint(RULE),
+            _ if is_item || expected.contains(&Expected::Name) => self.name_hint(RESERVED_NAME),
+            _ => "",
         }
-        if (is_item || expected.contains(&Expected::End)) && begins_with(self.found, '|') {
-            return ALTERNATIVE;
-        }
-        if expected.contains(&Expected::Name) || is_item {
-            return self.reserved_hint(RESERVED_NAME);
-        }
-        ""
     }
 
     /// Returns whether `(` follows what was found, as in a call.
@@ -192,9 +213,9 @@ impl<'a> Context<'a> {
         is_second || ["//", "#", "--", "/*"].iter().any(is_first)
     }
 
-    /// Returns `hint` if a name was found, and otherwise an empty text. The callers expect a name
-    /// or an operand: a name that is refused there is a reserved word.
-    fn reserved_hint(&self, hint: &'static str) -> &'static str {
+    /// Returns `hint` if a name was found, and otherwise an empty text. Where a name or an operand is
+    /// expected, a name that is refused is a reserved word.
+    fn name_hint(&self, hint: &'static str) -> &'static str {
         let Some(found) = self.found else {
             return "";
         };

@@ -15,6 +15,19 @@ use message_parts::{Location, Parts};
 use normalform::NormalFault;
 use std::alloc::{AllocError, Global};
 
+/// Names of classes of tokens in other generators, and of those here, without regard to case.
+const CLASSES_ELSEWHERE: [&str; 9] = [
+    "name",
+    "id",
+    "ident",
+    "identifier",
+    "number",
+    "int",
+    "integer",
+    "text",
+    "string",
+];
+
 /// Returns the location of the name, the occurrence or the production for which a grammar is
 /// refused, or `Whole` if the whole grammar exceeds a limit or the fault is NoMemory. `InFault` if
 /// `text` has no raw grammar, since memory for reading it again was refused.
@@ -142,13 +155,23 @@ fn describe_unknown(parts: &mut Parts, raw: &RawGrammar, at: usize) -> Result<()
     }
 }
 
-/// Describes N1: a symbol that is not declared.
+/// Describes N1: a symbol that is not declared. If its name is one that others give to a class of
+/// tokens, lists the classes.
 fn describe_undeclared(parts: &mut Parts, name: &str) -> Result<(), AllocError> {
     write!(parts.found, "symbol `{name}` is not declared")?;
     write!(
         parts.help,
         "declare it with `symbol {name} ..;`, or correct the name"
-    )
+    )?;
+    if CLASSES_ELSEWHERE
+        .iter()
+        .any(|class| name.eq_ignore_ascii_case(class))
+    {
+        return parts
+            .help
+            .push_str(" (the classes of tokens are NAME, NUMBER and TEXT)");
+    }
+    Ok(())
 }
 
 /// Writes the attributes that exist at the place of an occurrence. If neither a class nor a
@@ -271,7 +294,7 @@ fn describe_unproductive(
         return parts.help.push_str("add one");
     }
     match endless_symbols(alloc, raw) {
-        Ok(Some(names)) => describe_endless(parts, names.as_slice()),
+        Ok(Some(names)) => describe_endless(parts, raw, names.as_slice()),
         Ok(None) | Err(_) => {
             write!(parts.found, "`{name}`")?;
             parts.add(
@@ -282,8 +305,9 @@ fn describe_unproductive(
     }
 }
 
-/// Describes N4 by all symbols that never end (that are unproductive, as `endless` explains).
-fn describe_endless(parts: &mut Parts, names: &[&str]) -> Result<(), AllocError> {
+/// Describes N4 by all symbols that never end (that are unproductive, as `endless` explains). If
+/// one of them has no production, says so.
+fn describe_endless(parts: &mut Parts, raw: &RawGrammar, names: &[&str]) -> Result<(), AllocError> {
     write_symbols(&mut parts.found, names)?;
     if names.len() == 1 {
         return parts.add(
@@ -291,10 +315,13 @@ fn describe_endless(parts: &mut Parts, names: &[&str]) -> Result<(), AllocError>
             "add a production without it",
         );
     }
-    parts.add(
-        " never end, since each of their productions contains one of them",
-        "add a production without them",
-    )
+    parts.found.push_str(" never end, since each of their productions contains one of them")?;
+    for name in names {
+        if !has_production(raw, name) {
+            return write!(parts.help, "`{}` has no production, add one", *name);
+        }
+    }
+    parts.help.push_str("add a production without them")
 }
 
 /// Writes the names of symbols, at most the first twelve, and the number of the rest.
