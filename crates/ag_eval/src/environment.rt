@@ -8,7 +8,7 @@ use ag_carried::Carried;
 use ag_value::Value;
 
 /// The values of an expression's occurrences.
-pub trait Environment {
+pub trait Env {
     ghost use Rattle.ag_value.specs.declared.value.Value.{Value as AttributeValue};
 
     /// The number of occurrences whose values are lent; they are numbered from 0.
@@ -88,11 +88,11 @@ pub trait Lender {
 
 /// An environment that lends values.
 #[derive(Drop)]
-pub struct ByValue<'e, V: Environment> {
+pub struct ByValue<'e, V: Env> {
     pub env: &'e V,
 }
 
-impl<'e, V: Environment> Lender for ByValue<'e, V> {
+impl<'e, V: Env> Lender for ByValue<'e, V> {
     ghost count = { λ lender. V.count lender.env.now };
 
     ghost lent = { λ lender. V.lent lender.env.now };

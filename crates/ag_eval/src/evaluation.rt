@@ -19,7 +19,7 @@ ghost use Rattle.ag_value.specs.operations.Lists.{listed};
 use crate::available::{copied, literal_value};
 use crate::bindings::Bindings;
 use crate::calls::{apply, call_binary, call_put, call_unary, fault};
-use crate::environment::{ByValue, Environment, Lender, Loan};
+use crate::environment::{ByValue, Env, Lender, Loan};
 use crate::list_builder::ListBuilder;
 use crate::measured::Measured;
 use crate::meter::Meter;
@@ -386,7 +386,7 @@ fn decided(condition: ValueRef<'_>) -> Result<bool, ErrorCode>
 /// the result or an item of a list or table, and by some operators and calls (README.md, "How large
 /// values are evaluated").
 #[inline(always)]
-pub fn eval<V: Environment>(
+pub fn eval<V: Env>(
     alloc: Global,
     expr: &Expr,
     env: &V,

@@ -27,7 +27,7 @@ mod value_ref;
 
 pub use available::eval_number;
 pub use carried::{eval_carried, eval_scalar};
-pub use environment::{CarriedEnvironment, Environment};
+pub use environment::{CarriedEnvironment, Env};
 pub use evaluation::eval;
 pub use meter::Meter;
 pub use scalar::Scalar;

@@ -1,7 +1,6 @@
 //! Formatting of faults.
 
 use crate::fault::ExprFault;
-use std::error::Error;
 use std::fmt;
 
 /// Writes the number of the fault and, if it has one, the offset: `X2 at 13`.
@@ -21,5 +20,3 @@ impl fmt::Display for ExprFault {
         }
     }
 }
-
-impl Error for ExprFault {}

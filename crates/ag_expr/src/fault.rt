@@ -4,9 +4,10 @@ ghost use Rattle.std.specs.Prelude.{◌≡◌};
 ghost use Rattle.ag_expr.specs.declared.fault.ExprFault.TheVariants as expr_fault;
 
 use ag_value::OutOfMemory;
+use thiserror::Error;
 
 /// Why parsing a text as an expression fails. Offsets are in bytes from the beginning of the text.
-#[derive(Clone, Copy, Debug, PartialEq, Eq)]
+#[derive(Clone, Copy, Debug, PartialEq, Eq, Error)]
 pub enum ExprFault {
     /// X1: the character at this offset is not a separator, and no token begins with it.
     NoToken(usize),

@@ -10,21 +10,27 @@ use ag_text::TextFault;
 use ag_value::NoMemory;
 use llparse::TableFault;
 use normalform::NormalFault;
+use thiserror::Error;
 
 /// Why a translator can't be built from a grammar's text. Calls of the crate `aggen` return refused
 /// memory only as `NoMemory`, never inside another variant.
-#[derive(Debug, Drop)]
+#[derive(Debug, Drop, Error)]
 pub enum BuildFault {
     /// G1 to G4: the text can't be read as a grammar.
+    #[error(transparent)]
     Text(TextFault),
     /// N1 to N10: the grammar is not accepted.
+    #[error(transparent)]
     Normal(NormalFault),
     /// L1: one token of look-ahead doesn't determine the next production.
+    #[error(transparent)]
     Table(TableFault),
     /// A1: no assignment of passes to the grammar's attributes is legal. No conversion makes this
     /// variant: `Translator::build` and `certify_plan` of `aggen` do.
+    #[error(transparent)]
     Assign(StuckGrammar),
     /// A request for memory was refused.
+    #[error("NoMemory a request for memory was refused")]
     NoMemory,
 }
 

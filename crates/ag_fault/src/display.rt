@@ -7,7 +7,6 @@ ghost use Rattle.ag_fault.specs.Printed.{attribute_text, qualified_name};
 use crate::fault::Fault;
 use crate::stuck_grammar::StuckGrammar;
 use ag_grammar::Grammar;
-use std::error::Error;
 use std::fmt;
 
 /// Prints the number of the fault first, as in `D1 reading or writing failed`. A fault without a
@@ -41,8 +40,6 @@ impl fmt::Display for Fault {
         }
     }
 }
-
-impl Error for Fault {}
 
 /// Prints A1 and the attributes to which no pass can be assigned: `A1 R.out A.s A.i`.
 impl fmt::Display for StuckGrammar {

@@ -19,12 +19,13 @@ use llparse::{ParseFault, TableFault};
 use normalform::NormalFault;
 use pass_rows::RunFault;
 use std::alloc::AllocError;
+use thiserror::Error;
 use treefile::{DeviceFault, FileFault, FrameFault};
 
 /// Why the program, or a call of its library, failed. Each fault except `Usage` and `NoMemory` has
 /// a number such as D1, which is printed first. Calls of the crate `aggen` return refused memory
 /// only as `NoMemory` and a failed device only as `Device`, never inside another variant.
-#[derive(Debug, Drop)]
+#[derive(Debug, Drop, Error)]
 pub enum Fault {
     /// The command line is wrong.
     Usage,

@@ -1,7 +1,6 @@
 //! Prints the faults of a job.
 
 use crate::fault::JobFault;
-use std::error::Error;
 use std::fmt;
 
 /// Prints a line such as `J2 standard input can't be read`: the fault's number or `NoMemory`, what
@@ -28,5 +27,3 @@ impl fmt::Display for JobFault {
         }
     }
 }
-
-impl Error for JobFault {}

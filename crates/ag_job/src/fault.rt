@@ -4,9 +4,10 @@ ghost use Rattle.std.specs.Prelude.{◌≡◌};
 ghost use Rattle.ag_job.specs.Jobs.{job_fault_of};
 
 use crate::reading::ReadFault;
+use thiserror::Error;
 
 /// Why a job can't be read.
-#[derive(Clone, Copy, Debug, PartialEq, Eq)]
+#[derive(Clone, Copy, Debug, PartialEq, Eq, Error)]
 pub enum JobFault {
     /// J1: no line is exactly `%%`.
     NoSeparator,

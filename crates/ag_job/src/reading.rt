@@ -3,14 +3,17 @@
 ghost use Rattle.std.specs.Prelude.{IfOk, IfSome, ◌≡◌, take};
 
 use std::alloc::Global;
-use std::io::{Error, ErrorKind, Read};
+use std::io::{self, ErrorKind, Read};
+use thiserror::Error;
 
 /// Why bytes can't be read.
-#[derive(Clone, Copy, Debug, PartialEq, Eq)]
+#[derive(Clone, Copy, Debug, PartialEq, Eq, Error)]
 pub enum ReadFault {
     /// The reader failed.
+    #[error("read: the reader failed")]
     Read,
     /// A request for memory was refused.
+    #[error("NoMemory a request for memory was refused")]
     NoMemory,
 }
 
@@ -34,7 +37,7 @@ pub fn read_prefix<R: Read + Drop>(
 }
 
 /// Returns `NoMemory` if the error is a refused request for memory, otherwise `Read`.
-fn read_fault_of(error: &Error) -> ReadFault {
+fn read_fault_of(error: &io::Error) -> ReadFault {
     if error.kind() == ErrorKind::OutOfMemory {
         ReadFault::NoMemory
     } else {

@@ -1,7 +1,6 @@
 //! Formatting of faults.
 
 use crate::fault::ScanFault;
-use std::error::Error;
 use std::fmt;
 
 /// Writes the number of the fault and, if it has one, the offset: `S2 at 1`, `S4`.
@@ -21,5 +20,3 @@ impl fmt::Display for ScanFault {
         }
     }
 }
-
-impl Error for ScanFault {}

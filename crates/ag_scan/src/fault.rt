@@ -4,10 +4,11 @@ ghost use Rattle.std.specs.Prelude.{◌≡◌};
 ghost use Rattle.ag_scan.specs.declared.fault.ScanFault.TheVariants as scan_fault;
 
 use ag_value::OutOfMemory;
+use thiserror::Error;
 
 /// Why scanning a sentence fails. (It succeeds for an empty sentence, with no tokens.) Offsets are
 /// in bytes from the beginning of the sentence.
-#[derive(Clone, Copy, Debug, PartialEq, Eq)]
+#[derive(Clone, Copy, Debug, PartialEq, Eq, Error)]
 pub enum ScanFault {
     /// S1: the sentence is not UTF-8; the offset of the first invalid byte.
     BadUtf8(usize),

@@ -1,7 +1,6 @@
 //! Formatting of faults.
 
 use crate::fault::TextFault;
-use std::error::Error;
 use std::fmt;
 
 /// Writes the number of the fault, and its offset if it has one: `G2 at 6`, `G3 X2 at 46`, `G4`.
@@ -22,5 +21,3 @@ impl fmt::Display for TextFault {
         }
     }
 }
-
-impl Error for TextFault {}

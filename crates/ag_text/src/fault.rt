@@ -1,9 +1,10 @@
 //! The faults of parsing a text as a grammar.
 
 use ag_expr::ExprFault;
+use thiserror::Error;
 
 /// Why parsing a text as a grammar fails. Offsets are in bytes from the beginning of the text.
-#[derive(Clone, Copy, Debug, PartialEq, Eq)]
+#[derive(Clone, Copy, Debug, PartialEq, Eq, Error)]
 pub enum TextFault {
     /// G1: the text is not UTF-8; the offset of the first invalid byte.
     BadUtf8(usize),

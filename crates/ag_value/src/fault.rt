@@ -5,11 +5,13 @@ ghost use Rattle.ag_value.specs.declared.fault.NoMemory.TheVariants as no_memory
 ghost use Rattle.ag_value.specs.declared.fault.ValueFault.TheVariants as value_fault;
 
 use std::alloc::{AllocError, AllocFailed};
+use thiserror::Error;
 
 /// The fault of a call that can only run out of memory: the allocator refused memory, or a count
 /// would exceed 2^64 - 1, namely a number of bytes or the number of owners of a shared value.
-#[derive(Clone, Copy, Debug, PartialEq, Eq)]
+#[derive(Clone, Copy, Debug, PartialEq, Eq, Error)]
 pub enum NoMemory {
+    #[error("NoMemory a request for memory was refused")]
     NoMemory,
 }
 
@@ -41,11 +43,13 @@ impl<T: Drop> From<AllocFailed<T>> for NoMemory {
 }
 
 /// The reasons why `decode` fails.
-#[derive(Clone, Copy, Debug, PartialEq, Eq)]
+#[derive(Clone, Copy, Debug, PartialEq, Eq, Error)]
 pub enum ValueFault {
     /// V1: no prefix of the bytes is the spelling of a well value.
+    #[error("V1 the bytes do not begin with the spelling of a well value")]
     Malformed,
     /// Memory ran out, with the causes of [`NoMemory`].
+    #[error("NoMemory a request for memory was refused")]
     NoMemory,
 }
 

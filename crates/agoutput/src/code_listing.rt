@@ -29,33 +29,27 @@ struct NumberedProduction<'g> {
 
 /// Appends `name`, the name of an instruction with a space after it, and a place in decimal. Fails
 /// if memory is refused, as all `show_` functions do.
-fn show_place(alloc: Global, out: &mut String, name: &str, place: u16) -> Result<(), AllocError>
+fn show_place(out: &mut String, name: &str, place: u16) -> Result<(), AllocError>
     ensures { OnOk result (string_bytes out.new ≡ string_bytes out.old
         ++ (name.now ++ decimal place)) }
 {
     out.push_str(name)?;
-    show_number(alloc, out, place as usize)
+    show_number(out, place as usize)
 }
 
 /// Appends the name of an attribute, and the number of the rule that computes it, as in `s rule 2`.
 /// The rules of a production are numbered from 0.
-fn show_attribute_and_rule(
-    alloc: Global,
-    out: &mut String,
-    name: &str,
-    rule: u16,
-) -> Result<(), AllocError>
+fn show_attribute_and_rule(out: &mut String, name: &str, rule: u16) -> Result<(), AllocError>
     ensures { OnOk result (string_bytes out.new ≡ string_bytes out.old
         ++ (name.now ++ codes " rule " ++ decimal rule)) }
 {
     out.push_str(name)?;
     out.push_str(" rule ")?;
-    show_number(alloc, out, rule as usize)
+    show_number(out, rule as usize)
 }
 
 /// Appends the text of an instruction for a node of a production.
 fn show_instruction(
-    alloc: Global,
     out: &mut String,
     grammar: &Grammar,
     production: &Production,
@@ -65,19 +59,19 @@ fn show_instruction(
         ≡ string_bytes out.old ++ instruction_text grammar.now production.now instruction) }
 {
     match instruction {
-        Instr::Get(place) => show_place(alloc, out, "get ", place)?,
+        Instr::Get(place) => show_place(out, "get ", place)?,
         Instr::Set { place, attr, rule } => {
-            show_place(alloc, out, "set ", place)?;
+            show_place(out, "set ", place)?;
             out.push_str(".")?;
             let name = attribute_name(grammar, production, place, attr);
-            show_attribute_and_rule(alloc, out, name, rule)?;
+            show_attribute_and_rule(out, name, rule)?;
         }
-        Instr::Go(place) => show_place(alloc, out, "go ", place)?,
-        Instr::Put(place) => show_place(alloc, out, "put ", place)?,
+        Instr::Go(place) => show_place(out, "go ", place)?,
+        Instr::Put(place) => show_place(out, "put ", place)?,
         Instr::Def { attr, rule } => {
             out.push_str("def ")?;
             let name = attribute_name(grammar, production, 0, attr);
-            show_attribute_and_rule(alloc, out, name, rule)?;
+            show_attribute_and_rule(out, name, rule)?;
         }
         Instr::End => out.push_str("end")?,
     }
@@ -86,7 +80,6 @@ fn show_instruction(
 
 /// Appends the texts of instructions, separated by a comma and a space.
 fn show_list(
-    alloc: Global,
     out: &mut String,
     grammar: &Grammar,
     production: &Production,
@@ -98,10 +91,10 @@ fn show_list(
     let [first, rest @ ..] = list else {
         return Ok(());
     };
-    show_instruction(alloc, out, grammar, production, *first)?;
+    show_instruction(out, grammar, production, *first)?;
     for instruction in rest {
         out.push_str(", ")?;
-        show_instruction(alloc, out, grammar, production, *instruction)?;
+        show_instruction(out, grammar, production, *instruction)?;
     }
     Ok(())
 }
@@ -109,7 +102,6 @@ fn show_list(
 /// Appends the line of a production and a pass: their numbers and the instructions of `list`.
 /// Productions are numbered from 0, and passes from 1.
 fn show_line(
-    alloc: Global,
     out: &mut String,
     numbered: &NumberedProduction<'_>,
     pass: usize,
@@ -118,18 +110,17 @@ fn show_line(
     ensures { let of = numbered.now in OnOk result (string_bytes out.new ≡ string_bytes out.old
         ++ code_line of.grammar.now of.number of.production.now (pass, list.now)) }
 {
-    show_number(alloc, out, numbered.number)?;
+    show_number(out, numbered.number)?;
     out.push_str(" pass ")?;
-    show_number(alloc, out, pass)?;
+    show_number(out, pass)?;
     out.push_str(": ")?;
-    show_list(alloc, out, numbered.grammar, numbered.production, list)?;
+    show_list(out, numbered.grammar, numbered.production, list)?;
     out.push_str("\n")?;
     Ok(())
 }
 
 /// Appends the lines of a production, one for each pass from 1.
 fn show_production(
-    alloc: Global,
     out: &mut String,
     numbered: &NumberedProduction<'_>,
     lists: &[Vec<Instr>],
@@ -138,7 +129,7 @@ fn show_production(
         ++ production_text of.grammar.now ((of.number, of.production.now), row_of lists.now)) }
 {
     for (before, list) in lists.iter().enumerate() {
-        show_line(alloc, out, numbered, before + 1, list.as_slice())?;
+        show_line(out, numbered, before + 1, list.as_slice())?;
     }
     Ok(())
 }
@@ -155,7 +146,7 @@ fn code_lines(alloc: Global, grammar: &Grammar, code: &Code) -> Result<String, A
             number,
             production,
         };
-        show_production(alloc, &mut out, &numbered, lists.as_slice())?;
+        show_production(&mut out, &numbered, lists.as_slice())?;
     }
     Ok(out)
 }

@@ -2,8 +2,9 @@
 
 ghost use Rattle.std.specs.Prelude.{◌≡◌, IfOk, string_bytes};
 ghost use Rattle.agoutput.specs.Lines.{counts_line as counts_text, nodes_line as nodes_text};
-ghost use Rattle.agoutput.specs.Lines.{noun_for as noun_text, value_line as value_text};
+ghost use Rattle.agoutput.specs.Lines.{value_line as value_text};
 
+use crate::naming::show_number;
 use ag_grammar::Grammar;
 use ag_value::{NoMemory, Value, show};
 use std::alloc::{AllocError, Global};
@@ -18,33 +19,26 @@ pub fn value_line(alloc: Global, value: &Value) -> Result<String, NoMemory>
 }
 
 /// Returns the line with the number of symbols and the number of productions of a grammar, as in
-/// `1 symbol, 2 productions`, and LF. Fails with AllocError if memory is refused.
+/// `1 symbols, 2 productions`, and LF. The words are the same for each number. Fails with
+/// AllocError if memory is refused.
 pub fn counts_line(alloc: Global, grammar: &Grammar) -> Result<String, AllocError>
     ensures { IfOk result (λ line. string_bytes line ≡ counts_text grammar.now) }
 {
-    let symbols = grammar.symbols().len();
-    let productions = grammar.productions().len();
-    let mut line = symbols.to_string(alloc)?;
-    line.push_str(noun_for(symbols, " symbol, ", " symbols, "))?;
-    let counted = productions.to_string(alloc)?;
-    line.push_str(counted.as_str())?;
-    line.push_str(noun_for(productions, " production\n", " productions\n"))?;
+    let mut line = String::new(alloc);
+    show_number(&mut line, grammar.symbols().len())?;
+    line.push_str(" symbols, ")?;
+    show_number(&mut line, grammar.productions().len())?;
+    line.push_str(" productions\n")?;
     Ok(line)
 }
 
-/// Returns the line with the number of nodes of a tree, as in `3 nodes`, and LF. Fails with
-/// AllocError if memory is refused.
+/// Returns the line with the number of nodes of a tree, as in `3 nodes`, and LF. The word is the
+/// same for each number. Fails with AllocError if memory is refused.
 pub fn nodes_line(alloc: Global, count: u32) -> Result<String, AllocError>
     ensures { IfOk result (λ line. string_bytes line ≡ nodes_text count) }
 {
-    let mut line = count.to_string(alloc)?;
-    line.push_str(noun_for(count as usize, " node\n", " nodes\n"))?;
+    let mut line = String::new(alloc);
+    show_number(&mut line, count as usize)?;
+    line.push_str(" nodes\n")?;
     Ok(line)
-}
-
-/// Returns the noun after a number: `one`, the singular, after 1, else `many`, the plural.
-fn noun_for<'a>(count: usize, one: &'a str, many: &'a str) -> &'a str
-    ensures { result.now ≡ noun_text count one.now many.now }
-{
-    if count == 1 { one } else { many }
 }

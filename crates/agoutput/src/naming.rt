@@ -6,14 +6,15 @@ ghost use Rattle.ag_grammar.specs.grammars.AttributeGrammar.{symbol_names};
 ghost use Rattle.agoutput.specs.Listings.{attribute_name as name_at};
 
 use ag_grammar::{Grammar, Item, Production, Symbol, Terminal};
-use std::alloc::{AllocError, Global};
+use itoa::Buffer;
+use std::alloc::AllocError;
 
 /// Appends a number in decimal. Fails if memory is refused.
-pub(crate) fn show_number(alloc: Global, out: &mut String, number: usize) -> Result<(), AllocError>
+pub(crate) fn show_number(out: &mut String, number: usize) -> Result<(), AllocError>
     ensures { OnOk result (string_bytes out.new ≡ string_bytes out.old ++ decimal number) }
 {
-    let digits = number.to_string(alloc)?;
-    out.push_str(digits.as_str())
+    let mut buffer = Buffer::new();
+    out.push_str(buffer.format(number))
 }
 
 /// Returns the name of attribute `attr` of symbol `symbol`, both numbered from 0, or an empty text

@@ -79,7 +79,6 @@ fn show_symbols(
 
 /// Appends the line of a pass: its number, its direction, and the attributes that it computes.
 fn show_pass(
-    alloc: Global,
     out: &mut String,
     grammar: &Grammar,
     assignment: &Assignment,
@@ -89,7 +88,7 @@ fn show_pass(
         ≡ string_bytes out.old ++ pass_line grammar.now assignment.now pass) }
 {
     out.push_str("pass ")?;
-    show_number(alloc, out, pass as usize)?;
+    show_number(out, pass as usize)?;
     out.push_str(" ")?;
     out.push_str(Direction::of_pass(pass).name())?;
     out.push_str(":")?;
@@ -108,7 +107,7 @@ fn plan_lines(
 {
     let mut out = String::new(alloc);
     for before in 0..assignment.passes() {
-        show_pass(alloc, &mut out, grammar, assignment, before + 1)?;
+        show_pass(&mut out, grammar, assignment, before + 1)?;
     }
     Ok(out)
 }

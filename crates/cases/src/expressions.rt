@@ -5,7 +5,7 @@ ghost use Rattle.std.specs.Prelude.{IfOk};
 ghost use Rattle.ag_value.specs.Well.{IsWell};
 
 use ag_carried::Carried;
-use ag_eval::{CarriedEnvironment, Environment, Meter, eval, eval_carried};
+use ag_eval::{CarriedEnvironment, Env, Meter, eval, eval_carried};
 use ag_expr::{expected_at, read_expr, read_until};
 use ag_grammar::{Expr, occurrences};
 use ag_value::{Value, copy, is_well, show};
@@ -22,7 +22,7 @@ struct SameValue<'a> {
     value: &'a Value,
 }
 
-impl<'a> Environment for SameValue<'a> {
+impl<'a> Env for SameValue<'a> {
     ghost count = { λ _. 65536 };
 
     ghost lent = { λ same k. same.value.now };

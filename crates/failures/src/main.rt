@@ -5,6 +5,7 @@
 mod beginnings;
 mod endings;
 mod failing;
+mod fault_texts;
 mod fractions;
 mod job_reads;
 mod lying;

@@ -2,6 +2,7 @@
 
 use crate::beginnings::beginning_answer;
 use crate::failing::failing_answer;
+use crate::fault_texts::{build_fault_answer, fault_texts_answer};
 use crate::fractions::parse_without_answer;
 use crate::job_reads::job_reads_answer;
 use crate::lying::{lie_answer, lie_back_answer, lie_turn_answer};
@@ -38,6 +39,8 @@ impl<R: Files> Questions for Failures<'_, R> {
             "job-reads" => job_reads_answer(alloc, rest),
             "source-of" => source_of_answer(self.rt, alloc, rest),
             "translate-three" => translate_three_answer(alloc),
+            "fault-texts" => fault_texts_answer(alloc, rest),
+            "build-fault" => build_fault_answer(alloc, rest),
             _ => answer_of_lies(alloc, verb, rest),
         }
     }

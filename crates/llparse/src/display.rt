@@ -2,7 +2,6 @@
 
 use crate::sentence::parse_fault::ParseFault;
 use crate::table::fault::TableFault;
-use std::error::Error;
 use std::fmt;
 
 /// Prints the number of the fault, `L1`, or `NoMemory`.
@@ -19,8 +18,6 @@ impl fmt::Display for TableFault {
         }
     }
 }
-
-impl Error for TableFault {}
 
 /// Prints the number of the fault, or `NoMemory`, and its offset in bytes if it has one: `P1 at 1`,
 /// `P2`.
@@ -40,5 +37,3 @@ impl fmt::Display for ParseFault {
         }
     }
 }
-
-impl Error for ParseFault {}

@@ -11,20 +11,24 @@ use ag_grammar::limits::MAX_ATTRIBUTES;
 use ag_grammar::{Grammar, Symbol};
 use ag_value::Text;
 use std::alloc::AllocError;
+use thiserror::Error;
 
 /// The numbers of an attribute, from 0: the number of its symbol, and its own number in the symbol.
 /// The synthesized attributes of a symbol come first, then the inherited ones.
 pub type Attribute = (u16, u16);
 
 /// Why a text is not the name of an attribute.
-#[derive(Clone, Copy)]
+#[derive(Clone, Copy, Debug, Error)]
 pub enum NameFault<'a> {
     /// The text has no dot.
+    #[error("name: there is no dot")]
     NoDot,
     /// The grammar has no symbol of this name, which is the text before the first dot.
+    #[error("name: the grammar has no such symbol")]
     NoSymbol(&'a str),
     /// The symbol of this number has no attribute of this name, which is the text after the first
     /// dot.
+    #[error("name: symbol {0} has no such attribute")]
     NoAttribute(u16, &'a str),
 }
 

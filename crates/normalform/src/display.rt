@@ -1,7 +1,6 @@
 //! Printing the faults of raw grammars.
 
 use crate::fault::NormalFault;
-use std::error::Error;
 use std::fmt;
 
 /// Prints the number of the fault, and its offset in bytes if it has one: `N9 at 100`, `N6`. N4 and
@@ -29,5 +28,3 @@ impl fmt::Display for NormalFault {
         }
     }
 }
-
-impl Error for NormalFault {}

@@ -13,7 +13,7 @@ ghost use Rattle.origins.specs.Rows.{table_of};
 use crate::forms::Known;
 use crate::lending::{Arguments, ExchangedErrors, FirstExchanged, error_of, is_same_error};
 use crate::row::Row;
-use ag_eval::{Environment, Meter, eval};
+use ag_eval::{Env, Meter, eval};
 use ag_grammar::{Node, Rule, Target};
 use ag_value::{ErrorCode, NoMemory, Value};
 use std::alloc::Global;

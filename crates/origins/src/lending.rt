@@ -8,7 +8,7 @@ ghost use Rattle.origins.specs.Arising.{is_same_error};
 
 use crate::row::Row;
 use crate::slots::slot_of;
-use ag_eval::Environment;
+use ag_eval::Env;
 use ag_grammar::Target;
 use ag_value::{ErrorCode, Value};
 
@@ -24,7 +24,7 @@ pub(crate) struct Arguments<'a> {
     pub(crate) spare: &'a Value,
 }
 
-impl<'a> Environment for Arguments<'a> {
+impl<'a> Env for Arguments<'a> {
     ghost use Rattle.std.specs.Prelude.{length, slice_get};
     ghost use Rattle.origins.specs.Rows.{argument};
 
@@ -51,7 +51,7 @@ pub(crate) struct ExchangedErrors<'a> {
     pub(crate) overflow: &'a Value,
 }
 
-impl<'a> Environment for ExchangedErrors<'a> {
+impl<'a> Env for ExchangedErrors<'a> {
     ghost use Rattle.std.specs.Prelude.{length, slice_get};
     ghost use Rattle.ag_value.specs.operations.Arguments.{fault_of};
     ghost use Rattle.origins.specs.Arising.{exchanged_to};
@@ -86,7 +86,7 @@ pub(crate) struct FirstExchanged<'a> {
     pub(crate) count: usize,
 }
 
-impl<'a> Environment for FirstExchanged<'a> {
+impl<'a> Env for FirstExchanged<'a> {
     ghost use Rattle.std.specs.Prelude.{length, nat_lt, slice_get, if◌then◌else◌};
     ghost use Rattle.ag_value.specs.operations.Arguments.{fault_of};
     ghost use Rattle.origins.specs.Arising.{exchanged_to};

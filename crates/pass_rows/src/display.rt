@@ -1,7 +1,6 @@
 //! The printed forms of the faults of a pass.
 
 use crate::run_fault::RunFault;
-use std::error::Error;
 use std::fmt;
 
 /// Prints the number of the fault, and its offset if it has one: `R1 at 20`, `P2`. The fault
@@ -22,5 +21,3 @@ impl fmt::Display for RunFault {
         }
     }
 }
-
-impl Error for RunFault {}

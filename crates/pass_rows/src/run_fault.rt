@@ -6,11 +6,12 @@ ghost use Rattle.pass_rows.specs.declared.run_fault.RunFault.TheVariants as run_
 
 use ag_value::NoMemory;
 use backreader::TurnFault;
+use thiserror::Error;
 use treefile::{DeviceFault, FrameFault};
 
 /// The reason why a pass, all passes or an upgrade (`upgrade` of `tree_upgrade`) failed. Each call
 /// documents what its devices contain after a failure.
-#[derive(Clone, Copy, Debug, PartialEq, Eq)]
+#[derive(Clone, Copy, Debug, PartialEq, Eq, Error)]
 pub enum RunFault {
     /// R1: the content that is read is not the file of a tree of the grammar. A pass k, and a run
     /// of all passes from k on, expects a file of pass k - 1. `upgrade` expects one of version 1

@@ -24,13 +24,16 @@ use crate::table::{State, assign_passes, count_open, open_attributes, open_table
 use ag_grammar::{Direction, Grammar, Production, Symbol};
 use ag_value::{Items, NoMemory};
 use std::alloc::Global;
+use thiserror::Error;
 
 /// The faults of `assign` and `assign_with_strikes`.
-#[derive(Debug, Drop)]
+#[derive(Debug, Drop, Error)]
 pub enum AssignFault {
     /// A1: no assignment is legal, with any number of passes.
+    #[error("A1 no assignment of passes to the attributes is legal")]
     Stuck(Stuck),
     /// The allocator refused memory.
+    #[error("NoMemory a request for memory was refused")]
     NoMemory,
 }
 

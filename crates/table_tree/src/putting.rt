@@ -18,15 +18,19 @@ use ag_value::{MAX_VALUE_DEPTH, MAX_WEIGHT, NoMemory, OutOfMemory, Text, Value};
 use std::alloc::Global;
 use std::cmp::Ordering;
 use std::rc::Rc;
+use thiserror::Error;
 
 /// The reasons why a pair can't be put into a table.
-#[derive(Clone, Copy, Debug, PartialEq, Eq)]
+#[derive(Clone, Copy, Debug, PartialEq, Eq, Error)]
 pub enum PutFault {
     /// The depth of the table would exceed 64.
+    #[error("depth: the table would have a depth above 64")]
     TooDeep,
     /// The weight of the table would exceed 1,048,576.
+    #[error("weight: the table would have a weight above 1,048,576")]
     TooHeavy,
     /// The allocator refused memory, or a node or a pair has 2^64 - 1 owners.
+    #[error("NoMemory a request for memory was refused")]
     NoMemory,
 }
 

@@ -6,6 +6,7 @@ ghost use Rattle.tree_index.specs.declared.fault.ShapeFault.TheVariants as recor
 ghost use Rattle.tree_index.specs.declared.fault.TreeFault.TheVariants as tree_fault;
 
 use ag_value::{NoMemory, ValueFault};
+use thiserror::Error;
 use treefile::FrameFault;
 
 /// Why a record was not read.
@@ -37,21 +38,26 @@ impl From<NoMemory> for ShapeFault {
 }
 
 /// Why a tree file, or a record of one, was not read.
-#[derive(Clone, Copy, Debug, PartialEq, Eq)]
+#[derive(Clone, Copy, Debug, PartialEq, Eq, Error)]
 pub enum TreeFault {
     /// R1: no tree of the grammar has this file by the plan. The offset in bytes is 0 if the file
     /// does not begin as a tree file of version 2, and 4 if the plan does not have the file's pass.
     /// Otherwise the record that ends at the offset is wrong, missing or one too many. It is the
     /// first such record in the order in which the file is read from its end. A call that reads
     /// only one record returns the offset at which this record should end.
+    #[error("R1 at {0}: the file is damaged here")]
     Damaged(u64),
     /// P2: no tree of at most `MAX_DEPTH` levels has this file.
+    #[error("P2 the tree is too deep")]
     TooDeep,
     /// P3: no tree of at most `MAX_NODES` nodes has this file.
+    #[error("P3 the tree has too many nodes")]
     TooManyNodes,
     /// D1: a call of the device failed.
+    #[error("D1 a call of the device failed")]
     Device,
     /// Memory was refused.
+    #[error("NoMemory a request for memory was refused")]
     NoMemory,
 }
 

@@ -4,6 +4,7 @@ use ag_grammar::limits::MAX_DEPTH;
 use ag_value::NoMemory;
 use std::alloc::Global;
 use std::fmt;
+use thiserror::Error;
 
 /// A run of a path: the same place, one or more times.
 #[derive(Clone, Copy, PartialEq, Eq)]
@@ -23,11 +24,13 @@ pub struct NodePath {
 }
 
 /// Why a text is not a path.
-#[derive(Clone, Copy, Debug, PartialEq, Eq)]
+#[derive(Clone, Copy, Debug, PartialEq, Eq, Error)]
 pub enum PathFault {
     /// The text does not have the form of a path.
+    #[error("path: the text is not a path")]
     NotAPath,
     /// Memory was refused.
+    #[error("NoMemory a request for memory was refused")]
     NoMemory,
 }
 

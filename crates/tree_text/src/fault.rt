@@ -5,16 +5,20 @@ ghost use Rattle.tree_text.specs.declared.fault.ShowFault.TheVariants as show_fa
 
 use ag_value::NoMemory;
 use std::alloc::AllocError;
+use thiserror::Error;
 use tree_index::TreeFault;
 
 /// Why a tree file was not printed.
-#[derive(Clone, Copy, Debug, PartialEq, Eq)]
+#[derive(Clone, Copy, Debug, PartialEq, Eq, Error)]
 pub enum ShowFault {
     /// The file, or a record of it, was not read. The fault can be that memory was refused.
+    #[error(transparent)]
     Tree(TreeFault),
     /// O2: the output failed.
+    #[error("O2 the output could not be written completely")]
     Write,
     /// Memory was refused to a call that does not return a `TreeFault`.
+    #[error("NoMemory a request for memory was refused")]
     NoMemory,
 }
 

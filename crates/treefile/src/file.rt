@@ -16,14 +16,16 @@ use std::fs::{OpenFile, OpenOptions};
 use std::io::{self, Read, Seek, Write};
 use std::marker::Model;
 use std::rt::Files;
+use thiserror::Error;
 
 /// The greatest number of bytes that are buffered before they are written to the file.
 const MAX_BUFFERED_BYTES: usize = 65_536;
 
 /// The reason why a device over a file can't be made.
-#[derive(Clone, Copy, Debug, PartialEq, Eq)]
+#[derive(Clone, Copy, Debug, PartialEq, Eq, Error)]
 pub enum FileFault {
     /// F1: the file can't be created or opened.
+    #[error("F1 the file can't be opened or created")]
     File,
 }
 

@@ -32,4 +32,4 @@ pub use tree_laws::{
     reversed_postfix_is_prefix, root_is_last, trees_are_read_back, worked_files, worked_reading,
     worked_records,
 };
-pub use writing::Writer;
+pub use writing::{WriteFault, Writer};

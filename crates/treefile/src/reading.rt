@@ -16,18 +16,23 @@ ghost use Rattle.treefile.specs.declared.reading.FrameFault.TheVariants as frame
 use crate::device::{Device, DeviceFault};
 use crate::layout::{FileVersion, HEADER_BYTES, LEAST_BODY, LENGTH_BYTES};
 use std::alloc::{AllocError, Global};
+use thiserror::Error;
 
 /// The reasons why a tree file can't be read.
-#[derive(Clone, Copy, Debug, PartialEq, Eq)]
+#[derive(Clone, Copy, Debug, PartialEq, Eq, Error)]
 pub enum FrameFault {
     /// B1: there are fewer than 6 bytes, or the first four are not the magic of the expected
     /// version, `AGT1` or `AGT2`.
+    #[error("B1 the device does not contain a tree file")]
     NotATreeFile,
     /// B2: no frame ends at this offset (in bytes), where one is expected.
+    #[error("B2 at {0}: no frame ends here")]
     Damaged(u64),
     /// D1: a call of the device failed.
+    #[error("D1 a call of the device failed")]
     Device,
     /// The allocator refused memory.
+    #[error("NoMemory a request for memory was refused")]
     NoMemory,
 }
 

@@ -25,6 +25,9 @@ use shared_bytes::SharedBytes;
 use std::alloc::{AllocError, Global};
 use std::marker::Model;
 
+/// Why a call of a [`Writer`] fails: for the reasons of its device.
+pub type WriteFault = DeviceFault;
+
 /// Writes the records of a tree file, each as one frame at the end of a device. The writer holds no
 /// device: each call takes the device that the writer was begun on. Contracts see the number of
 /// frames that were appended, and whether the writer is broken. A frame is put together in `buffer`
@@ -51,7 +54,7 @@ impl Writer {
     /// Fails with D1 Failed if the device failed: the device has its old content, or a prefix of
     /// the header. Takes memory for the header if the device does. After NoMemory the device is
     /// empty.
-    pub fn begin<D: Device>(alloc: Global, device: &mut D, pass: u16) -> Result<Writer, DeviceFault>
+    pub fn begin<D: Device>(alloc: Global, device: &mut D, pass: u16) -> Result<Writer, WriteFault>
         ensures header { OnOk result
             (WhenHonest (D.is_honest device.new)
             (D.content device.new ≡ header version_two pass)) }
@@ -92,7 +95,7 @@ impl Writer {
         kind: Kind,
         number: u16,
         values: &[Value],
-    ) -> Result<(), DeviceFault>
+    ) -> Result<(), WriteFault>
         requires few { length values.now ≤ version_two.max_values }
         requires well { All IsWell values.now }
         requires room { self.old.written < 2 ^ 64 - 1 }
@@ -157,7 +160,7 @@ impl Writer {
         kind: Kind,
         number: u16,
         values: &[Carried],
-    ) -> Result<(), DeviceFault>
+    ) -> Result<(), WriteFault>
         requires few { length values.now ≤ version_two.max_values }
         requires well { All IsWell values.now }
         requires room { self.old.written < 2 ^ 64 - 1 }
@@ -220,7 +223,7 @@ impl Writer {
         kind: Kind,
         number: u16,
         values: &[Carried],
-    ) -> Result<(), DeviceFault>
+    ) -> Result<(), WriteFault>
         requires few { length values.now ≤ version_two.max_values }
         requires well { All IsWell values.now }
         ensures writer { self.new ≡ self.old }
@@ -244,7 +247,7 @@ impl Writer {
     /// Requires a body of 3 to 285,212,675 bytes, and fewer than u64::MAX frames appended before.
     ///
     /// Fails as `put` does.
-    pub fn put_body<D: Device>(&mut self, device: &mut D, body: &[u8]) -> Result<(), DeviceFault>
+    pub fn put_body<D: Device>(&mut self, device: &mut D, body: &[u8]) -> Result<(), WriteFault>
         requires body { IsBody version_two body.now }
         requires room { self.old.written < 2 ^ 64 - 1 }
         ensures frame { OnOk result (WhenHonest (D.is_honest device.new)

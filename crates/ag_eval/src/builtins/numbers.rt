@@ -8,6 +8,7 @@ ghost use Rattle.ag_eval.specs.Operands.{scalar_value};
 
 use crate::scalar::Scalar;
 use ag_value::{ErrorCode, NoMemory, Text, Value};
+use itoa::Buffer;
 use std::alloc::Global;
 
 /// Computes `a + b` of two numbers.
@@ -127,7 +128,7 @@ pub fn remainder(left: &Value, right: &Value) -> Value
     remainder_of(*m, *n).into_value()
 }
 
-/// Computes `text(n)`. Takes memory for the text.
+/// Computes `text(n)`. Takes memory for a text of more than 16 bytes.
 pub fn decimal(alloc: Global, value: &Value) -> Result<Value, NoMemory>
     ensures value { IfOk result (λ v. v ≡ decimal_of value.now) }
     ensures well { IfOk result (λ v. IsWell v) }
@@ -138,7 +139,8 @@ pub fn decimal(alloc: Global, value: &Value) -> Result<Value, NoMemory>
     // The copy shows the prover that the number is in the range of i64, and the contract of
     // `as_str` that the text is UTF-8.
     let number = *number;
-    let text = Text::from_string(number.to_string(alloc)?);
+    let mut buffer = Buffer::new();
+    let text = Text::from_str(alloc, buffer.format(number))?;
     let _utf8 = text.as_str();
     Ok(Value::Text(text))
 }

@@ -11,7 +11,7 @@ ghost use Rattle.aggen.specs.Showing.{OccursAt, Shows};
 ghost use Rattle.aggen.specs.Showing.{ShowsBeginning, WritesLine, first_offset};
 
 use crate::values::value_file::{read_file, write_file};
-use ag_eval::{Environment, Meter, eval};
+use ag_eval::{Env, Meter, eval};
 use ag_expr::{ExprFault, read_expr};
 use ag_fault::Fault;
 use ag_grammar::{Expr, occurrences};
@@ -132,7 +132,7 @@ struct NoOccurrences {
     number: Value,
 }
 
-impl Environment for NoOccurrences {
+impl Env for NoOccurrences {
     ghost count = { λ _. 1 };
 
     ghost lent = { λ env _. env.number };

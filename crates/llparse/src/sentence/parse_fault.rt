@@ -4,10 +4,11 @@ ghost use Rattle.llparse.specs.sentence.Refusals.{parse_fault_of};
 ghost use Rattle.llparse.specs.declared.sentence.parse_fault.ParseFault.TheVariants as parse_fault;
 
 use ag_value::NoMemory;
+use thiserror::Error;
 use treefile::DeviceFault;
 
 /// The reasons why a parse fails.
-#[derive(Clone, Copy, Debug, PartialEq, Eq)]
+#[derive(Clone, Copy, Debug, PartialEq, Eq, Error)]
 pub enum ParseFault {
     /// P1: no tree has these tokens. Carries the offset, in bytes from the beginning of the
     /// sentence, of the token that can't be taken. If the sentence ends too early, the offset is

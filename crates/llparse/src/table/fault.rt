@@ -4,9 +4,10 @@ ghost use Rattle.llparse.specs.declared.table.fault.TableFault.TheVariants as ta
 
 use crate::ahead::Ahead;
 use ag_value::NoMemory;
+use thiserror::Error;
 
 /// The reasons why a grammar has no tables.
-#[derive(Clone, Copy, Debug, PartialEq, Eq)]
+#[derive(Clone, Copy, Debug, PartialEq, Eq, Error)]
 pub enum TableFault {
     /// L1: two productions of a symbol are predicted by the same look-ahead, `ahead`. The symbol
     /// and the productions are given by their numbers; `first` is the lesser one.

@@ -38,7 +38,7 @@ fn write_large(out: &mut String, raw: &RawGrammar, kind: LimitKind) -> Result<()
             Some(symbol) => write!(out, "`{}`", symbol.name.name.as_str()),
             None => Ok(()),
         },
-        LimitKind::Items | LimitKind::Children | LimitKind::LiteralLength => {
+        LimitKind::Items | LimitKind::Stored | LimitKind::LiteralLength => {
             match large_production(raw, kind) {
                 Some(production) => write!(
                     out,
@@ -59,7 +59,7 @@ fn write_excess(out: &mut String, kind: LimitKind) -> Result<(), AllocError> {
         LimitKind::Attributes => (MAX_ATTRIBUTES, " attributes"),
         LimitKind::Productions => (MAX_PRODUCTIONS, " productions"),
         LimitKind::Items => (MAX_ITEMS, " items on its right side"),
-        LimitKind::Children => (MAX_CHILDREN, " symbols and classes on its right side"),
+        LimitKind::Stored => (MAX_CHILDREN, " symbols and classes on its right side"),
         LimitKind::LiteralLength => (MAX_LITERAL_BYTES, " bytes"),
         LimitKind::Literals => (MAX_LITERALS, " different literals"),
     };
@@ -73,7 +73,7 @@ fn write_excess(out: &mut String, kind: LimitKind) -> Result<(), AllocError> {
 /// Returns what to do about a limit.
 fn hint_of(kind: LimitKind) -> &'static str {
     match kind {
-        LimitKind::Items | LimitKind::Children => "move a part of it to a new symbol",
+        LimitKind::Items | LimitKind::Stored => "move a part of it to a new symbol",
         LimitKind::LiteralLength => "use a shorter one",
         LimitKind::Attributes => "keep several values in one list or table",
         _ => "use fewer",
@@ -97,7 +97,7 @@ fn large_production(raw: &RawGrammar, kind: LimitKind) -> Option<&RawProduction>
     for production in raw.productions.as_slice() {
         let exceeds = match kind {
             LimitKind::Items => production.items.as_slice().len() > MAX_ITEMS,
-            LimitKind::Children => production.last_place() > MAX_CHILDREN,
+            LimitKind::Stored => production.last_place() > MAX_CHILDREN,
             LimitKind::LiteralLength => has_long_literal(production),
             _ => false,
         };

@@ -241,7 +241,7 @@ abbrev pub production_limits : List Symbol → List RawProduction → List Check
 production_limits ss qs =
     (fault.Limit limit.Productions, nat_le (length qs) max_productions)
     ∷ (fault.Limit limit.Items, list_all few_items qs)
-    ∷ (fault.Limit limit.Children, list_all (few_children ss) qs)
+    ∷ (fault.Limit limit.Stored, list_all (few_children ss) qs)
     ∷ []
 
 abbrev pub literal_limits : List (List ℕ) → List Check

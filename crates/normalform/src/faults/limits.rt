@@ -151,7 +151,7 @@ fn production_limit(
         return Ok(Some(NormalFault::Limit(LimitKind::Items)));
     }
     if !all_have_few_children(alloc, declared, productions)? {
-        return Ok(Some(NormalFault::Limit(LimitKind::Children)));
+        return Ok(Some(NormalFault::Limit(LimitKind::Stored)));
     }
     Ok(None)
 }

@@ -21,14 +21,17 @@ use ag_grammar::limits::MAX_TOKEN_BYTES;
 use ag_grammar::{Grammar, Item, Terminal};
 use ag_value::{Value, ValueFault, decode};
 use std::alloc::Global;
+use thiserror::Error;
 use treefile::{Kind, split_body};
 
 /// The reason why a record was not read.
-#[derive(Clone, Copy, Debug, PartialEq, Eq)]
+#[derive(Clone, Copy, Debug, PartialEq, Eq, Error)]
 pub enum RecordFault {
     /// The body is not a record of the expected item.
+    #[error("damaged: the body is not a record of the expected item")]
     Damaged,
     /// Memory could not be allocated.
+    #[error("NoMemory a request for memory was refused")]
     NoMemory,
 }
 
