@@ -13,8 +13,8 @@ class Refused(Exception):
 
 
 def program_for(folder):
-    """Returns the program that a tool in a folder runs: $AGGEN_PROGRAM, the `aggen` in the same folder (of an installation), the one
-    in the folder above (of a checkout), or the one in the path."""
+    """Returns the program that a tool runs: $AGGEN_PROGRAM, the `aggen` in the tool's folder (of an installation), the one in the
+    folder above (of a checkout), or the one in the path."""
     near = (str(it / "aggen") for it in (folder, folder.parent) if (it / "aggen").is_file())
     return os.environ.get("AGGEN_PROGRAM") or next(near, None) or shutil.which("aggen") or "aggen"
 
