@@ -13,7 +13,7 @@ use std::alloc::Global;
 use std::io::Write;
 
 /// Reads and checks a grammar's text, and writes a line with its numbers of symbols and
-/// productions, such as `5 symbols, 8 productions` or `1 symbol, 1 production`.
+/// productions, such as `5 symbols, 8 productions`.
 ///
 /// Fails with G1 to G4, N1 to N10 or NoMemory as `grammar_of` does, and with O2 Write if a write
 /// fails or takes no byte. Nothing is written before the line is complete.

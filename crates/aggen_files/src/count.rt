@@ -11,9 +11,9 @@ use agoutput::{nodes_line, write_text};
 use std::alloc::Global;
 use std::io::Write;
 
-/// Prints a line with a number of nodes: `5 nodes` or `1 node`, and a newline. Fails with O2 if a
-/// write fails or takes no byte. Fails with NoMemory if memory cannot be allocated; nothing is
-/// written then.
+/// Prints a line with a number of nodes, such as `5 nodes`, and a newline. Fails with O2 if a write
+/// fails or takes no byte. Fails with NoMemory if memory cannot be allocated; nothing is written
+/// then.
 pub fn print_count<W: Write>(alloc: Global, count: u32, out: &mut W) -> Result<(), Fault>
     ensures ok { OnOk result (Appends (W.contents out.old) (W.contents out.new) (nodes_text count)) }
     ensures refused { IfErr result IsPrintingFault }

@@ -245,6 +245,7 @@ const COMMANDS: &[Entry] = &[
             EXPLAINED_TREE,
             NODE_ATTRIBUTES,
             NODE_PATH,
+            WIDTH_LIMIT,
             PLACE_SENTENCE,
             PLACE,
             ERROR_RULES,

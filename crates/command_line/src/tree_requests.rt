@@ -74,6 +74,8 @@ pub struct ExplainWords<'a> {
     pub tree: &'a str,
     /// The node whose values are explained.
     pub node: NodeWords<'a>,
+    /// The greatest number of characters of a value that is not a number; 0 for whole values.
+    pub width: usize,
     /// Whether the rules of the whole tree in which errors arise are printed instead of a node.
     /// Then `node` and `attributes` have no effect on the output, but the command `explain` checks
     /// that the tree has such a node, and that this node has these attributes.
@@ -106,13 +108,21 @@ fn limits_of(alloc: Global, matches: &ArgMatches<'_>) -> Result<Limits, Error> {
     let Some(depth) = number_of(matches, DEPTH, u32::MAX) else {
         return Err(misuse_of(alloc, "show", WRONG_DEPTH));
     };
-    let Some(width) = number_of(matches, WIDTH, DEFAULT_WIDTH) else {
-        return Err(misuse_of(alloc, "show", "'--width <N>' needs a number"));
-    };
+    let width = width_of(alloc, matches, "show")?;
     if depth == 0 {
         return Err(misuse_of(alloc, "show", WRONG_DEPTH));
     }
     Ok(Limits { depth, width })
+}
+
+/// Returns the greatest number of characters of a value that the command `name` prints, 0 for whole
+/// values. Fails with the error that clap prints if the value of `--width` is not a number below
+/// 2^32.
+fn width_of(alloc: Global, matches: &ArgMatches<'_>, name: &str) -> Result<u32, Error> {
+    match number_of(matches, WIDTH, DEFAULT_WIDTH) {
+        Some(width) => Ok(width),
+        None => Err(misuse_of(alloc, name, "'--width <N>' needs a number")),
+    }
 }
 
 /// Returns the number that is the value of an option, or `other` if the option is not there.
@@ -125,8 +135,9 @@ fn number_of(matches: &ArgMatches<'_>, name: &str, other: u32) -> Option<u32> {
 }
 
 /// Returns the words that `explain` takes. Fails with the error that clap prints if the tree file
-/// is `-`, if `--at` is not two numbers from 1, or if both the grammar and the sentence are `-`.
-/// Fails with the error of refused memory if memory is refused.
+/// is `-`, if the value of `--width` is not a number, if `--at` is not two numbers from 1, or if
+/// both the grammar and the sentence are `-`. Fails with the error of refused memory if memory is
+/// refused.
 pub fn explain_words<'a>(
     alloc: Global,
     matches: &ArgMatches<'a>,
@@ -138,6 +149,7 @@ pub fn explain_words<'a>(
         grammar: input_of(matches, GRAMMAR),
         tree,
         node,
+        width: width_of(alloc, matches, "explain")? as usize,
         errors: matches.get_flag(ERRORS),
         attributes: values_of(alloc, matches, ATTRIBUTES)?,
     })

@@ -48,6 +48,10 @@ const LIST: &str = "what is repeated or left out is a symbol with two production
 /// What helps where a rule does not begin with its target.
 const RULE: &str = "a rule is written `$0.a = ..;`";
 
+/// What helps directly after `{` where no rule begins: EBNF has braces around what is repeated.
+const BRACES: &str =
+    "a rule is written `$0.a = ..;`, and what is repeated is a symbol with two productions";
+
 /// What helps at the beginning of a text that is not a grammar.
 const START: &str = "a grammar begins with `start S;`";
 
@@ -155,7 +159,7 @@ impl<'a> Context<'a> {
             Some("if" | "let") if is_operand => PARENTHESES,
             _ if is_operand => self.name_hint(RESERVED),
             Some(_) if expected.contains(&Expected::Part(Part::Sign("}"))) => TABLE,
-            _ if is_name && self.is_call() => CALLS,
+            _ if is_name && self.is_followed_by('(') => CALLS,
             _ if expected.contains(&Expected::Part(Part::NewName)) => {
                 self.name_hint(RESERVED_NAME)
             }
@@ -192,17 +196,28 @@ impl<'a> Context<'a> {
             Some('*' | '+' | '?' | '[') if is_item => LIST,
             Some(':' | '-') if expected.contains(&Expected::Sign("=")) => EQUALS,
             _ if expected.contains(&Expected::Sign("start")) => START,
-            _ if expected.contains(&Expected::Rule) => self.name_hint(RULE),
+            _ if expected.contains(&Expected::Rule) => self.rule_hint(found),
             _ if is_item || expected.contains(&Expected::Name) => self.name_hint(RESERVED_NAME),
             _ => "",
         }
     }
 
-    /// Returns whether `(` follows what was found, as in a call.
-    fn is_call(&self) -> bool {
+    /// Returns a hint about what begins no rule. Directly after `{`, a literal, or a name that no
+    /// `=` follows, is probably an item of EBNF.
+    fn rule_hint(&self, found: &str) -> &'static str {
+        let is_first = self.before.trim_end().ends_with('{');
+        match found.chars().next() {
+            Some('"') if is_first => BRACES,
+            _ if is_first && !self.is_followed_by('=') => self.name_hint(BRACES),
+            _ => self.name_hint(RULE),
+        }
+    }
+
+    /// Returns whether a sign follows what was found.
+    fn is_followed_by(&self, sign: char) -> bool {
         let length = self.found.unwrap_or("").len();
         let after = self.rest.get(length..).unwrap_or("");
-        after.trim_start().starts_with('(')
+        after.trim_start().starts_with(sign)
     }
 
     /// Returns whether a comment of another language begins at the offset or, as `--` can, one

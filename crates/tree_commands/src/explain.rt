@@ -19,10 +19,6 @@ use tree_text::ShowFault;
 use treefile::Device;
 use value_reasons::{ExplainedTree, NodeRequest, write_errors};
 
-/// The greatest number of characters that are printed of the text of a value. Numbers are printed
-/// whole.
-const WIDTH: usize = 60;
-
 /// Prints values of a node of a tree file, with the rules that computed them. The node is the one
 /// that the command line names, or the root if it names none. The values are those of the
 /// attributes that the command line names, or all if it names none. With `--errors` prints the
@@ -136,7 +132,7 @@ impl<'a> ExplanationRun<'a> {
             let request = NodeRequest {
                 places: places.as_slice(),
                 names: words.attributes.as_slice(),
-                width: WIDTH,
+                width: words.width,
             };
             indexed.print_node(rt, alloc, &request, device)
         };

@@ -20,6 +20,9 @@ const NO_SECOND_QUOTE: &str = "this TEXT has no second quote in the same line";
 /// What to do about a TEXT that does not end.
 const ADD_QUOTE: &str = "add the quote (a TEXT has no escapes)";
 
+/// What helps at a single quote if the grammar uses TEXT.
+const DOUBLE_QUOTES: &str = "a TEXT is written in double quotes";
+
 /// What is wrong with a character of a sentence if the grammar has no terminals.
 const NO_TERMINALS: &str = ", but the grammar has no literal and no class";
 
@@ -88,6 +91,8 @@ fn describe_no_token(
     }
     if begins_with(found, BYTE_ORDER_MARK) {
         parts.help.push_str(MARK)?;
+    } else if begins_with(found, '\'') && grammar.classes().contains(&TEXT) {
+        parts.help.push_str(DOUBLE_QUOTES)?;
     }
     parts.expected.push_str("expected a token (")?;
     write_terminals(&mut parts.expected, grammar)?;

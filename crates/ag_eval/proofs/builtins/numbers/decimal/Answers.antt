@@ -3,5 +3,5 @@ use Rattle.ag_eval.proofs.builtins.numbers.decimal.Goals as goal
 
 pub returns-clause-well : goal.returns-clause-well
 returns-clause-well c =
-    well_decimal _ c.in-Num.number (c.from_string-text.ensures ∙ c.in_ok-to_string.ensures.ok)
+    well_decimal _ c.in-Num.number (c.in_ok-text.ensures ∙ c.format.ensures.text)
     (subst IsUtf8 c.as_str-utf8.ensures c.as_str-utf8.utf8)
