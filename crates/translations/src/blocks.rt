@@ -1,5 +1,5 @@
-//! Tests of what no contract states: a pass reads by blocks, and writes while it reads. To read by
-//! blocks means that one read of the device returns many records.
+//! Tests of what no contract states: a pass reads by blocks or borrows bodies, and writes while it
+//! reads. To read by blocks means that one read of the device returns many records.
 
 ghost use Rattle.std.specs.Prelude.{IfOk};
 ghost use Rattle.planchecker.specs.Plans.{IsPlan};
@@ -16,6 +16,7 @@ use planchecker::{Plan, check_plan};
 use rows::words::Mistake;
 use std::alloc::{AllocError, Global};
 use std::cell::Cell;
+use treefile::{Device, MemDevice, SharedDevice};
 
 /// The grammar of groups of lists of letters. A `;` ends a group, and a `,` ends a list.
 const GROUPS: &str = "start S; symbol S syn out; symbol T syn c; symbol V syn c;
@@ -25,6 +26,18 @@ T = V \",\" T { $0.c = 0; }
 T = { $0.c = 0; }
 V = \"x\" V { $0.c = 0; }
 V = { $0.c = 0; }
+";
+
+/// A grammar of the same language, whose trees have the same nodes, with a plan of three passes.
+/// Pass 1 computes `V.c`, pass 2 `T.i`, `T.c` and `S.m`, and pass 3 the others. Most values are a
+/// text of 32 letters, which a device in memory shares, since it weighs more than 24 bytes.
+const TEXTS: &str = "start S; symbol S syn out, m; symbol T syn c, d inh i, j; symbol V syn c;
+S = T \";\" S { $0.out = $1.d; $0.m = $1.c; $1.i = \"\"; $1.j = $2.m; }
+S = { $0.out = \"\"; $0.m = \"\"; }
+T = V \",\" T { $0.c = $2.c; $0.d = $2.d; $2.i = $1.c; $2.j = $0.j; }
+T = { $0.c = $0.i; $0.d = $0.j; }
+V = \"x\" V { $0.c = $1.c; }
+V = { $0.c = \"abcdefghijklmnopqrstuvwxyzabcdef\"; }
 ";
 
 /// The number of nodes of the sentence's tree. Each has a record. (Literals are not nodes.) With
@@ -63,16 +76,16 @@ fn frames_answer(alloc: Global, bytes: u64, puts: u64, before: u64) -> Result<St
 /// next read a pass has appended the frames of all nodes of the block that are no longer open. At
 /// most 140 nodes are open at a time, since the tree has 140 levels: 85 of groups, 23 of lists, and
 /// 32 in the last list of 31 letters.
-fn is_by_blocks(device: &CountingDevice<'_>) -> bool {
+fn is_by_blocks<D>(device: &CountingDevice<'_, D>) -> bool {
     device.fewest_reads() >= 112 && device.least_gap() >= 400
 }
 
 /// Translates the sentence and returns the numbers of read and written records in its report.
-fn translate<'p>(
+fn translate<'p, D: Device>(
     alloc: Global,
     translator: &Translator,
-    a: &mut CountingDevice<'p>,
-    b: &mut CountingDevice<'p>,
+    a: &mut CountingDevice<'p, D>,
+    b: &mut CountingDevice<'p, D>,
 ) -> Result<String, Mistake> {
     let sentence = sentence(alloc)?;
     let mut out = Vec::new(alloc);
@@ -85,8 +98,8 @@ fn translate<'p>(
 /// Translates the sentence. Returns the report's counts, and what the devices counted.
 fn translated(alloc: Global, translator: &Translator) -> Result<String, Mistake> {
     let puts = Cell::new(0);
-    let mut a = CountingDevice::new(alloc, &puts);
-    let mut b = CountingDevice::new(alloc, &puts);
+    let mut a = CountingDevice::new(MemDevice::new(alloc), &puts);
+    let mut b = CountingDevice::new(MemDevice::new(alloc), &puts);
     let answer = translate(alloc, translator, &mut a, &mut b)?;
     // the parser appends a header and each node, and the pass appends a header
     let frames = frames_answer(alloc, a.bytes, puts.get(), NODES + 2)?;
@@ -99,6 +112,53 @@ fn translated(alloc: Global, translator: &Translator) -> Result<String, Mistake>
 pub fn blocks_of_translate_answer(alloc: Global) -> Result<String, Mistake> {
     let translator = translator(alloc, GROUPS)?;
     translated(alloc, &translator)
+}
+
+/// Returns the number of lent bodies of two devices, the number of calls of `append_parts`, and the
+/// greatest number of bodies that were lent and not yet appended. Fails with `Unfit` if a device
+/// lent no body, or if its `append_parts` was not called.
+fn lent_answer<D>(
+    alloc: Global,
+    a: &CountingDevice<'_, D>,
+    b: &CountingDevice<'_, D>,
+) -> Result<String, Mistake> {
+    if a.lent() == 0 || b.lent() == 0 || a.shared == 0 || b.shared == 0 {
+        return Err(Mistake::Unfit);
+    }
+    let lent = a.lent().saturating_add(b.lent());
+    let shared = a.shared.saturating_add(b.shared);
+    let ahead = a.most_ahead().max(b.most_ahead());
+    Ok(format!(in alloc; "{lent} lent, {shared} shared, at most {ahead} ahead")?)
+}
+
+/// Translates the sentence over devices that share values. Returns the report's counts, and what
+/// the devices counted.
+fn translated_by_sharing(alloc: Global, translator: &Translator) -> Result<String, Mistake> {
+    let puts = Cell::new(0);
+    let mut a = CountingDevice::new(SharedDevice::new(alloc), &puts);
+    let mut b = CountingDevice::new(SharedDevice::new(alloc), &puts);
+    let answer = translate(alloc, translator, &mut a, &mut b)?;
+    let lent = lent_answer(alloc, &a, &b)?;
+    // pass 1 reads the parser's file, which has no shared values, on `a`; pass 3 borrows from `a`
+    let by_blocks = is_by_blocks(&a);
+    Ok(format!(in alloc; "{answer}; {lent}; by blocks: {by_blocks}")?)
+}
+
+/// Builds the translator of three passes, and translates the sentence over devices that share
+/// values.
+///
+/// Pass 2 borrows each body from `b`, and pass 3 from `a`: twice 65,536 bodies. The record of a
+/// node is appended when its subtree is done, so the bodies that were lent and not yet appended are
+/// those of the open nodes. Their number is greatest at a node of the last level, where it is 140
+/// (`is_by_blocks`).
+///
+/// A record with the text is appended by parts. A group has 745 nodes of V, 25 of T, and one of S.
+/// In the file of pass 1 the records of V have the text, and those of the 24 T with a V, which have
+/// a copy of its value. In the files of passes 2 and 3 all records have it but that of the last S.
+/// So the number of such records is 85 * (745 + 24) + 2 * 65,535 = 196,435.
+pub fn bodies_of_translate_answer(alloc: Global) -> Result<String, Mistake> {
+    let translator = translator(alloc, TEXTS)?;
+    translated_by_sharing(alloc, &translator)
 }
 
 /// Returns the instructions of a production for one pass: `Get`, `Go` and `Put` of each child in
@@ -175,7 +235,7 @@ fn plan(alloc: Global, grammar: &Grammar) -> Result<Plan, Mistake>
 fn parse(
     alloc: Global,
     translator: &Translator,
-    device: &mut CountingDevice<'_>,
+    device: &mut CountingDevice<'_, MemDevice>,
 ) -> Result<(), Mistake> {
     let sentence = sentence(alloc)?;
     match translator.parse_tree(sentence.as_bytes(), device) {
@@ -189,8 +249,8 @@ fn run<'p>(
     alloc: Global,
     grammar: &Grammar,
     plan: &Plan,
-    a: &mut CountingDevice<'p>,
-    b: &mut CountingDevice<'p>,
+    a: &mut CountingDevice<'p, MemDevice>,
+    b: &mut CountingDevice<'p, MemDevice>,
 ) -> Result<String, Mistake>
     requires { IsPlan grammar.now plan.now.assignment plan.now.code }
 {
@@ -212,8 +272,8 @@ fn run_thrice(alloc: Global, translator: &Translator, plan: &Plan) -> Result<Str
     requires { IsPlan translator.now plan.now.assignment plan.now.code }
 {
     let puts = Cell::new(0);
-    let mut a = CountingDevice::new(alloc, &puts);
-    let mut b = CountingDevice::new(alloc, &puts);
+    let mut a = CountingDevice::new(MemDevice::new(alloc), &puts);
+    let mut b = CountingDevice::new(MemDevice::new(alloc), &puts);
     parse(alloc, translator, &mut a)?;
     // each pass appends a header
     let before = puts.get().saturating_add(3);

@@ -1,10 +1,9 @@
-//! Devices that count their reads, and share a count of their appends.
+//! Devices that count their reads and the bodies that they lend, and share a count of their
+//! appends.
 
-ghost use Rattle.std.specs.Prelude.{[], false};
-
-use std::alloc::Global;
+use shared_bytes::{Body, SharedBytes};
 use std::cell::Cell;
-use treefile::{Device, DeviceFault, MemDevice};
+use treefile::{Device, DeviceFault};
 
 /// Counts for the file that is being read. They are reset when a header is read, since a pass reads
 /// the header of its file first.
@@ -47,14 +46,17 @@ impl Reading {
     }
 }
 
-/// A device in memory that counts its reads and appends.
+/// A device that forwards each call to another device, and counts reads, lent bodies and appends.
+/// It has the content, the honesty and the failures of the other device.
 #[derive(Drop)]
-pub struct CountingDevice<'a> {
-    memory: MemDevice,
+pub struct CountingDevice<'a, D> {
+    inner: D,
     /// The number of appends to this device and to the others that share the count.
     puts: &'a Cell<u64>,
     /// The number of bytes that were read after the headers.
     pub bytes: u64,
+    /// The number of calls of `append_parts`.
+    pub shared: u64,
     /// The counts of the current file.
     reading: Reading,
     /// The least number of reads of a file after its header, among the files before the current
@@ -64,18 +66,34 @@ pub struct CountingDevice<'a> {
     /// the current one. The interval before the last read of a file doesn't count. `u64::MAX` if no
     /// file had three reads after its header.
     least_gap: u64,
+    /// The number of bodies of the current file that were lent.
+    lent_here: Cell<u64>,
+    /// The offset where the frame of the last of these bodies ends, or `u64::MAX` before the first.
+    last_lent: Cell<u64>,
+    /// The number of appends before the header of the current file was read.
+    puts_before: u64,
+    /// The number of bodies that were lent, of all files.
+    lent: Cell<u64>,
+    /// The greatest number of bodies of one file that were lent and not yet appended.
+    most_ahead: Cell<u64>,
 }
 
-impl<'a> CountingDevice<'a> {
-    /// Returns an empty device that shares a count.
-    pub fn new(alloc: Global, puts: &'a Cell<u64>) -> CountingDevice<'a> {
+impl<'a, D> CountingDevice<'a, D> {
+    /// Returns a device that forwards its calls to `inner`, and shares a count.
+    pub fn new(inner: D, puts: &'a Cell<u64>) -> CountingDevice<'a, D> {
         CountingDevice {
-            memory: MemDevice::new(alloc),
+            inner,
             puts,
             bytes: 0,
+            shared: 0,
             reading: Reading::begun(),
             fewest_reads: u64::MAX,
             least_gap: u64::MAX,
+            lent_here: Cell::new(0),
+            last_lent: Cell::new(u64::MAX),
+            puts_before: 0,
+            lent: Cell::new(0),
+            most_ahead: Cell::new(0),
         }
     }
 
@@ -94,25 +112,46 @@ impl<'a> CountingDevice<'a> {
     pub fn least_gap(&self) -> u64 {
         self.least_gap.min(self.reading.least_gap)
     }
+
+    /// Returns the number of bodies that were lent. A body that is lent again at once counts once.
+    pub fn lent(&self) -> u64 {
+        self.lent.get()
+    }
+
+    /// Returns the greatest number of bodies of one file that were lent while their nodes were not
+    /// yet appended. The first append after a header is read is another header, and doesn't count.
+    pub fn most_ahead(&self) -> u64 {
+        self.most_ahead.get()
+    }
+
+    /// Counts the body whose frame ends at an offset, unless it is the one that was counted last.
+    fn count_body(&self, at: u64) {
+        if self.last_lent.replace(at) == at {
+            return;
+        }
+        let lent = self.lent_here.get().saturating_add(1);
+        self.lent_here.set(lent);
+        self.lent.set(self.lent.get().saturating_add(1));
+        let appended = self.puts.get().saturating_sub(self.puts_before);
+        let ahead = lent.saturating_sub(appended.saturating_sub(1));
+        self.most_ahead.set(self.most_ahead.get().max(ahead));
+    }
 }
 
-// No contract here needs to know the content. So for contracts the device is never honest (an
-// honest device returns what was written to it), and its content is empty. Then no clause about the
-// content claims anything.
-impl Device for CountingDevice<'_> {
-    ghost content = { λ _. [] };
+impl<D: Device> Device for CountingDevice<'_, D> {
+    ghost content = { λ d. D.content d.inner };
 
-    ghost is_honest = { λ _. false };
+    ghost is_honest = { λ d. D.is_honest d.inner };
 
-    ghost failures = { λ _. 0 };
+    ghost failures = { λ d. D.failures d.inner };
 
     fn len(&mut self) -> Result<u64, DeviceFault> {
-        self.memory.len()
+        self.inner.len()
     }
 
     fn append(&mut self, bytes: &[u8]) -> Result<(), DeviceFault> {
         self.puts.set(self.puts.get().saturating_add(1));
-        self.memory.append(bytes)
+        self.inner.append(bytes)
     }
 
     fn read_at(&mut self, at: u64, out: &mut [u8]) -> Result<(), DeviceFault> {
@@ -121,14 +160,33 @@ impl Device for CountingDevice<'_> {
             self.fewest_reads = self.fewest_reads();
             self.least_gap = self.least_gap();
             self.reading = Reading::begun();
+            self.lent_here.set(0);
+            self.last_lent.set(u64::MAX);
+            self.puts_before = self.puts.get();
         } else {
             self.bytes = self.bytes.saturating_add(out.len() as u64);
             self.reading = self.reading.with_read(self.puts.get());
         }
-        self.memory.read_at(at, out)
+        self.inner.read_at(at, out)
     }
 
     fn clear(&mut self) -> Result<(), DeviceFault> {
-        self.memory.clear()
+        self.inner.clear()
+    }
+
+    fn append_parts(
+        &mut self,
+        parts: &SharedBytes,
+        buffer: &mut Vec<u8>,
+    ) -> Result<(), DeviceFault> {
+        self.puts.set(self.puts.get().saturating_add(1));
+        self.shared = self.shared.saturating_add(1);
+        self.inner.append_parts(parts, buffer)
+    }
+
+    fn lend_before(&self, at: u64) -> Option<Body<'_>> {
+        let body = self.inner.lend_before(at)?;
+        self.count_body(at);
+        Some(body)
     }
 }

@@ -1,6 +1,8 @@
 //! The verbs of questions about translators, faults and files.
 
-use crate::blocks::{blocks_of_passes_answer, blocks_of_translate_answer};
+use crate::blocks::{
+    blocks_of_passes_answer, blocks_of_translate_answer, bodies_of_translate_answer,
+};
 use crate::faults::{message_answer, status_answer};
 use crate::files::{file_answer, source_answer};
 use crate::reports::{evaluate_answer, job_answer, translate_answer};
@@ -32,6 +34,7 @@ impl Questions for Translations {
             "job" => job_answer(alloc, text),
             "blocks-of-translate" => blocks_of_translate_answer(alloc),
             "blocks-of-passes" => blocks_of_passes_answer(alloc),
+            "bodies-of-translate" => bodies_of_translate_answer(alloc),
             "file" => file_answer(alloc, text),
             "source" => source_answer(alloc, text),
             "status" => status_answer(alloc, rest),
