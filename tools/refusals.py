@@ -43,7 +43,7 @@ class Refusal:
 
 
 def logic_of_kit():
-    """Returns the hash that `rt version` prints after `logic`, or an empty text if there is no rt."""
+    """Returns the hash that `rt version` prints after `logic`, or an empty text without rt."""
     if not shutil.which("rt"):
         return ""
     said = subprocess.run(["rt", "version"], check=True, capture_output=True, text=True).stdout
@@ -114,7 +114,7 @@ class Refusals:
     def fault_of(self, name, refusal):
         """Returns what is wrong with the refusal of an edit, or None. Doesn't look at the logic."""
         if self.path_of(name) is None:
-            return "theorem.txt names it, and there is no such edit"
+            return "theorem.txt names it, but this edit does not exist"
         if refusal is None:
             return f"it has no line: run {COMMAND}"
         if refusal.edit != self.edit_sum(name):
