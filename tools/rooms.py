@@ -40,18 +40,18 @@ def link_or_copy(file, to):
         shutil.copy2(file, to)
 
 
-def furnish(room, crate, uses):
-    """Makes the room of a crate in a new folder: its sources and kept results, and the libraries below it with their build
-    output. Returns the crate's folder there."""
+def furnish(room, crate, uses, top=TOP, keeps=True):
+    """Makes the room of a crate of a repository in a new folder: its sources and kept results, and the libraries below it with
+    their build output; or the sources alone. Returns the crate's folder there."""
     lower = below(crate, uses)
     (room / "crates").mkdir(parents=True)
-    shutil.copy2(TOP / "HANDLES", room)
-    rows = (TOP / "crates.txt").read_text(encoding="utf-8").splitlines(True)
+    shutil.copy2(top / "HANDLES", room)
+    rows = (top / "crates.txt").read_text(encoding="utf-8").splitlines(True)
     rows = (it for it in rows if {*crates_in(it)} & {*lower, crate})
     (room / "crates.txt").write_text("".join(rows), encoding="utf-8")
     for it, kept in [*((it, ["out/rlib"]) for it in lower), (crate, ["out/incremental", "out/rlib"])]:
-        for part in (*PARTS, *kept):
-            folder = TOP / "crates" / it / part
+        for part in (*PARTS, *(kept if keeps else ())):
+            folder = top / "crates" / it / part
             if folder.is_dir():
                 shutil.copytree(folder, room / "crates" / it / part, copy_function=link_or_copy)
     return room / "crates" / crate

@@ -1,6 +1,8 @@
 //! Devices that count their reads and the bodies that they lend, and share a count of their
 //! appends.
 
+ghost use Rattle.std.specs.Prelude.{◌≡◌};
+
 use shared_bytes::{Body, SharedBytes};
 use std::cell::Cell;
 use treefile::{Device, DeviceFault};
@@ -124,6 +126,24 @@ impl<'a, D> CountingDevice<'a, D> {
         self.most_ahead.get()
     }
 
+    /// Counts a read of `length` bytes from offset `at` on. A read at offset 0 is that of a header,
+    /// with which the reading of a file begins.
+    fn count_read(&mut self, at: u64, length: usize)
+        ensures inner { self.new.inner ≡ self.old.inner }
+    {
+        if at != 0 {
+            self.bytes = self.bytes.saturating_add(length as u64);
+            self.reading = self.reading.with_read(self.puts.get());
+            return;
+        }
+        self.fewest_reads = self.fewest_reads();
+        self.least_gap = self.least_gap();
+        self.reading = Reading::begun();
+        self.lent_here.set(0);
+        self.last_lent.set(u64::MAX);
+        self.puts_before = self.puts.get();
+    }
+
     /// Counts the body whose frame ends at an offset, unless it is the one that was counted last.
     fn count_body(&self, at: u64) {
         if self.last_lent.replace(at) == at {
@@ -155,18 +175,7 @@ impl<D: Device> Device for CountingDevice<'_, D> {
     }
 
     fn read_at(&mut self, at: u64, out: &mut [u8]) -> Result<(), DeviceFault> {
-        if at == 0 {
-            // a header begins the next reading
-            self.fewest_reads = self.fewest_reads();
-            self.least_gap = self.least_gap();
-            self.reading = Reading::begun();
-            self.lent_here.set(0);
-            self.last_lent.set(u64::MAX);
-            self.puts_before = self.puts.get();
-        } else {
-            self.bytes = self.bytes.saturating_add(out.len() as u64);
-            self.reading = self.reading.with_read(self.puts.get());
-        }
+        self.count_read(at, out.len());
         self.inner.read_at(at, out)
     }
 
@@ -185,8 +194,10 @@ impl<D: Device> Device for CountingDevice<'_, D> {
     }
 
     fn lend_before(&self, at: u64) -> Option<Body<'_>> {
-        let body = self.inner.lend_before(at)?;
-        self.count_body(at);
-        Some(body)
+        let body = self.inner.lend_before(at);
+        if body.is_some() {
+            self.count_body(at);
+        }
+        body
     }
 }
