@@ -1,7 +1,7 @@
 """Makes the wheel of this package, for pip and for tools/wheel, with nothing but Python.
 
-The wheel has the library of tools/library, so it is made in a checkout. Its platform tag names the least version of glibc that the
-library needs. For the same files the wheel has the same bytes, but for another version of zlib.
+The wheel has the library of tools/library, so it is made in a checkout. Its platform tag names the least version of glibc that
+the library needs. For the same files the wheel has the same bytes, but for another version of zlib.
 """
 import base64
 import hashlib
@@ -42,8 +42,9 @@ def tag_of(shared):
 
 def metadata():
     """Returns the file METADATA."""
-    lines = ["Metadata-Version: 2.1", f"Name: {field('name')}", f"Version: {field('version')}", f"Summary: {field('description')}"]
-    lines += [f"License: {field('license')}", *(f"License-File: {it.name}" for it in LICENCES)]
+    lines = ["Metadata-Version: 2.1", f"Name: {field('name')}", f"Version: {field('version')}"]
+    lines += [f"Summary: {field('description')}", f"License: {field('license')}"]
+    lines += [f"License-File: {it.name}" for it in LICENCES]
     lines += [f"Requires-Python: {field('requires-python')}", "Classifier: Typing :: Typed"]
     return "\n".join(lines) + "\n"
 

@@ -35,7 +35,7 @@ fn main() {
     let folder = match env::var_os("AGGEN_LIB_DIR") {
         Some(folder) => with_archive(PathBuf::from(folder)).expect("the folder AGGEN_LIB_DIR has no libaggen.a"),
         None => with_archive(built).or_else(installed).or_else(|| unpacked(&top)).expect(
-            "libaggen.a was not found: set AGGEN_LIB_DIR to its folder, install it where pkg-config finds it, or run tools/library",
+            "libaggen.a is missing: set AGGEN_LIB_DIR to its folder, install it where pkg-config finds it, or run tools/library",
         ),
     };
     println!("cargo:rustc-link-search=native={}", folder.display());

@@ -3,12 +3,12 @@
     with aggen.Translator(grammar) as translator:
         text = translator.translate("1101.01")
 
-The library is the file that the environment variable AGGEN_LIBRARY names, else libaggen.so beside this file, as in the wheel, else
-libaggen.so where the system finds it. If it can't be loaded, the import raises OSError.
+The library is the file that the environment variable AGGEN_LIBRARY names, else libaggen.so beside this file, as in the wheel,
+else libaggen.so where the system finds it. If it can't be loaded, the import raises OSError.
 
 A call that fails raises Refusal; its status says why. Texts are str, which is encoded as UTF-8, or bytes. Anything else raises
-TypeError, and a str with a lone surrogate UnicodeEncodeError. A translator can be used by several threads: its calls wait for each
-other.
+TypeError, and a str with a lone surrogate UnicodeEncodeError. A translator can be used by several threads: its calls wait for
+each other.
 """
 from __future__ import annotations
 
@@ -111,8 +111,8 @@ def _bytes_of(text: str | bytes) -> bytes:
 class Translator:
     """The translator of a grammar's text.
 
-    Raises Refusal with the status GRAMMAR if the text is rejected, and NO_MEMORY if memory is refused. Each call of a method raises
-    Refusal with the status NO_MEMORY too, and after `close` NO_TRANSLATOR.
+    Raises Refusal with the status GRAMMAR if the text is rejected, and NO_MEMORY if memory is refused. Each call of a method
+    raises Refusal with the status NO_MEMORY too, and after `close` NO_TRANSLATOR.
     """
 
     def __init__(self, grammar: str | bytes):
