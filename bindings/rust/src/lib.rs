@@ -1,8 +1,9 @@
 //! Translators from attribute grammars, by the C library `libaggen.a`.
 //!
-//! ```no_run
-//! let mut translator = aggen::Translator::build(b"start S; ..")?;
-//! let text = translator.translate(b"1101.01")?;
+//! ```
+//! let grammar = b"start S; symbol S syn out; S = NUMBER { $0.out = text(number($1.lex) + 1); }";
+//! let mut translator = aggen::Translator::build(grammar)?;
+//! assert_eq!(translator.translate(b"41")?, b"42");
 //! # Ok::<(), aggen::Refusal>(())
 //! ```
 

@@ -3,8 +3,12 @@
     with aggen.Translator(grammar) as translator:
         text = translator.translate("1101.01")
 
-The library is the file that the environment variable AGGEN_LIBRARY names, or libaggen.so where the system finds it.
-A translator can be used by several threads: its calls wait for each other.
+The library is the file that the environment variable AGGEN_LIBRARY names, else libaggen.so beside this file, as in the wheel,
+else libaggen.so where the system finds it. If it can't be loaded, the import raises OSError.
+
+A call that fails raises Refusal; its status says why. Texts are str, which is encoded as UTF-8, or bytes. Anything else raises
+TypeError, and a str with a lone surrogate UnicodeEncodeError. A translator can be used by several threads: its calls wait for
+each other.
 """
 from __future__ import annotations
 
@@ -12,8 +16,9 @@ import ctypes
 import enum
 import os
 import threading
+from pathlib import Path
 from types import TracebackType
-from typing import Callable
+from typing import Any, Callable
 
 __all__ = ["Refusal", "Status", "Translator", "version"]
 
@@ -35,21 +40,24 @@ class Status(enum.IntEnum):
 
 
 class Refusal(Exception):
-    """A call failed: it rejected a grammar, a sentence or a tree file, or memory was refused."""
+    """A call failed: it rejected a grammar, a sentence or a tree file, or memory was refused.
+
+    status   why the call failed
+    number   as "N8"; None for a refusal without a number
+    offset   in bytes from 0, in the input of the call; None if the refusal has no place there
+    place    the line and the column, from 1, or None
+    message  one line, which begins with the number
+    """
 
     def __init__(self, status: Status, number: str | None, offset: int | None, place: tuple[int, int] | None, message: str):
         super().__init__(message)
         self.status = status
-        # as "N8"; None for a refusal without a number
         self.number = number
-        # in bytes from 0, in the input of the call
         self.offset = offset
-        # the line and the column, from 1
         self.place = place
-        # one line, which begins with the number
         self.message = message
 
-    def __reduce__(self) -> tuple:
+    def __reduce__(self) -> tuple[Any, ...]:
         return type(self), (self.status, self.number, self.offset, self.place, self.message)
 
 
@@ -68,8 +76,14 @@ class _Refusal(ctypes.Structure):
     ]
 
 
+def _path() -> str:
+    """Returns the path of the library, or the name by which the system finds it."""
+    beside = Path(__file__).with_name("libaggen.so")
+    return os.environ.get("AGGEN_LIBRARY") or (str(beside) if beside.exists() else "libaggen.so")
+
+
 def _load() -> ctypes.CDLL:
-    library = ctypes.CDLL(os.environ.get("AGGEN_LIBRARY", "libaggen.so"))
+    library = ctypes.CDLL(_path())
     text, size, handle = ctypes.c_char_p, ctypes.c_size_t, ctypes.POINTER(_Handle)
     report = [ctypes.c_void_p, size, ctypes.POINTER(_Refusal)]
     out = [ctypes.c_void_p, size, ctypes.POINTER(size)]
@@ -87,7 +101,7 @@ _library = _load()
 
 def version() -> str:
     """Returns the version of the library."""
-    return _library.aggen_version().decode()
+    return str(_library.aggen_version().decode())
 
 
 def _bytes_of(text: str | bytes) -> bytes:
@@ -95,7 +109,11 @@ def _bytes_of(text: str | bytes) -> bytes:
 
 
 class Translator:
-    """The translator of a grammar's text. It raises Refusal if the text is rejected."""
+    """The translator of a grammar's text.
+
+    Raises Refusal with the status GRAMMAR if the text is rejected, and NO_MEMORY if memory is refused. Each call of a method
+    raises Refusal with the status NO_MEMORY too, and after `close` NO_TRANSLATOR.
+    """
 
     def __init__(self, grammar: str | bytes):
         # a call locks it, and may lock it again, as `__del__` may be called within a call
@@ -108,15 +126,21 @@ class Translator:
             self._check(lambda: _library.aggen_build(text, len(text), self._handle, *self._report()))
 
     def translate(self, sentence: str | bytes) -> bytes:
-        """Returns the translation of a sentence."""
+        """Returns the translation of a sentence.
+
+        Raises Refusal with the status SENTENCE if the sentence is rejected, and NO_TEXT if its translation is not a text.
+        """
         return self._result(_library.aggen_translate, _bytes_of(sentence))
 
     def evaluate(self, file: bytes) -> bytes:
-        """Returns the translation of the tree in a tree file of pass 0, as `parse` returns one."""
+        """Returns the translation of the tree in a tree file of pass 0, as `parse` returns one.
+
+        Raises Refusal with the status TREE_FILE if the file is rejected, and NO_TEXT if the translation is not a text.
+        """
         return self._result(_library.aggen_evaluate, bytes(memoryview(file)))
 
     def parse(self, sentence: str | bytes) -> bytes:
-        """Returns the tree file of a sentence."""
+        """Returns the tree file of a sentence. Raises Refusal with the status SENTENCE if the sentence is rejected."""
         return self._result(_library.aggen_parse, _bytes_of(sentence))
 
     def plan(self) -> str:
@@ -124,7 +148,7 @@ class Translator:
         return self._result(_library.aggen_plan).decode()
 
     def close(self) -> None:
-        """Frees the translator. After that each call raises Refusal with the status NO_TRANSLATOR."""
+        """Frees the translator. A second call does nothing."""
         with self._lock:
             _library.aggen_free(self._handle)
 
@@ -138,7 +162,7 @@ class Translator:
         if hasattr(self, "_handle"):
             self.close()
 
-    def _report(self) -> tuple:
+    def _report(self) -> tuple[Any, ...]:
         return self._message, len(self._message), self._refusal
 
     def _result(self, function: Callable[..., int], *inputs: bytes) -> bytes:
