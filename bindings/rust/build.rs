@@ -1,6 +1,6 @@
 //! Finds the folder of libaggen.a. It is the first of these that has the file: the value of AGGEN_LIB_DIR; out/library in the
-//! repository of this package; the folder of the installed library, if pkg-config knows one; and a folder to which tools/library
-//! unpacks the library of dist/.
+//! repository of this package, if it is of these sources; the folder of the installed library, if pkg-config knows one; and a
+//! folder to which tools/library unpacks the library of dist/.
 
 use std::env;
 use std::path::{Path, PathBuf};
@@ -9,6 +9,14 @@ use std::process::Command;
 /// Returns the folder if it has libaggen.a.
 fn with_archive(folder: PathBuf) -> Option<PathBuf> {
     folder.join("libaggen.a").is_file().then_some(folder)
+}
+
+/// Returns the folder of the library in out/, if that is of these sources.
+fn built(top: &Path) -> Option<PathBuf> {
+    let library = top.join("out/library");
+    let kept = std::fs::read(library.join("sources")).ok()?;
+    let sources = Command::new(top.join("tools/library")).arg("--sources").output().ok()?.stdout;
+    (kept == sources).then(|| library.join("lib")).and_then(with_archive)
 }
 
 /// Returns the folder of the installed library, if pkg-config knows one.
@@ -27,14 +35,13 @@ fn unpacked(top: &Path) -> Option<PathBuf> {
 
 fn main() {
     let top = Path::new(env!("CARGO_MANIFEST_DIR")).join("../..");
-    let built = top.join("out/library/lib");
     println!("cargo:rerun-if-env-changed=AGGEN_LIB_DIR");
     println!("cargo:rerun-if-env-changed=PKG_CONFIG_PATH");
-    println!("cargo:rerun-if-changed={}", built.display());
+    println!("cargo:rerun-if-changed={}", top.join("out/library").display());
     println!("cargo:rerun-if-changed={}", top.join("dist/manifest").display());
     let folder = match env::var_os("AGGEN_LIB_DIR") {
         Some(folder) => with_archive(PathBuf::from(folder)).expect("the folder AGGEN_LIB_DIR has no libaggen.a"),
-        None => with_archive(built).or_else(installed).or_else(|| unpacked(&top)).expect(
+        None => built(&top).or_else(installed).or_else(|| unpacked(&top)).expect(
             "libaggen.a is missing: set AGGEN_LIB_DIR to its folder, install it where pkg-config finds it, or run tools/library",
         ),
     };
