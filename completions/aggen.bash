@@ -34,6 +34,7 @@ _aggen() {
                 show--width) value='none' ;;
                 explain--color) value='words auto always never' ;;
                 explain--node) value='none' ;;
+                explain--width) value='none' ;;
                 explain--sentence) value='file' ;;
                 explain--at) value='none' ;;
                 upgrade--color) value='words auto always never' ;;
@@ -59,7 +60,7 @@ _aggen() {
             'code') kind='words --color -q --quiet -h --help' ;;
             'parse') kind='words --color -q --quiet -h --help' ;;
             'show') kind='words --color --depth --node -q --quiet --only --width --json -h --help' ;;
-            'explain') kind='words --color --node -q --quiet --sentence --at --errors -h --help' ;;
+            'explain') kind='words --color --node -q --quiet --width --sentence --at --errors -h --help' ;;
             'upgrade') kind='words --color -q --quiet -h --help' ;;
         esac
     else

@@ -11,7 +11,7 @@ function __aggen_is_at
         if test $is_value = yes
             set is_value no
         else if string match -q -- '-?*' $word
-            if contains -- "$command$word" --color run--color run-o run--output run--out-dir run--work eval--color eval-o eval--output eval--work value--color check--color plan--color why--color code--color parse--color show--color show--depth show--node show--only show--width explain--color explain--node explain--sentence explain--at upgrade--color
+            if contains -- "$command$word" --color run--color run-o run--output run--out-dir run--work eval--color eval-o eval--output eval--work value--color check--color plan--color why--color code--color parse--color show--color show--depth show--node show--only show--width explain--color explain--node explain--width explain--sentence explain--at upgrade--color
                 set is_value yes
             end
         else if test -z "$command"
@@ -97,6 +97,7 @@ complete -c aggen -n '__aggen_is_at show 1' -F
 complete -c aggen -n "__aggen_is_at 'explain'" -l color -x -a 'auto always never' -d 'Marks the number and the place in messages; without it, on a terminal only'
 complete -c aggen -n "__aggen_is_at 'explain'" -l node -x -d 'The node at this path: `/2/1` is the first child of the root\'s second child, `/1*9` nine times the first'
 complete -c aggen -n "__aggen_is_at 'explain'" -s q -l quiet -d 'Shows no progress, and prints no refusal but those of the command line'
+complete -c aggen -n "__aggen_is_at 'explain'" -l width -x -d 'Prints at most N characters of a value, 60 without it; 0 prints whole values. Numbers are printed whole'
 complete -c aggen -n "__aggen_is_at 'explain'" -l sentence -r -F -d 'The file with the sentence of the tree, `-` for standard input'
 complete -c aggen -n "__aggen_is_at 'explain'" -l at -x -d 'The innermost node of a symbol (not of a token) at this place of the sentence, counted from 1'
 complete -c aggen -n "__aggen_is_at 'explain'" -l errors -d 'Prints the rules of the whole tree in which errors arise, and their number'
