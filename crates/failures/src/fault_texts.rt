@@ -9,7 +9,7 @@ use agoutput::{ListingFault, OutFault, TextOutFault};
 use backreader::TurnFault;
 use command_line::CommandLineFault;
 use message_parts::NameFault;
-use origins::{DecodeFault, WalkFault};
+use origins::DecodeFault;
 use pass_rows::RecordFault;
 use passassign::{AssignFault, Stuck};
 use planchecker::PlanFault;
@@ -74,16 +74,6 @@ fn texts_of_files(alloc: Global, kind: &str) -> Result<String, Mistake> {
 /// Returns the text of each variant of a fault type of whole trees and of what is printed.
 fn texts_of_trees(alloc: Global, kind: &str) -> Result<String, Mistake> {
     match kind {
-        "WalkFault" => lines(
-            alloc,
-            &[
-                WalkFault::Damaged(4),
-                WalkFault::TooDeep,
-                WalkFault::TooManyNodes,
-                WalkFault::Device,
-                WalkFault::NoMemory,
-            ],
-        ),
         "TreeFault" => lines(
             alloc,
             &[

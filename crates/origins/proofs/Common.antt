@@ -1,14 +1,12 @@
 -- What several files of these proofs use.
-pub use Rattle.std.proofs.Common.{All, Bool, Err, List, None, Ok, Option, Result, Some, [], add-one, add-zero, add_assoc, ap}
-pub use Rattle.std.proofs.Common.{append_assoc, arith, cond, drop, drop-cons, false, get_or, inl, inr, length, length-append}
-pub use Rattle.std.proofs.Common.{length-drop, map, negsuc, pos, refl, reverse, rules, slice_get, subst, suc, sym, take, true}
-pub use Rattle.std.proofs.Common.{zero, zero-add, ℕ, ℤ, ◌&&◌, ◌*ℤ◌, ◌++◌, ◌+ℤ◌, ◌+◌, ◌-ℤ◌, ◌-◌, ◌<◌, ◌^◌, ◌∙◌, ◌∷◌, ◌≡◌, ◌≤◌, ◌⊎◌}
-pub use Rattle.std.proofs.lemmas.Bool.{and_from, and_parts, and_right, cases_Bool, cases_lt, eq-eqb, eqb-true, le-leb, le-ltb}
-pub use Rattle.std.proofs.lemmas.Bool.{lt-ltb, ltb-false, ltb-true, or_cases, or_right}
-pub use Rattle.std.proofs.lemmas.List.{append-nil, drop_all, reverse-append}
+pub use Rattle.std.proofs.Common.{All, Bool, List, None, Option, Some, [], add-one, add-zero, add_assoc, ap, arith, cond, drop}
+pub use Rattle.std.proofs.Common.{drop-cons, false, get_or, inl, inr, length, length-append, map, negsuc, pos, refl, rules}
+pub use Rattle.std.proofs.Common.{slice_get, subst, suc, sym, take, true, zero, zero-add, ℕ, ℤ, ◌*ℤ◌, ◌++◌, ◌+ℤ◌, ◌+◌, ◌-ℤ◌, ◌-◌}
+pub use Rattle.std.proofs.Common.{◌<◌, ◌^◌, ◌∙◌, ◌∷◌, ◌≡◌, ◌≤◌, ◌⊎◌}
+pub use Rattle.std.proofs.lemmas.Bool.{cases_Bool, cases_lt, eq-eqb, eqb-true, le-leb, le-ltb, lt-ltb, ltb-false, ltb-true}
+pub use Rattle.std.proofs.lemmas.List.{drop_all}
 pub use Rattle.std.proofs.lemmas.List.Sums.{sum_by-cons}
-pub use Rattle.std.proofs.lemmas.Option.{get_or_from_slice_get, none-some, slice_get-get_or, slice_get_past, slice_get_within}
-pub use Rattle.std.proofs.lemmas.Result.{IfOk-weaker, on_ok_weaker}
+pub use Rattle.std.proofs.lemmas.Option.{none-some, slice_get-get_or, slice_get_past, slice_get_within}
 pub use Rattle.std.specs.List.{count_by, flat_map}
 pub use Rattle.std.specs.Prelude.{nat_eq, nat_le, nat_lt}
 pub use Rattle.ag_grammar.specs.Lists.{Each}
@@ -24,10 +22,10 @@ pub use Rattle.ag_grammar.specs.declared.syntax.node.Node.{Node}
 pub use Rattle.ag_grammar.specs.declared.syntax.node.Node.TheVariants as node_of
 pub use Rattle.ag_grammar.specs.expressions.Evaluation.{value_in, value_of}
 pub use Rattle.ag_grammar.specs.grammars.Accepted.{IsAccepted, IsComplete, IsNormal, IsStart}
-pub use Rattle.ag_grammar.specs.grammars.AttributeGrammar.{Grammar, HasKind, Inherited, IsArgument, IsProduction, IsRule, Kind}
-pub use Rattle.ag_grammar.specs.grammars.AttributeGrammar.{Synthesized, defined_kind, item_at, item_kinds, stored_items}
-pub use Rattle.ag_grammar.specs.grammars.AttributeGrammar.{symbol_kinds, used_kind}
-pub use Rattle.ag_grammar.specs.grammars.Passes.{IsLegal, Passes, direction_of, nth, other}
+pub use Rattle.ag_grammar.specs.grammars.AttributeGrammar.{Grammar, HasKind, Inherited, IsArgument, IsRule, Kind, Synthesized}
+pub use Rattle.ag_grammar.specs.grammars.AttributeGrammar.{defined_kind, item_at, item_kinds, stored_items, symbol_kinds}
+pub use Rattle.ag_grammar.specs.grammars.AttributeGrammar.{used_kind}
+pub use Rattle.ag_grammar.specs.grammars.Passes.{IsLegal, Passes, direction_of}
 pub use Rattle.ag_grammar.specs.grammars.Running.{IsLastPass}
 pub use Rattle.ag_grammar.specs.grammars.Solution.{NoRule, SolvesAll, Valuation, at, below, children, left_passes, rest}
 pub use Rattle.ag_grammar.specs.grammars.Tree.{Fits, FitsAll, Forest, IsTreeOf, Tree, leaf, more, node, none}
@@ -39,12 +37,7 @@ pub use Rattle.ag_value.specs.declared.value.Value.{Num, Text, Value, out-Value}
 pub use Rattle.ag_value.specs.declared.value.Value.TheVariants.{outs-Fault, outs-Num, outs-Table, outs-Text}
 pub use Rattle.ag_value.specs.declared.value.Value.TheVariants as value
 pub use Rattle.ag_value.specs.operations.Arguments.{fault_of, has_fault, strict, truth}
-pub use Rattle.origins.specs.Arising.{Table, arising_count, environment, exchanged, is_arising, is_same_error, value_at}
-pub use Rattle.origins.specs.Origins.{AreOrigins, AreOriginsIn, HasOrigin, arising_at, child, child_of, is_before, origin_count}
-pub use Rattle.origins.specs.Origins.{origin_counts}
+pub use Rattle.origins.specs.Arising.{Table, environment, exchanged, is_arising, is_same_error, value_at}
+pub use Rattle.origins.specs.Origins.{HasOrigin, arising_at, child_of}
 pub use Rattle.origins.specs.Rows.{table_of}
-pub use Rattle.origins.specs.declared.walk.Open.{Open}
-pub use Rattle.treefile.specs.devices.Device.{LeavesContent, Persists, WhenHonest}
-pub use Rattle.treefile.specs.records.OneTree.{IsRecorded}
-pub use Rattle.treefile.specs.records.Orders.{postfix, prefix, prefix_all}
-pub use Rattle.treefile.specs.records.TreeFile.{body_from, body_of, frame, version_two}
+pub use Rattle.treefile.specs.records.TreeFile.{body_from, body_of}

@@ -5,7 +5,6 @@ use Common.{drop-cons, get_or, length, ◌∙◌, ◌+ℤ◌, ◌-ℤ◌, ◌*�
 use Common.{outs-Table, outs-Text, Node, value_in, truth, fault_of, has_fault, strict}
 use Common.value
 use Common.node_of
-use Rattle.ag_value.specs.declared.value.ErrorCode.TheVariants as error
 use Rattle.ag_value.specs.declared.value.Value.TheOpen.{Value-F}
 use Rattle.ag_grammar.specs.declared.syntax.node.BinaryCall.{BinaryCall}
 use Rattle.ag_grammar.specs.declared.syntax.node.BinaryCall.TheVariants as binary

@@ -1,12 +1,9 @@
 pub mod Common
 pub mod Arguments
 pub mod Caused
-pub mod Children
 pub mod Induction
 pub mod Knowing
-pub mod Order
 pub mod Origin
 pub mod Quiet
 pub mod Same
 pub mod Sources
-pub mod Step

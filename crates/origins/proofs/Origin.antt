@@ -1,12 +1,10 @@
 -- An error that has a cause comes from an origin. So if a tree has no origin, no value of its solution is an error.
 use Rattle.origins.proofs.Common
-use Common.{ℕ, zero, suc, ◌≡◌, ◌<◌, inl, inr, Bool, true, cond, List, [], ◌∷◌, Option, Some, None, slice_get, refl, arith}
-use Common.{count_by, sum_by-cons, Rule, Grammar, Valuation, at, below, children, rest, Forest, Tree, leaf, node, none, more}
-use Common.{Table, arising_count, is_arising, fault_of, HasOrigin, arising_at, child, child_of, origin_count, origin_counts}
+use Common.{ℕ, zero, suc, ◌≡◌, ◌<◌, inl, inr, Bool, true, cond, List, [], ◌∷◌, Option, Some, None, slice_get, arith, count_by}
+use Common.{sum_by-cons, Rule, Grammar, Valuation, at, below, Tree, Table, is_arising, fault_of, HasOrigin, arising_at, child_of}
 use Rattle.origins.specs.Causes.{IsRuleAt, here, passed, place_path, tree_at, values_at}
-use Rattle.origins.specs.Laws.{CausesHaveOrigins, NoneIsClean, NoneIsCounted}
+use Rattle.origins.specs.Laws.{CausesHaveOrigins, NoneIsClean}
 use Rattle.origins.proofs.Caused.{Explained, errors_have_causes}
-use Rattle.origins.proofs.Children.{none_below}
 use Rattle.origins.proofs.Induction.{holds_by}
 
 -- if the tree at the end of a path has at its root a rule in which an error arises, the path leads to an origin
@@ -50,42 +48,3 @@ none_is_clean g m t v accepted legal fits solves first =
           (let origin = causes_have_origins g t v path a cause in first origin.0 origin.1)
     ]) t []
     (λ _. errors_have_causes g m t v accepted legal fits solves)
-
-zero_from : (n : ℕ) → (0 < n → ⊥) → n ≡ 0
-zero_from zero h = refl
-zero_from (suc n) h = absurd (h (omega arith))
-
-module _ (g : Grammar) where
-  -- if no path leads to an origin, the number of rules in which an error arises is 0
-  mutual
-    no_path : (t : Tree) (v : Valuation) → ((path : List ℕ) → HasOrigin g path (Some t) v → ⊥) → origin_count g t v ≡ 0
-    no_path (leaf c x) v h = refl
-    no_path (node p ts) v h =
-        let first = zero_from (arising_count (slice_get g.productions p) (at v)) (h []) in
-        let others = no_paths ts (children v) (λ i path. h (i ∷ path)) in
-        omega arith
-
-    no_paths : (ts : Forest) (vs : ℕ → Valuation) → ((i : ℕ) (path : List ℕ) → HasOrigin g path (child ts i) (vs i) → ⊥)
-        → origin_counts g ts vs ≡ 0
-    no_paths none vs h = refl
-    no_paths (more t ts) vs h =
-        let first = no_path t (vs 0) (h 0) in
-        let others = no_paths ts (rest vs) (λ i. h (suc i)) in
-        omega arith
-
-  -- if this number is 0, no path leads to an origin
-  mutual
-    pub no_origin : (t : Tree) (v : Valuation) (path : List ℕ) → origin_count g t v ≡ 0 → HasOrigin g path (Some t) v → ⊥
-    no_origin (leaf c x) v [] n h = omega arith
-    no_origin (leaf c x) v (i ∷ path) n h = none_below g path (λ p. v (i ∷ p)) h
-    no_origin (node p ts) v [] n h = omega arith
-    no_origin (node p ts) v (i ∷ path) n h = no_origin_in ts (children v) i path (omega arith) h
-
-    no_origin_in : (ts : Forest) (vs : ℕ → Valuation) (i : ℕ) (path : List ℕ) → origin_counts g ts vs ≡ 0
-        → HasOrigin g path (child ts i) (vs i) → ⊥
-    no_origin_in none vs i path n h = none_below g path (vs i) h
-    no_origin_in (more t ts) vs zero path n h = no_origin t (vs 0) path (omega arith) h
-    no_origin_in (more t ts) vs (suc i) path n h = no_origin_in ts (rest vs) i path (omega arith) h
-
-pub none_is_counted : NoneIsCounted
-none_is_counted g t v = (no_path g t v, λ n path h. no_origin g t v path n h)

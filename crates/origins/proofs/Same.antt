@@ -1,9 +1,7 @@
--- What the record of a node in the file of the last pass says of its rules.
+-- The body of a node's record determines its number and its values.
 use Rattle.origins.proofs.Common
-use Common.{◌≡◌, ℕ, suc, ◌^◌, ◌<◌, Bool, cond, List, [], ◌∷◌, ◌++◌, All, Option, Some, None, slice_get, refl, ap, sym, ◌∙◌}
-use Common.{count_by, flat_map, sum_by-cons, none-some, Value, spelling_of, IsWell, Production, Rule, Target, IsNormal, Grammar}
-use Common.{stored_items, IsLegal, Passes, IsLastPass, NoRule, SolvesAll, Valuation, at, children, FitsAll, Forest, body_from}
-use Common.{body_of, Table, arising_count, environment, is_arising, value_at, table_of}
+use Common.{◌≡◌, ℕ, ◌^◌, ◌<◌, List, [], ◌∷◌, ◌++◌, All, refl, ap, sym, ◌∙◌, flat_map, none-some, Value, spelling_of, IsWell}
+use Common.{body_from, body_of}
 use Rattle.std.specs.Int.{w16, to_be_bytes}
 use Rattle.std.proofs.lemmas.List.{drop_at, take_at}
 use Rattle.std.proofs.lemmas.List.Elements.{All-head, All-tail}
@@ -12,37 +10,6 @@ use Rattle.ag_value.specs.Reading.{value_at as read_at}
 use Rattle.ag_value.proofs.Codec.{well_is_read}
 use Rattle.treefile.specs.declared.body.Kind.TheVariants.{Node, Token}
 use Rattle.treefile.proofs.records.Spelled.{spelled_apart}
-use Rattle.origins.proofs.Arguments.{argument_value, row}
-
--- two tests that agree on each member of a list count the same number
-count_same : (f h : Rule → Bool) (rs : List Rule) → ((i : ℕ) (r : Rule) → slice_get rs i ≡ Some r → f r ≡ h r)
-    → count_by f rs ≡ count_by h rs
-count_same f h [] same = refl
-count_same f h (r ∷ rs) same =
-    cc (
-      same 0 r refl,
-      count_same f h rs (λ i. same (suc i)),
-      sum_by-cons (λ x. cond (f x) 1 0) r rs,
-      sum_by-cons (λ x. cond (h x) 1 0) r rs,
-    )
-
--- if the arguments of a rule have the same values in two tables, an error arises in the rule with both or with neither
-arises_same : (r : Rule) (e f : Table)
-    → ((k : ℕ) (o : Target) → slice_get r.args k ≡ Some o → e o.place o.attr ≡ f o.place o.attr) → is_arising e r ≡ is_arising f r
-arises_same r e f same =
-    let lent : environment r e ≡ environment r f = λ i k. by_argument (slice_get r.args k) k refl i in cc
-  where
-    by_argument : (o : Option Target) (k : ℕ) → slice_get r.args k ≡ o → value_at e o ≡ value_at f o
-    by_argument None k is = refl
-    by_argument (Some o) k is = same k o is
-
-pub row_count : (g : Grammar) (m : Passes) (k : ℕ) (q : Production) (ts : Forest) (v : Valuation) → IsLegal g m → IsLastPass k m
-    → IsNormal g q → FitsAll g (stored_items q.items) ts → SolvesAll NoRule g ts (children v)
-    → arising_count (Some q) (table_of g q (row g m k q ts v)) ≡ arising_count (Some q) (at v)
-row_count g m k q ts v legal last normal fits solves =
-    count_same (is_arising (table_of g q (row g m k q ts v))) (is_arising (at v)) q.rules (λ i r is.
-    arises_same r (table_of g q (row g m k q ts v)) (at v)
-    (λ j o arg. argument_value g m k legal last q ts v o fits solves (normal i r is j o arg)))
 
 -- equal lists of bytes that begin with a number of two bytes have the same number, and the same bytes after it
 numbered_apart : (p r : ℕ) (xs ys : List ℕ) → p < 2 ^ 16 → r < 2 ^ 16 → to_be_bytes w16 p ++ xs ≡ to_be_bytes w16 r ++ ys

@@ -6,4 +6,3 @@ pub mod Laws
 pub mod Origins
 pub mod Records
 pub mod Rows
-pub mod Walking

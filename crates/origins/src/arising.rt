@@ -1,11 +1,9 @@
 //! Whether an error arises in a rule, and which argument passes its error on.
 
 ghost use Rattle.std.specs.Prelude.{◌≡◌, ◌+◌, ◌-◌, ◌^◌, ◌<◌, IfOk, Some, length, true};
-ghost use Rattle.ag_grammar.specs.Lists.{Each};
-ghost use Rattle.ag_grammar.specs.declared.grammar.Rule.{Rule as TheRule};
 ghost use Rattle.ag_grammar.specs.expressions.Evaluation.{value_of};
 ghost use Rattle.ag_value.specs.operations.Arguments.{fault_of, has_fault};
-ghost use Rattle.origins.specs.Arising.{arising_count, environment, exchanged, is_arising};
+ghost use Rattle.origins.specs.Arising.{environment, exchanged, is_arising};
 ghost use Rattle.origins.specs.Causes.{AnswersSource, exchanged_below, is_still};
 ghost use Rattle.origins.specs.Forms.{IsKnown};
 ghost use Rattle.origins.specs.Rows.{table_of};
@@ -115,23 +113,6 @@ impl<'a> Row<'a> {
         };
         let other = self.evaluate_exchanged(alloc, rule)?;
         Ok(is_same_error(Some(code), error_of(&other)))
-    }
-
-    /// Returns the number of rules of the node's production in which an error arises. Fails as
-    /// `is_arising` does.
-    pub(crate) fn arising_count(&self, alloc: Global) -> Result<usize, NoMemory>
-        requires arguments { Each (λ (r : TheRule). length r.args ≡ length r.expr.occurrences)
-            self.now.production.now.rules }
-        ensures { IfOk result (λ count. count ≡ arising_count (Some self.now.production.now)
-            (table_of self.now.grammar.now self.now.production.now self.now.values.now)) }
-    {
-        let mut count = 0;
-        for rule in self.production.rules.as_slice() {
-            if self.is_arising(alloc, rule)? {
-                count += 1;
-            }
-        }
-        Ok(count)
     }
 
     /// Returns whether the value of the argument with this number, from 0, is an error.

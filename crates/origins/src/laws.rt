@@ -1,7 +1,7 @@
 //! What is true of the definitions of origins and causes alone.
 
 ghost use Rattle.origins.specs.Causes.{ErrorsHaveCauses};
-ghost use Rattle.origins.specs.Laws.{CausesHaveOrigins, NoneIsClean, NoneIsCounted};
+ghost use Rattle.origins.specs.Laws.{CausesHaveOrigins, NoneIsClean};
 
 /// States that in an accepted grammar with a legal assignment each error of a solution has a cause:
 /// a rule in which the error arises, at the end of a chain of rules that pass it on. Also states
@@ -12,10 +12,8 @@ pub fn errors_have_causes()
     ensures origins { CausesHaveOrigins }
 {}
 
-/// States that a tree has no origin exactly if it has no rule in which an error arises. Also states
-/// that in an accepted grammar with a legal assignment, no value of the solution of a tree without
-/// an origin is an error.
+/// States that in an accepted grammar with a legal assignment, no value of the solution of a tree
+/// without an origin is an error.
 pub fn no_origin_no_error()
-    ensures clean { NoneIsClean }
-    ensures counted { NoneIsCounted }
+    ensures { NoneIsClean }
 {}

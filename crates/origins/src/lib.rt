@@ -1,5 +1,5 @@
-//! Finds where errors come from, in the tree of a file that the last pass wrote: the rules in which
-//! an error arises, rather than being passed on by one of the rule's arguments.
+//! Finds where the error of a rule comes from, with the values of a record that the last pass wrote:
+//! whether it arises in the rule, or which of the rule's arguments passes it on.
 #![tactic(auto)]
 
 mod arising;
@@ -10,9 +10,7 @@ mod lending;
 mod record;
 mod row;
 mod slots;
-mod walk;
 
-pub use fault::{DecodeFault, WalkFault};
+pub use fault::DecodeFault;
 pub use record::{LastRecord, record_of};
 pub use row::Row;
-pub use walk::{Origins, find_origins};
