@@ -103,3 +103,8 @@ frame_fault_of frame.NoMemory = fault.NoMemory
 abbrev pub listing_fault_of : ListingFault → Fault
 listing_fault_of listing.Write = fault.Write
 listing_fault_of listing.NoMemory = fault.NoMemory
+
+-- the fault of a call that writes to a buffer in memory: O2 becomes `NoMemory`
+abbrev pub fault_in_memory : Fault → Fault
+fault_in_memory fault.Write = fault.NoMemory
+fault_in_memory e = e

@@ -1,8 +1,8 @@
 //! The program's faults, their exit statuses, and the conversions from the faults of other crates.
 
-ghost use Rattle.std.specs.Prelude.{◌≡◌};
+ghost use Rattle.std.specs.Prelude.{◌≡◌, ◌≢◌, ◌⊎◌};
 ghost use Rattle.ag_fault.specs.Faults.{build_fault_of, device_fault_of, expr_fault_of};
-ghost use Rattle.ag_fault.specs.Faults.{frame_fault_of, job_fault_of, listing_fault_of, out_fault_of};
+ghost use Rattle.ag_fault.specs.Faults.{fault_in_memory, frame_fault_of, job_fault_of, listing_fault_of, out_fault_of};
 ghost use Rattle.ag_fault.specs.Faults.{parse_fault_of, run_fault_of, scan_fault_of};
 ghost use Rattle.ag_fault.specs.Status.{status_of};
 ghost use Rattle.ag_fault.specs.declared.fault.Fault.TheVariants as program_fault;
@@ -65,6 +65,21 @@ pub enum Fault {
     Write,
     /// A request for memory was refused.
     NoMemory,
+}
+
+impl Fault {
+    /// Returns the fault of a call that writes to a buffer in memory: NoMemory in place of O2, since
+    /// such a write fails only if memory is refused, and any other fault as it is.
+    pub fn in_memory(self) -> Fault
+        ensures exact { result ≡ fault_in_memory self }
+        ensures same { (result ≡ self) ⊎ (result ≡ Fault.NoMemory) }
+        ensures other { result ≢ Fault.Write }
+    {
+        match self {
+            Fault::Write => Fault::NoMemory,
+            fault => fault,
+        }
+    }
 }
 
 /// Returns the exit status of the program for a fault. A letter alone means all its numbers:

@@ -11,4 +11,5 @@ pub mod Left
 pub mod Old
 pub mod OneLeast
 pub mod Reading
+pub mod Results
 pub mod Sentences

@@ -4,6 +4,7 @@ pub mod Evaluating
 pub mod Jobs
 pub mod Listing
 pub mod PassFaults
+pub mod Results
 pub mod Sentences
 pub mod Showing
 pub mod Status

@@ -23,7 +23,7 @@ pub use ag_fault::{BuildFault, Fault, StuckGrammar, status};
 pub use certified::{CertifiedPlan, certify_plan};
 pub use checking::{grammar_of, print_counts};
 pub use listing::{print_code, print_plan};
-pub use source::{bytes_of, source_of};
+pub use source::{bytes_of, fault_or, source_of};
 pub use translations::job::run_job;
 pub use translations::report::Report;
 pub use translator::Translator;

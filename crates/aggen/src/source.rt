@@ -1,6 +1,6 @@
 //! Reading a file into memory.
 
-ghost use Rattle.std.specs.Prelude.{◌≡◌, ◌+◌, IfErr, IfOk, IfSome, take};
+ghost use Rattle.std.specs.Prelude.{◌≡◌, ◌+◌, ◌⊎◌, IfErr, IfOk, IfSome, take};
 ghost use Rattle.ag_grammar.specs.grammars.Accepted.{max_text_bytes};
 ghost use Rattle.aggen.specs.Status.{IsSourceFault};
 
@@ -23,7 +23,7 @@ pub fn source_of<R: Files>(rt: &R, alloc: Global, path: &str) -> Result<Vec<u8>,
 {
     match fs::open(rt, path) {
         Ok(file) => bytes_of(alloc, file),
-        Err(error) => Err(fault_of(&error)),
+        Err(error) => Err(fault_or(&error, Fault::File)),
     }
 }
 
@@ -41,13 +41,14 @@ pub fn bytes_of<R: Read + Drop>(alloc: Global, reader: R) -> Result<Vec<u8>, Fau
     }
 }
 
-/// Returns the fault for an error of opening a file: NoMemory if memory was refused, else F1.
-fn fault_of(error: &Error) -> Fault
-    ensures { IsSourceFault result }
+/// Returns the fault of a failed call of the file system: NoMemory if the call failed since memory
+/// was refused, else `other`.
+pub fn fault_or(error: &Error, other: Fault) -> Fault
+    ensures { (result ≡ other) ⊎ (result ≡ Fault.NoMemory) }
 {
     if error.kind() == ErrorKind::OutOfMemory {
         Fault::NoMemory
     } else {
-        Fault::File
+        other
     }
 }

@@ -1,11 +1,7 @@
 -- What the calls of a translator say if all files are in memory, and the text is written to an empty vector.
 use Rattle.std.proofs.Common.{◌≡◌, ◌≢◌, ◌⊎◌, inl, inr, ℕ, List, [], Option, Some, true, refl, sym, ◌∙◌, subst}
-use Rattle.ag_value.specs.declared.value.Value.{Text}
 use Rattle.ag_grammar.specs.grammars.AttributeGrammar.{Grammar}
-use Rattle.ag_grammar.specs.grammars.Passes.{Passes}
-use Rattle.ag_grammar.specs.grammars.Solution.{IsTranslation}
-use Rattle.ag_grammar.specs.grammars.Tree.{Tree}
-use Rattle.ag_grammar.specs.grammars.Tree.{IsWithinLimits, max_depth, max_nodes}
+use Rattle.ag_grammar.specs.grammars.Tree.{IsWithinLimits, Tree, max_depth, max_nodes}
 use Rattle.agoutput.specs.Listings.{AppendsPlan, IsPlanListing}
 use Rattle.passcode.specs.Rows.{Lists}
 use Rattle.treefile.specs.devices.Device.{WhenHonest}
@@ -14,30 +10,15 @@ use Rattle.treefile.specs.records.TreeFile.{version_two}
 use Rattle.aggen.specs.Building.{IsLeastPlan}
 use Rattle.aggen.specs.Evaluating.{EvaluatesTree, IsEvaluationFault}
 use Rattle.aggen.specs.Sentences.{IsSentenceFault, IsTreeOfSentence}
-use Rattle.aggen.specs.Translating.{ArePassesOf, IsTranslationFault, TranslatesSentence}
-use Rattle.aggen.specs.Translation.{IsOneTree, IsTranslated}
+use Rattle.aggen.proofs.Results.{has_translation}
+use Rattle.aggen.specs.Translating.{IsTranslationFault, TranslatesSentence}
 use Rattle.aggen.specs.declared.translations.report.Report.{Report}
 use Rattle.ag_fault.specs.declared.fault.Fault.{Fault}
 use Rattle.ag_fault.specs.declared.fault.Fault.TheVariants as fault
-use Rattle.aggen_c.specs.Results.{HasTranslation, IsEvaluationOf, IsEvaluationRefusal, IsPlanTextOf, IsTranslationOf}
+use Rattle.aggen.specs.Results.{IsEvaluationOf, IsTranslationOf}
+use Rattle.aggen_c.specs.Results.{IsEvaluationRefusal, IsPlanTextOf}
 use Rattle.aggen_c.specs.Results.{IsTranslationRefusal}
 use Rattle.aggen_c.specs.Results.{IsTreeFileOf, IsTreeRefusal}
-
--- what was written to an empty vector is the translation of the one tree
-has_translation : (IsTree : Tree → Type 0) (g : Grammar) (m : Passes) (passes : ℕ) (tree : Tree) (now before text : List ℕ)
-    (report : Report)
-    → IsOneTree IsTree tree → ArePassesOf g m passes → IsTranslated g m passes tree now before (Some []) (Some text) report
-    → HasTranslation IsTree g text
-has_translation IsTree g m passes tree now before text report one plan is = record {
-  tree = tree;
-  one = one;
-  assignment = m;
-  passes = passes;
-  plan = plan;
-  values = is.values;
-  solution = is.leaves.solution;
-  root = subst (λ (s : List ℕ). IsTranslation g is.values (Text s)) (sym is.output) is.root;
-}
 
 pub translated : (g : Grammar) (sentence a b start text : List ℕ) (report : Report) → start ≡ []
     → TranslatesSentence g sentence true true a b (Some start) (Some text) report → IsTranslationOf g sentence text

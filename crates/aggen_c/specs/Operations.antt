@@ -2,7 +2,8 @@
 use Rattle.std.specs.Prelude.{ℕ, List}
 use Rattle.ag_grammar.specs.grammars.AttributeGrammar.{Grammar}
 use Rattle.ag_fault.specs.declared.fault.Fault.{Fault}
-use Rattle.aggen_c.specs.Results.{IsEvaluationOf, IsEvaluationRefusal, IsNoMemory, IsPlanTextOf, IsTranslationOf}
+use Rattle.aggen.specs.Results.{IsEvaluationOf, IsTranslationOf}
+use Rattle.aggen_c.specs.Results.{IsEvaluationRefusal, IsNoMemory, IsPlanTextOf}
 use Rattle.aggen_c.specs.Results.{IsTranslationRefusal}
 use Rattle.aggen_c.specs.Results.{IsTreeFileOf, IsTreeRefusal}
 use Rattle.aggen_c.specs.declared.operation.Operation.{Operation}

@@ -13,8 +13,10 @@
 
 ghost use Rattle.std.specs.Prelude.{◌≡◌, None};
 ghost use Rattle.aggen_c.specs.Answers.{Answers, HasMessage, IsBuilt};
-ghost use Rattle.aggen_c.specs.Results.{IsEvaluationOf, IsEvaluationRefusal, IsNoMemory};
-ghost use Rattle.aggen_c.specs.Results.{IsPlanTextOf, IsTranslationOf, IsTranslationRefusal};
+ghost use Rattle.aggen.specs.Results.{IsEvaluationOf};
+ghost use Rattle.aggen_c.specs.Results.{IsEvaluationRefusal, IsNoMemory};
+ghost use Rattle.aggen.specs.Results.{IsTranslationOf};
+ghost use Rattle.aggen_c.specs.Results.{IsPlanTextOf, IsTranslationRefusal};
 ghost use Rattle.aggen_c.specs.Results.{IsTreeFileOf, IsTreeRefusal};
 
 use crate::answer::{answer_by_handle, write_answer};

@@ -1,7 +1,8 @@
 //! The calls of a translator with all files in memory, and their results as bytes.
 
 ghost use Rattle.std.specs.Prelude.{◌≡◌, ◌≢◌, ◌⊎◌, IfErr, IfOk};
-ghost use Rattle.aggen_c.specs.Results.{IsEvaluationOf, IsPlanTextOf, IsTranslationOf, IsTreeFileOf};
+ghost use Rattle.aggen.specs.Results.{IsEvaluationOf, IsTranslationOf};
+ghost use Rattle.aggen_c.specs.Results.{IsPlanTextOf, IsTreeFileOf};
 ghost use Rattle.aggen_c.specs.Results.{IsEvaluationRefusal, IsNoMemory, IsTranslationRefusal};
 ghost use Rattle.aggen_c.specs.Results.{IsTreeRefusal};
 

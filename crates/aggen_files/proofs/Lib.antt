@@ -1,3 +1,3 @@
-pub mod Finished
-pub mod FinishedTree
+pub mod Parsed
 pub mod Refusals
+pub mod Stored

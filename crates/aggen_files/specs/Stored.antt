@@ -1,5 +1,5 @@
 -- The content of the file of a device, by the calls made on the file. This project's.
-use Rattle.std.specs.Prelude.{◌≡◌, ℕ, List}
+use Rattle.std.specs.Prelude.{◌≡◌, ℕ, List, ◌++◌}
 use Rattle.noted_file.specs.Calls.{replay}
 use Rattle.treefile.specs.devices.Device.{WhenHonest}
 use Rattle.treefile.specs.devices.Files.{FileDeviceState, content_of, is_honest_of}
@@ -13,3 +13,7 @@ stored_of device = (replay device.events).stored
 -- that were buffered.
 abbrev pub StoresContent : {F : Type 0} → FileDeviceState F → FileDeviceState F → Type 0
 StoresContent old new = WhenHonest (is_honest_of new) (stored_of new ≡ content_of old)
+
+-- A prefix of a content is written out.
+abbrev pub StoresPrefix : (stored content : List ℕ) → Type 0
+StoresPrefix stored content = (rest : List ℕ) × (content ≡ stored ++ rest)

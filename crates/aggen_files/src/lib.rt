@@ -1,26 +1,22 @@
-//! The functions that `aggen run --work`, `parse`, `eval` and `upgrade` call. (`run` and `eval`
-//! call them only if the progress can't be shown, and `eval` of standard input only with `--work`.)
+//! The translator over devices that have to be written out, such as those over files.
 //!
-//! In this crate these functions are called commands. A command calls the translator with one or
-//! two devices over files. `WorkFiles::evaluate` has a third device, of any kind, for the tree. A
-//! command prints to any writer. Its contract says what was printed if a contract can name the
-//! bytes of this writer.
+//! `WorkFiles` has the two devices of a translation: over the files a.agt and b.agt of a folder, or
+//! in memory. `WorkFiles::translate` and `WorkFiles::evaluate` return the translation after both
+//! are written out. `parse_to_file` and `upgrade_file` write one tree file. `Watched` is a device
+//! whose calls are watched.
 //!
 //! A `FileDevice` buffers bytes in memory before it writes them to its file. So contracts
 //! distinguish the content of the device (`content_of`) from that of the file itself (`stored_of`).
 //! A file is *written out* when `finish` has written the buffered bytes to it. Then both contents
-//! are equal. If a command writes to a device over a file, it also writes out the file, unless D1
-//! comes.
-//!
-//! `WorkFiles::open` opens two files. `print_count` prints the line with the number of nodes for
-//! `parse_to_file` and `upgrade_file`.
+//! are equal. A call that writes to a device over a file also writes out the file, unless D1 comes.
 #![tactic(auto)]
 
-mod count;
-mod evaluations;
 mod trees;
+mod watch;
+mod work_device;
 mod work_files;
 
-pub use count::print_count;
-pub use trees::{evaluate_file, parse_to_file, upgrade_file};
-pub use work_files::WorkFiles;
+pub use trees::{parse_to_file, upgrade_file};
+pub use watch::{Silent, Watch, Watched};
+pub use work_device::WorkDevice;
+pub use work_files::{Translation, WorkFiles};

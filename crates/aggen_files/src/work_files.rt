@@ -1,39 +1,49 @@
-//! The two tree files of a translation, in a folder.
+//! The two tree files of a translation, in a folder or in memory.
 
-ghost use Rattle.std.specs.Prelude.{◌≡◌, ◌≢◌, ◌++◌, ◌⊎◌, [], Err, IfErr, IfOk, IsErrOf, OnErr, OnOk, string_bytes};
-ghost use Rattle.std.specs.Prelude.{Ok};
+ghost use Rattle.std.specs.Prelude.{◌≡◌, ◌≢◌, ◌++◌, [], Err, IfErr, IfOk, IsErrOf, OnErr, OnOk, Some, string_bytes};
 ghost use Rattle.passrun.specs.Rounds.{LeavesSomeFile};
 ghost use Rattle.treefile.specs.devices.Device.{LeavesContent, WhenHonest};
 ghost use Rattle.treefile.specs.declared.file.Access.TheVariants.{Writing};
-ghost use Rattle.treefile.specs.devices.Files.{IsNew, content_of, is_honest_of};
-ghost use Rattle.treefile.specs.devices.Several.{BothPersist};
+ghost use Rattle.treefile.specs.devices.Files.{IsNew};
+ghost use Rattle.treefile.specs.devices.Several.{BothPersist, ThreePersist};
 ghost use Rattle.treefile.specs.framing.Beginning.{BeginsFile};
+ghost use Rattle.aggen.specs.Evaluating.{EvaluatesTree, IsEvaluationFault, LeavesLastFilesOfTree};
 ghost use Rattle.aggen.specs.Sentences.{IsParseFault, IsScanFault};
 ghost use Rattle.aggen.specs.Translating.{IsAfterPasses, IsRefusedSentence, IsTranslationFault};
 ghost use Rattle.aggen.specs.Translating.{LeavesLastFiles, TranslatesSentence};
-ghost use Rattle.aggen.specs.Translation.{BeginsText, WritesText};
+ghost use Rattle.aggen.specs.Translation.{WritesText};
 ghost use Rattle.aggen_files.specs.Opening.{IsOpeningFault};
 ghost use Rattle.aggen_files.specs.Paths.{path_of_a, path_of_b};
-ghost use Rattle.aggen_files.specs.Stored.{StoresContent, stored_of};
+ghost use Rattle.aggen_files.specs.Stored.{StoresPrefix};
 
+use crate::watch::Watched;
+use crate::work_device::WorkDevice;
 use aggen::{Fault, Report, Translator};
-use agoutput::write_bytes;
 use noted_file::CallRecord;
 use std::alloc::{AllocError, Global};
 use std::fs::OpenFile;
 use std::io::{Read, Seek, Write};
 use std::rt::Files;
-use treefile::{DeviceFault, FileDevice};
+use treefile::{Device, DeviceFault, FileDevice, SharedDevice};
 
-/// The tree files a.agt and b.agt of a folder. The parser writes a.agt, pass 1 reads a.agt and
-/// writes b.agt, pass 2 reads b.agt and writes a.agt, and so on. In `evaluate` nothing is parsed:
-/// pass 1 reads the given device, and writes b.agt. `F` is the type of an open file of the runtime.
+/// The two devices for the tree files of a translation. The parser writes `a`, pass 1 reads `a` and
+/// writes `b`, pass 2 reads `b` and writes `a`, and so on. In `evaluate` nothing is parsed: pass 1
+/// reads the given device, and writes `b`.
 #[derive(Drop)]
-pub struct WorkFiles<F> {
-    /// The device over a.agt.
-    pub a: FileDevice<F>,
-    /// The device over b.agt.
-    pub b: FileDevice<F>,
+pub struct WorkFiles<D> {
+    /// The device over a.agt, or the first one in memory.
+    pub a: D,
+    /// The device over b.agt, or the second one in memory.
+    pub b: D,
+}
+
+/// A translation: the text of the root's `out`, and the statistics.
+#[derive(Drop)]
+pub struct Translation {
+    /// The bytes of the text.
+    pub text: Vec<u8>,
+    /// The statistics.
+    pub report: Report,
 }
 
 /// Returns `folder` followed by `name`, which begins with `/`. Fails if memory is refused.
@@ -45,7 +55,7 @@ fn path_in(alloc: Global, folder: &str, name: &str) -> Result<String, AllocError
     Ok(path)
 }
 
-impl<F: Read + Write + Seek + OpenFile> WorkFiles<F> {
+impl<F: Read + Write + Seek + OpenFile> WorkFiles<FileDevice<F>> {
     /// Opens a.agt and b.agt in a folder, and creates those that are missing. Their contents stay
     /// until a translation clears them. The calls on a.agt are added to the record `first`, and
     /// those on b.agt to `second`. Only contracts see these records, which occupy no memory. A
@@ -59,7 +69,7 @@ impl<F: Read + Write + Seek + OpenFile> WorkFiles<F> {
         folder: &str,
         first: CallRecord,
         second: CallRecord,
-    ) -> Result<WorkFiles<F>, Fault>
+    ) -> Result<WorkFiles<FileDevice<F>>, Fault>
         ensures a { IfOk result (λ files.
             IsNew Writing (path_of_a folder.now) first.events files.a) }
         ensures b { IfOk result (λ files.
@@ -73,22 +83,51 @@ impl<F: Read + Write + Seek + OpenFile> WorkFiles<F> {
             b: FileDevice::create(rt, alloc, b.as_str(), second)?,
         })
     }
+}
 
-    /// Writes the bytes that the two devices have buffered to their files. Writes those of b.agt
-    /// also if a write to a.agt fails. Fails with `Failed` (D1) if one of these writes failed, or
-    /// an earlier write.
+impl WorkFiles<SharedDevice> {
+    /// Returns two empty devices in memory. Takes no memory itself.
+    pub fn in_memory(alloc: Global) -> WorkFiles<SharedDevice> {
+        WorkFiles {
+            a: SharedDevice::new(alloc),
+            b: SharedDevice::new(alloc),
+        }
+    }
+}
+
+impl<D> WorkFiles<D> {
+    /// Returns the two devices, watched.
+    pub fn watched<'a, W>(self, watch: &'a W) -> WorkFiles<Watched<'a, D, W>>
+        ensures a { result.a.inner ≡ self.a }
+        ensures b { result.b.inner ≡ self.b }
+    {
+        WorkFiles {
+            a: Watched::new(self.a, watch),
+            b: Watched::new(self.b, watch),
+        }
+    }
+}
+
+impl<D: WorkDevice> WorkFiles<D> {
+    /// Writes out the bytes that the two devices have buffered, those of `b` also if that fails for
+    /// `a`. Fails with `Failed` (D1) if one of these writes failed, or an earlier write. Each
+    /// device keeps its content, and after a failure a prefix of its content is written out.
     pub fn finish(&mut self) -> Result<(), DeviceFault>
-        ensures a { OnOk result (StoresContent self.old.a self.new.a) }
-        ensures b { OnOk result (StoresContent self.old.b self.new.b) }
-        ensures buffered { OnOk result
-            ((self.new.a.buffered ≡ []) × (self.new.b.buffered ≡ [])) }
-        ensures a_content { LeavesContent (is_honest_of self.new.a)
-            (content_of self.old.a) (content_of self.new.a) }
-        ensures b_content { LeavesContent (is_honest_of self.new.b)
-            (content_of self.old.b) (content_of self.new.b) }
+        ensures a { OnOk result (LeavesContent (D.is_honest self.new.a)
+            (D.content self.old.a) (D.stored self.new.a)) }
+        ensures b { OnOk result (LeavesContent (D.is_honest self.new.b)
+            (D.content self.old.b) (D.stored self.new.b)) }
+        ensures whole { OnOk result ((D.stored self.new.a ≡ D.content self.new.a)
+            × (D.stored self.new.b ≡ D.content self.new.b)) }
+        ensures a_prefix { StoresPrefix (D.stored self.new.a) (D.content self.new.a) }
+        ensures b_prefix { StoresPrefix (D.stored self.new.b) (D.content self.new.b) }
+        ensures a_content { LeavesContent (D.is_honest self.new.a)
+            (D.content self.old.a) (D.content self.new.a) }
+        ensures b_content { LeavesContent (D.is_honest self.new.b)
+            (D.content self.old.b) (D.content self.new.b) }
         ensures failed { OnErr result (IsErrOf result DeviceFault.Failed) }
-        ensures devices { BothPersist is_honest_of (λ d. d.failures) self.old.a self.new.a
-            is_honest_of (λ d. d.failures) self.old.b self.new.b
+        ensures devices { BothPersist D.is_honest D.failures self.old.a self.new.a
+            D.is_honest D.failures self.old.b self.new.b
             (IsErrOf result DeviceFault.Failed) }
     {
         let first = self.a.finish();
@@ -97,81 +136,116 @@ impl<F: Read + Write + Seek + OpenFile> WorkFiles<F> {
         second
     }
 
-    /// Translates a sentence with its tree files in the two files, and prints the translation after
-    /// both files are written out. Both are also written out after every failure but D1.
+    /// Translates a sentence with its tree files on the two devices, and returns the translation
+    /// after both devices are written out. Both are also written out after every failure but D1.
     ///
-    /// Fails with D1 if a file can't be written out, even if the translation failed with another
-    /// fault. Otherwise fails as `Translator::translate` does, and also with NoMemory if memory for
-    /// the translation's bytes cannot be allocated. Every failure but O2 leaves `out` unchanged.
+    /// Fails with D1 if a device can't be written out, even if the translation failed with another
+    /// fault. Otherwise fails as `Translator::translate` does, but never with O2, and with NoMemory
+    /// also if memory for the translation's bytes cannot be allocated.
     ///
-    /// After O1 and O2 the files are the last two tree files. After S1 to S4 both files have the
-    /// contents that their devices had. After P1 to P3 b.agt has the content that its device had,
-    /// and a.agt has a prefix of a file of pass 0.
-    pub fn translate<W: Write>(
+    /// After O1 the devices have the last two tree files. After S1 to S4 both devices have their
+    /// contents from before. After P1 to P3 `b` has its content from before, and `a` has a prefix
+    /// of a file of pass 0.
+    pub fn translate(
         &mut self,
         alloc: Global,
         translator: &Translator,
         sentence: &[u8],
-        out: &mut W,
-    ) -> Result<Report, Fault>
-        // the translation theorem, for the contents of the two files
-        ensures translates { IfOk result (λ report. TranslatesSentence translator.now sentence.now
-            (is_honest_of self.new.a) (is_honest_of self.new.b)
-            (stored_of self.new.a) (stored_of self.new.b)
-            (W.contents out.old) (W.contents out.new) report) }
-        // whatever the files returned
-        ensures text { OnOk result (WritesText (W.contents out.old) (W.contents out.new)) }
+    ) -> Result<Translation, Fault>
+        // the translation theorem, for what is written out
+        ensures translates { IfOk result (λ made. TranslatesSentence translator.now sentence.now
+            (D.is_honest self.new.a) (D.is_honest self.new.b)
+            (D.stored self.new.a) (D.stored self.new.b)
+            (Some []) (Some made.text.items) made.report) }
+        // whatever the devices return
+        ensures text { IfOk result (λ made. WritesText (Some []) (Some made.text.items)) }
         ensures refused { IfErr result (λ e. IsTranslationFault translator.now sentence.now
-            (is_honest_of self.new.a) (is_honest_of self.new.b)
-            (W.contents out.old) (W.contents out.new) e) }
-        ensures kept { IfErr result (λ e. e ≢ Fault.Write → out.new ≡ out.old) }
-        ensures begins { IsErrOf result Fault.Write →
-            BeginsText (W.contents out.old) (W.contents out.new) }
-        // S: both files have what their devices had; P: b.agt has what its device had
-        ensures untouched { IfErr result (λ e. IsScanFault e →
-            StoresContent self.old.a self.new.a) }
-        ensures b_untouched { IfErr result (λ e. IsRefusedSentence e →
-            StoresContent self.old.b self.new.b) }
-        // P: a.agt has a prefix of a file of pass 0
+            (D.is_honest self.new.a) (D.is_honest self.new.b) (Some []) (Some []) e) }
+        ensures other { IfErr result (λ e. e ≢ Fault.Write) }
+        // S: both devices have what they had; P: `b` has what it had
+        ensures untouched { IfErr result (λ e. IsScanFault e → LeavesContent (D.is_honest self.new.a)
+            (D.content self.old.a) (D.stored self.new.a)) }
+        ensures b_untouched { IfErr result (λ e. IsRefusedSentence e → LeavesContent
+            (D.is_honest self.new.b) (D.content self.old.b) (D.stored self.new.b)) }
+        // P: `a` has a prefix of a file of pass 0
         ensures parsed { IfErr result (λ e. IsParseFault e →
-            WhenHonest (is_honest_of self.new.a) (BeginsFile 0 (stored_of self.new.a))) }
+            WhenHonest (D.is_honest self.new.a) (BeginsFile 0 (D.stored self.new.a))) }
         // each device has what it had, or a prefix of a file of some pass
-        ensures a_left { WhenHonest (is_honest_of self.new.a)
-            (LeavesSomeFile (content_of self.old.a) (content_of self.new.a)) }
-        ensures b_left { WhenHonest (is_honest_of self.new.b)
-            (LeavesSomeFile (content_of self.old.b) (content_of self.new.b)) }
-        // O1 and O2: the last two tree files
+        ensures a_left { WhenHonest (D.is_honest self.new.a)
+            (LeavesSomeFile (D.content self.old.a) (D.content self.new.a)) }
+        ensures b_left { WhenHonest (D.is_honest self.new.b)
+            (LeavesSomeFile (D.content self.old.b) (D.content self.new.b)) }
+        // O1: the last two tree files
         ensures files { IfErr result (λ e. IsAfterPasses e →
             LeavesLastFiles translator.now sentence.now
-            (is_honest_of self.new.a) (is_honest_of self.new.b)
-            (stored_of self.new.a) (stored_of self.new.b)) }
-        // unless D1, all bytes were written to the files
-        ensures buffered { result ≢ Err Fault.Device →
-            (self.new.a.buffered ≡ []) × (self.new.b.buffered ≡ []) }
+            (D.is_honest self.new.a) (D.is_honest self.new.b)
+            (D.stored self.new.a) (D.stored self.new.b)) }
+        // unless D1, all bytes are written out
+        ensures whole { result ≢ Err Fault.Device → (D.stored self.new.a ≡ D.content self.new.a)
+            × (D.stored self.new.b ≡ D.content self.new.b) }
         // D1 only if the number of failures rose on one of the two
-        ensures devices { BothPersist is_honest_of (λ d. d.failures) self.old.a self.new.a
-            is_honest_of (λ d. d.failures) self.old.b self.new.b
-            (IsErrOf result Fault.Device) }
+        ensures devices { BothPersist D.is_honest D.failures self.old.a self.new.a
+            D.is_honest D.failures self.old.b self.new.b (IsErrOf result Fault.Device) }
     {
         let mut text = Vec::new(alloc);
         let translated = translator.translate(sentence, &mut self.a, &mut self.b, &mut text);
         self.finish()?;
-        let report = of_buffered(translated)?;
-        write_bytes(out, text.as_slice())?;
-        Ok(report)
+        match translated {
+            Ok(report) => Ok(Translation { text, report }),
+            Err(fault) => Err(fault.in_memory()),
+        }
     }
-}
 
-/// Returns the result of a translation into a `Vec`, but NoMemory in place of O2: a write to a
-/// `Vec` fails only if memory is refused.
-pub(crate) fn of_buffered(translated: Result<Report, Fault>) -> Result<Report, Fault>
-    ensures ok { IfOk result (λ report. translated ≡ Ok report) }
-    ensures err { IfErr result (λ e. (translated ≡ Err e) ⊎ (e ≡ Fault.NoMemory)) }
-    ensures other { IfErr result (λ e. e ≢ Fault.Write) }
-{
-    match translated {
-        Ok(report) => Ok(report),
-        Err(Fault::Write) => Err(Fault::NoMemory),
-        Err(fault) => Err(fault),
+    /// Translates the tree whose file of pass 0 is on the device `tree`, which keeps its content.
+    /// Pass 1 writes `b`, pass 2 `a`, and so on. So with only one pass the last two tree files are
+    /// those on `b` and on `tree`. Returns the translation after both devices are written out. Both
+    /// are also written out after every failure but D1.
+    ///
+    /// Fails with D1 if a device can't be written out, even if the translation failed with another
+    /// fault. Otherwise fails as `Translator::evaluate_tree` does, but never with O2, and with
+    /// NoMemory also if memory for the translation's bytes cannot be allocated. After O1 the last
+    /// two tree files are where they are after success.
+    pub fn evaluate<T: Device>(
+        &mut self,
+        alloc: Global,
+        translator: &Translator,
+        tree: &mut T,
+    ) -> Result<Translation, Fault>
+        // the translation theorem, for the tree on the device and what is written out
+        ensures evaluates { IfOk result (λ made. EvaluatesTree translator.now
+            (T.is_honest tree.new) (D.is_honest self.new.a) (D.is_honest self.new.b)
+            (T.content tree.old) (D.stored self.new.a) (D.stored self.new.b)
+            (Some []) (Some made.text.items) made.report) }
+        ensures refused { IfErr result (λ e. IsEvaluationFault translator.now
+            (T.is_honest tree.new) (D.is_honest self.new.a) (D.is_honest self.new.b)
+            (T.content tree.old) (Some []) (Some []) e) }
+        ensures other { IfErr result (λ e. e ≢ Fault.Write) }
+        ensures content { LeavesContent (T.is_honest tree.new)
+            (T.content tree.old) (T.content tree.new) }
+        // each device has what it had, or a prefix of a file of some pass
+        ensures a_left { WhenHonest (D.is_honest self.new.a)
+            (LeavesSomeFile (D.content self.old.a) (D.content self.new.a)) }
+        ensures b_left { WhenHonest (D.is_honest self.new.b)
+            (LeavesSomeFile (D.content self.old.b) (D.content self.new.b)) }
+        // O1: the last two tree files
+        ensures files { IfErr result (λ e. IsAfterPasses e →
+            LeavesLastFilesOfTree translator.now (T.is_honest tree.new)
+            (D.is_honest self.new.a) (D.is_honest self.new.b)
+            (T.content tree.old) (D.stored self.new.a) (D.stored self.new.b)) }
+        // unless D1, all bytes are written out
+        ensures whole { result ≢ Err Fault.Device → (D.stored self.new.a ≡ D.content self.new.a)
+            × (D.stored self.new.b ≡ D.content self.new.b) }
+        // D1 only if the number of failures rose on one of the three
+        ensures devices { ThreePersist T.is_honest T.failures tree.old tree.new
+            D.is_honest D.failures self.old.a self.new.a
+            D.is_honest D.failures self.old.b self.new.b (IsErrOf result Fault.Device) }
+    {
+        let mut text = Vec::new(alloc);
+        let evaluated = translator.evaluate_tree(tree, &mut self.a, &mut self.b, &mut text);
+        self.finish()?;
+        match evaluated {
+            Ok(report) => Ok(Translation { text, report }),
+            Err(fault) => Err(fault.in_memory()),
+        }
     }
 }

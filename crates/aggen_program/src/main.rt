@@ -16,15 +16,21 @@
 //!   the value that it reads back.
 #![tactic(auto)]
 
+ghost use Rattle.std.specs.Prelude.{◌≡◌, Err, IfErr, IfOk, OnOk};
+ghost use Rattle.std.specs.Result.{IsOkAnd};
+ghost use Rattle.std.specs.Process.{exit_status};
 ghost use Rattle.aggen.specs.Status.{IsCommandFault};
+ghost use Rattle.ag_fault.specs.Status.{status_of};
+ghost use Rattle.aggen_program.specs.Requests.{HasRun, IsRefusedRequest, Performs};
+ghost use Rattle.program_io.specs.Sessions.{HasReported};
 
-use aggen::{Fault, status};
+use aggen::{Fault, fault_or, status};
 use command_line::{CommandLine, CommandLineFault, Request};
 use grammar_commands::{Part, explain_plan, print_part, print_value};
 use messages::FaultReport;
-use program_io::fault_or;
+use program_io::Session;
 use screen::Screen;
-use std::alloc::{AllocError, Global};
+use std::alloc::AllocError;
 use std::fs;
 use std::io::IsTerminal;
 use std::process::ExitCode;
@@ -56,32 +62,42 @@ fn exit_code<R: Env + Files + Input + Print + Eprint + Clock + AllocGlobal>(
     is_terminal: bool,
 ) -> ExitCode {
     let alloc = rt.alloc();
-    let words = match words_of(rt, alloc) {
+    let mut plain = Session::new(rt, alloc, Screen::plain());
+    let words = match words_of(rt) {
         Ok(words) => words,
-        Err(fault) => return fail(rt, alloc, Screen::plain(), &FaultReport::new(alloc, fault)),
+        Err(fault) => return fail(&mut plain, &FaultReport::new(alloc, fault)),
     };
     match CommandLine::from_words(rt, alloc, words.as_slice()) {
         Ok(CommandLine { request, messages }) => {
             let screen = Screen::new(rt, messages, is_terminal);
-            match perform(rt, alloc, request, screen) {
-                Ok(code) => code,
-                Err(report) => fail(rt, alloc, screen, &report),
-            }
+            run(&mut Session::new(rt, alloc, screen), &request)
         }
         // `from_words` has printed what is wrong with the words
         Err(CommandLineFault::Usage) => ExitCode::from(status(&Fault::Usage)),
-        Err(fault) => fail(
-            rt,
-            alloc,
-            Screen::plain(),
-            &FaultReport::new(alloc, fault_of(fault)),
-        ),
+        Err(fault) => fail(&mut plain, &FaultReport::new(alloc, fault_of(fault))),
     }
 }
 
-/// Prints the message of a failure (`Screen::print`), and returns the status of its fault.
-fn fail<R: Eprint>(rt: &R, alloc: Global, screen: Screen, report: &FaultReport) -> ExitCode {
-    screen.print(rt, alloc, report);
+/// Runs the command of a request, and returns the status. On failure gives the message to the
+/// screen, and returns the status of the fault.
+fn run<R: Files + Input + Print + Eprint + Clock>(
+    session: &mut Session<'_, R>,
+    request: &Request<'_>,
+) -> ExitCode
+    ensures { HasRun request.now session.old session.new (exit_status result) }
+{
+    match perform(session, request) {
+        Ok(code) => code,
+        Err(report) => fail(session, &report),
+    }
+}
+
+/// Gives the message of a failure to the screen, and returns the status of its fault.
+fn fail<R: Eprint>(session: &mut Session<'_, R>, report: &FaultReport) -> ExitCode
+    ensures reported { HasReported report.now session.old session.new }
+    ensures status { exit_status result ≡ status_of report.now.fault }
+{
+    session.report(report);
     ExitCode::from(status(&report.fault))
 }
 
@@ -100,37 +116,50 @@ fn fault_of(fault: CommandLineFault) -> Fault
 /// sentences failed, this prints their messages, and returns the status of the first that failed.
 /// On any other failure returns the report of the failure.
 fn perform<R: Files + Input + Print + Eprint + Clock>(
-    rt: &R,
-    alloc: Global,
-    request: Request<'_>,
-    screen: Screen,
-) -> Result<ExitCode, FaultReport> {
+    session: &mut Session<'_, R>,
+    request: &Request<'_>,
+) -> Result<ExitCode, FaultReport>
+    ensures performed { IfOk result (λ code.
+        Performs request.now session.old session.new (exit_status code)) }
+    ensures refused { IfErr result (λ report.
+        IsRefusedRequest request.now session.old session.new report.fault) }
+{
     match request {
-        Request::Nothing => Ok(()),
-        Request::Job => run_input(rt, alloc, screen),
-        Request::Run(paths) => run_sentence(rt, alloc, &paths, screen),
-        Request::RunAll(paths) => return run_sentences(rt, alloc, &paths, screen),
-        Request::Eval(paths) => evaluate(rt, alloc, &paths, screen),
-        Request::Value(text) => print_value(rt, alloc, text),
-        Request::Check(grammar) => print_part(rt, alloc, grammar, Part::Counts),
-        Request::Plan(grammar) => print_part(rt, alloc, grammar, Part::Plan),
-        Request::Why(words) => explain_plan(rt, alloc, words),
-        Request::Code(grammar) => print_part(rt, alloc, grammar, Part::Code),
-        Request::Parse(paths) => parse_file(rt, alloc, &paths),
-        Request::Show(words) => show_tree(rt, alloc, &words),
-        Request::Explain(words) => explain_tree(rt, alloc, &words),
-        Request::Upgrade(paths) => convert_file(rt, alloc, &paths),
-    }?;
-    Ok(ExitCode::SUCCESS)
+        Request::Nothing => done(Ok(())),
+        Request::Job => done(run_input(session)),
+        Request::Run(paths) => done(run_sentence(session, paths)),
+        Request::RunAll(paths) => run_sentences(session, paths),
+        Request::Eval(paths) => done(evaluate(session, paths)),
+        Request::Value(text) => done(print_value(session, text)),
+        Request::Check(grammar) => done(print_part(session, *grammar, Part::Counts)),
+        Request::Plan(grammar) => done(print_part(session, *grammar, Part::Plan)),
+        Request::Why(words) => done(explain_plan(session, *words)),
+        Request::Code(grammar) => done(print_part(session, *grammar, Part::Code)),
+        Request::Parse(paths) => done(parse_file(session, paths)),
+        Request::Show(words) => done(show_tree(session, words)),
+        Request::Explain(words) => done(explain_tree(session, words)),
+        Request::Upgrade(paths) => done(convert_file(session, paths)),
+    }
+}
+
+/// Returns the status 0 for a command that succeeded.
+fn done(performed: Result<(), FaultReport>) -> Result<ExitCode, FaultReport>
+    ensures ok { OnOk performed (IsOkAnd result (λ code. exit_status code ≡ 0)) }
+    ensures err { IfErr performed (λ report. result ≡ Err report) }
+{
+    match performed {
+        Ok(()) => Ok(ExitCode::from(0)),
+        Err(report) => Err(report),
+    }
 }
 
 /// Returns the words of the command line; the first is the program's name. Fails with `Usage` if
 /// one of them is not UTF-8, and with NoMemory if memory is refused.
-fn words_of<R: Env + AllocGlobal>(rt: &R, alloc: Global) -> Result<Vec<String>, Fault> {
+fn words_of<R: Env + AllocGlobal>(rt: &R) -> Result<Vec<String>, Fault> {
     let words = match std::env::args(rt) {
         Ok(words) => words,
         Err(error) => return Err(fault_or(&error, Fault::Usage)),
     };
-    let collected: Result<Vec<String>, AllocError> = words.collect(alloc);
+    let collected: Result<Vec<String>, AllocError> = words.collect(rt.alloc());
     Ok(collected?)
 }

@@ -1,19 +1,17 @@
 //! The command that explains why a grammar needs its passes: `why`.
 
-ghost use Rattle.std.specs.Prelude.{◌≡◌, ◌≢◌, IfErr, IfOk, IsErr, IsErrOf, OnErr, OnOk, string_bytes};
-ghost use Rattle.std.specs.Io.KnownBytes.{Appends};
-ghost use Rattle.agoutput.specs.Writing.{AppendsBeginning};
+ghost use Rattle.std.specs.Prelude.{◌≡◌, IfErr, IfOk, IsErr, None, is_ok, string_bytes};
+ghost use Rattle.program_io.specs.Sessions.{after};
+ghost use Rattle.run_record.specs.Events.{write_event};
 
 use ag_grammar::Grammar;
 use ag_value::NoMemory;
 use aggen::{BuildFault, CertifiedPlan, Fault, StuckGrammar, certify_plan};
-use agoutput::write_text;
 use command_line::WhyWords;
 use messages::{FaultReport, Source};
 use plan_reasons::{Attribute, Explanation, LeastPlan, NameFault, attribute_named};
-use program_io::read_input;
+use program_io::Session;
 use std::alloc::Global;
-use std::io::{self, Write};
 use std::rt::Files;
 
 /// Prints why a grammar needs its passes or, if an attribute is named, why no pass earlier than the
@@ -23,22 +21,20 @@ use std::rt::Files;
 /// Also fails if the grammar can't be read or is refused, if it does not have the attribute
 /// (`usage`), if the output fails (O2), and if memory is refused.
 pub fn explain_plan<R: Files + Input + Print>(
-    rt: &R,
-    alloc: Global,
+    session: &mut Session<'_, R>,
     words: WhyWords<'_>,
 ) -> Result<(), FaultReport> {
-    let bytes = read_input(rt, alloc, words.grammar)?;
+    let alloc = session.alloc;
+    let bytes = session.read(words.grammar)?;
     let source = Source::new(words.grammar.name(), bytes.as_slice());
     match certify_plan(alloc, source.bytes) {
         Ok(plan) => {
             let attribute = find_attribute(alloc, &plan.grammar, words.attribute)?;
-            let text = text_of_plan(alloc, source, &plan, attribute);
-            print_text(rt, alloc, text)
+            print_text(session, text_of_plan(alloc, source, &plan, attribute))
         }
         Err(BuildFault::Assign(stuck)) => {
             let attribute = find_attribute(alloc, &stuck.grammar, words.attribute)?;
-            let text = text_of_stuck(alloc, source, &stuck, attribute);
-            print_text(rt, alloc, text)?;
+            print_text(session, text_of_stuck(alloc, source, &stuck, attribute))?;
             Err(FaultReport::of_grammar(alloc, Fault::Assign(stuck), source))
         }
         Err(fault) => Err(FaultReport::of_grammar(alloc, Fault::from(fault), source)),
@@ -111,35 +107,18 @@ fn text_of_stuck(
     Ok(text)
 }
 
-/// Prints a text. Fails with NoMemory if making the text failed, and with O2 if writing it fails.
-fn print_text<R: Print>(
-    rt: &R,
-    alloc: Global,
+/// Prints a text. Fails with NoMemory if making the text failed, and as `Session::write` does.
+fn print_text<R: Files + Print>(
+    session: &mut Session<'_, R>,
     text: Result<String, NoMemory>,
-) -> Result<(), FaultReport> {
-    let mut out = io::writer(rt);
-    match write_explanation(&mut out, text) {
-        Ok(()) => Ok(()),
-        Err(fault) => Err(FaultReport::new(alloc, fault)),
-    }
-}
-
-/// Writes a text. If making the text failed, fails with NoMemory, and writes nothing. Fails with O2
-/// if a write fails, or accepts none of the bytes. A prefix of the text was then written.
-fn write_explanation<W: Write>(out: &mut W, text: Result<String, NoMemory>) -> Result<(), Fault>
-    ensures written { IfOk text (λ t. OnOk result
-        (Appends (W.contents out.old) (W.contents out.new) (string_bytes t))) }
-    ensures begins { IfOk text (λ t. OnErr result
-        (AppendsBeginning (W.contents out.old) (W.contents out.new) (string_bytes t))) }
-    ensures refused { IfErr result (λ e. e ≢ Fault.Write → (e ≡ Fault.NoMemory) × (out.new ≡ out.old)) }
-    ensures memory { IsErr text → IsErrOf result Fault.NoMemory }
+) -> Result<(), FaultReport>
+    ensures written { IfOk text (λ t. session.new
+        ≡ after (write_event (is_ok result) None (string_bytes t)) session.old) }
+    ensures memory { IsErr text → (session.new ≡ session.old)
+        × IfErr result (λ report. report.fault ≡ Fault.NoMemory) × IsErr result }
 {
-    let written = match text {
-        Ok(text) => text,
-        Err(_) => return Err(Fault::NoMemory),
-    };
-    match write_text(out, written.as_str()) {
-        Ok(()) => Ok(()),
-        Err(_) => Err(Fault::Write),
+    match text {
+        Ok(text) => session.write(None, text.as_bytes()),
+        Err(_) => Err(FaultReport::new(session.alloc, Fault::NoMemory)),
     }
 }

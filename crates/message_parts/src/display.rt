@@ -1,5 +1,7 @@
 //! How numbers and parts of texts are printed in a message.
 
+ghost use Rattle.std.specs.Prelude.{◌≡◌, IsUtf8};
+
 use std::fmt;
 
 /// How a message names the end of a text, also of a sentence.
@@ -119,7 +121,9 @@ fn write_character<W: fmt::Write>(f: &mut fmt::Formatter<W>, character: char) ->
 }
 
 /// Returns the longest prefix of bytes that is UTF-8.
-pub fn utf8_prefix(bytes: &[u8]) -> &str {
+pub fn utf8_prefix(bytes: &[u8]) -> &str
+    ensures { IsUtf8 bytes.now → result.now ≡ bytes.now }
+{
     let fault = match str::from_utf8(bytes) {
         Ok(text) => return text,
         Err(fault) => fault,

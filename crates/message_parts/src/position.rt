@@ -1,5 +1,8 @@
 //! Positions in texts, and the files that contain the texts.
 
+ghost use Rattle.std.specs.Prelude.{◌≡◌, ◌+◌, ◌<◌, ◌^◌, IsUtf8};
+ghost use Rattle.message_parts.specs.Positions.{after_byte, is_continuation, position_at, position_in};
+
 use crate::display::{PlainText, utf8_prefix};
 use std::fmt;
 
@@ -18,22 +21,45 @@ impl Position {
     /// Returns the position in a text of an offset in bytes. For an offset inside of a character
     /// this is the position of the next character, and for an offset beyond the text it is the
     /// position of the text's end.
-    pub fn of(text: &str, at: usize) -> Position {
-        let mut line = 1usize;
-        let mut column = 1usize;
-        for (offset, character) in text.char_indices() {
-            if offset >= at {
-                break;
-            }
-            if character == '\n' {
-                line = line.saturating_add(1);
-                column = 1;
-            } else {
-                column = column.saturating_add(1);
-            }
+    pub fn of(text: &str, at: usize) -> Position
+        ensures { result ≡ position_at text.now at }
+    {
+        let bytes = text.as_bytes();
+        let before = bytes.get(..at).unwrap_or(bytes);
+        let mut position = Position { line: 1, column: 1 };
+        for byte in before {
+            position = position.after(*byte);
         }
-        Position { line, column }
+        position
     }
+
+    /// Returns the position after a byte at this one.
+    fn after(self, byte: u8) -> Position
+        requires line { self.line + 1 < 2 ^ 64 }
+        requires column { self.column + 1 < 2 ^ 64 }
+        ensures { result ≡ after_byte self byte }
+    {
+        if byte == b'\n' {
+            return Position {
+                line: self.line + 1,
+                column: 1,
+            };
+        }
+        if is_continuation(byte) {
+            return self;
+        }
+        Position {
+            line: self.line,
+            column: self.column + 1,
+        }
+    }
+}
+
+/// Returns whether a byte of UTF-8 is not the first one of its character.
+fn is_continuation(byte: u8) -> bool
+    ensures { result ≡ is_continuation byte }
+{
+    128 <= byte && byte < 192
 }
 
 /// Prints the position in a text that has no file: `(line 4, column 47)`.
@@ -61,7 +87,11 @@ pub struct Source<'a> {
 
 impl<'a> Source<'a> {
     /// Returns the text that is the whole file of this name.
-    pub fn new(name: &'a str, bytes: &'a [u8]) -> Source<'a> {
+    pub fn new(name: &'a str, bytes: &'a [u8]) -> Source<'a>
+        ensures name { result.name.now ≡ name.now }
+        ensures bytes { result.bytes.now ≡ bytes.now }
+        ensures line { result.first_line ≡ 1 }
+    {
         Source {
             name,
             bytes,
@@ -72,7 +102,10 @@ impl<'a> Source<'a> {
     /// Returns the grammar and the sentence of a job on standard input. The caller has split the
     /// job at the line `%%`: `grammar` ends with the line break before this line, or is empty, and
     /// `sentence` begins in the line after this line.
-    pub fn of_job(grammar: &'a [u8], sentence: &'a [u8]) -> (Source<'a>, Source<'a>) {
+    pub fn of_job(grammar: &'a [u8], sentence: &'a [u8]) -> (Source<'a>, Source<'a>)
+        ensures grammar { result.0.bytes.now ≡ grammar.now }
+        ensures sentence { result.1.bytes.now ≡ sentence.now }
+    {
         let breaks = grammar.iter().filter(|byte| **byte == b'\n').count();
         let grammar = Source::new(STANDARD_INPUT, grammar);
         let sentence = Source {
@@ -85,14 +118,19 @@ impl<'a> Source<'a> {
 
     /// Returns the longest prefix of the text that is UTF-8. So a text that is not UTF-8 has
     /// positions too, for the message that refuses it.
-    pub fn text(&self) -> &'a str {
+    pub fn text(&self) -> &'a str
+        ensures { IsUtf8 self.now.bytes.now → result.now ≡ self.now.bytes.now }
+    {
         utf8_prefix(self.bytes)
     }
 
     /// Returns the position of an offset in bytes from the beginning of the text, with the line in
     /// the file. If the offset is beyond the longest prefix that is UTF-8, this is the position of
     /// the prefix's end.
-    pub fn position(&self, at: usize) -> Position {
+    pub fn position(&self, at: usize) -> Position
+        ensures { IsUtf8 self.now.bytes.now → (position_in self.now at).line < 2 ^ 64
+            → result ≡ position_in self.now at }
+    {
         let position = Position::of(self.text(), at);
         Position {
             line: position

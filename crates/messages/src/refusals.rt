@@ -1,5 +1,6 @@
 //! The reports of faults, by the kind of input.
 
+ghost use Rattle.std.specs.Prelude.{◌≡◌};
 ghost use Rattle.treefile.specs.devices.Device.{LeavesContent, Persists};
 
 use crate::report::FaultReport;
@@ -35,7 +36,10 @@ impl FaultReport {
     /// file after F1 and D1, and after R1, P2 and P3 of the tree in the file (`Fault::Run`). After
     /// any other fault it names no file. (If a pass fails with D1 or NoMemory, the fault is
     /// `Fault::Device` or `Fault::NoMemory`, and not `Fault::Run`.)
-    pub fn of_file(alloc: Global, fault: Fault, path: &str) -> FaultReport {
+    pub fn of_file(alloc: Global, fault: Fault, path: &str) -> FaultReport
+        ensures fault { result.fault ≡ fault }
+        ensures location { result.location ≡ Location.InFault }
+    {
         let is_named = matches!(fault, Fault::File | Fault::Device | Fault::Run(_));
         let report = FaultReport::new(alloc, fault);
         if is_named {
@@ -46,7 +50,9 @@ impl FaultReport {
     }
 
     /// Returns the report of a fault of the text of an expression.
-    pub fn of_expression(alloc: Global, fault: Fault, text: &str) -> FaultReport {
+    pub fn of_expression(alloc: Global, fault: Fault, text: &str) -> FaultReport
+        ensures { result.fault ≡ fault }
+    {
         let mut report = FaultReport::new(alloc, fault);
         let written = match &report.fault {
             Fault::Expr(fault) => {
@@ -60,7 +66,9 @@ impl FaultReport {
 
     /// Returns the report of a fault of the text of a grammar. Reads the text again, for the names
     /// and positions in the message.
-    pub fn of_grammar(alloc: Global, fault: Fault, source: Source<'_>) -> FaultReport {
+    pub fn of_grammar(alloc: Global, fault: Fault, source: Source<'_>) -> FaultReport
+        ensures { result.fault ≡ fault }
+    {
         let text = GrammarText::new(alloc, source);
         let location = locate_fault_of_grammar(&fault, &text);
         let mut report = FaultReport::new(alloc, fault).with_location(alloc, location, source.name);
@@ -76,7 +84,9 @@ impl FaultReport {
         grammar: &Grammar,
         tables: &Tables,
         sentence: Source<'_>,
-    ) -> FaultReport {
+    ) -> FaultReport
+        ensures { result.fault ≡ fault }
+    {
         let location = locate_fault_of_sentence(&fault, &sentence);
         let mut report = FaultReport::new(alloc, fault).with_location(
             alloc,
@@ -106,6 +116,7 @@ impl FaultReport {
         tree: &mut D,
         path: &str,
     ) -> FaultReport
+        ensures fault { result.fault ≡ fault }
         ensures content { LeavesContent (D.is_honest tree.new)
             (D.content tree.old) (D.content tree.new) }
         // The last argument of `Persists` is a premise: if it holds, the number of failures rose.
@@ -134,6 +145,7 @@ impl FaultReport {
         old: &mut D,
         paths: ConvertedPaths<'_>,
     ) -> FaultReport
+        ensures fault { result.fault ≡ fault }
         ensures content { LeavesContent (D.is_honest old.new)
             (D.content old.old) (D.content old.new) }
         // as in `of_tree`: the clause doesn't say when the number of failures rises
@@ -162,6 +174,7 @@ impl FaultReport {
         format: TreeFormat<'_>,
         tree: &mut D,
     ) -> FaultReport
+        ensures fault { result.fault ≡ self.fault }
         ensures content { LeavesContent (D.is_honest tree.new)
             (D.content tree.old) (D.content tree.new) }
         ensures persists { Persists (D.is_honest tree.old) (D.is_honest tree.new)

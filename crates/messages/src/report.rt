@@ -1,5 +1,7 @@
 //! The report of a fault, which prints as one line.
 
+ghost use Rattle.std.specs.Prelude.{◌≡◌};
+
 use ag_fault::Fault;
 use message_parts::display::PlainText;
 use message_parts::{Location, Parts};
@@ -21,7 +23,10 @@ pub struct FaultReport {
 
 impl FaultReport {
     /// Returns a report that prints as the fault alone. Takes no memory.
-    pub fn new(alloc: Global, fault: Fault) -> FaultReport {
+    pub fn new(alloc: Global, fault: Fault) -> FaultReport
+        ensures fault { result.fault ≡ fault }
+        ensures location { result.location ≡ Location.InFault }
+    {
         FaultReport {
             fault,
             location: Location::InFault,
@@ -32,7 +37,10 @@ impl FaultReport {
 
     /// Returns the report with the name of its file, in which characters such as control characters
     /// are escaped. Takes memory; if that is refused, the name is left out.
-    pub fn with_file(mut self, alloc: Global, path: &str) -> FaultReport {
+    pub fn with_file(mut self, alloc: Global, path: &str) -> FaultReport
+        ensures fault { result.fault ≡ self.fault }
+        ensures location { result.location ≡ self.location }
+    {
         self.file = PlainText(path).to_string(alloc).ok();
         self
     }
@@ -40,7 +48,10 @@ impl FaultReport {
     /// Returns the report with its location in a text, and with the name of the file if the
     /// location is a position. (A fault of the whole text, such as P2 of a sentence, is printed
     /// without the name.) Takes memory for the name; if that is refused, the name is left out.
-    pub fn with_location(mut self, alloc: Global, location: Location, name: &str) -> FaultReport {
+    pub fn with_location(mut self, alloc: Global, location: Location, name: &str) -> FaultReport
+        ensures fault { result.fault ≡ self.fault }
+        ensures location { result.location ≡ location }
+    {
         self.location = location;
         match location {
             Location::At(_) => self.with_file(alloc, name),
@@ -50,7 +61,10 @@ impl FaultReport {
 
     /// Returns the report with its parts, or without them if memory for writing them was refused.
     /// `written` is the result of writing them.
-    pub fn or_bare(mut self, written: Result<(), AllocError>) -> FaultReport {
+    pub fn or_bare(mut self, written: Result<(), AllocError>) -> FaultReport
+        ensures fault { result.fault ≡ self.fault }
+        ensures location { result.location ≡ self.location }
+    {
         if written.is_err() {
             self.parts.clear();
         }

@@ -51,6 +51,15 @@ fn fill_from<F: Read + Seek>(file: &mut F, at: u64, out: &mut [u8]) -> io::Resul
     file.read_exact(out)
 }
 
+impl<F: Drop> NotedFile<F> {
+    /// Closes the file, and returns the record of its calls.
+    pub fn into_calls(self) -> CallRecord
+        ensures { result.events ≡ self.events }
+    {
+        self.calls
+    }
+}
+
 impl<F: Read + Write + Seek + OpenFile> NotedFile<F> {
     /// Opens the file at `path` with the options `how`. The file's record is `before` with an entry
     /// for this call. `rt` is the runtime, which provides files. Fails with the system's error if

@@ -1,7 +1,7 @@
 -- Passes in sequence, alternating between two devices (after Jazayeri and Walter 1975). The form of the
 -- definitions and the counts are this project's. The letters: g is a grammar, m the passes of its attributes, k the number of a
 -- pass, t a tree, u and v are values of its attributes, and a and b contents of the first and the second device.
-use Rattle.std.specs.Prelude.{ℕ, suc, ◌≡◌, ◌+◌, ◌*◌, ◌-◌, ◌<◌, ◌≤◌, List}
+use Rattle.std.specs.Prelude.{ℕ, zero, suc, ◌≡◌, ◌+◌, ◌*◌, ◌-◌, ◌<◌, ◌≤◌, List}
 use Rattle.ag_grammar.specs.grammars.AttributeGrammar.{Grammar}
 use Rattle.ag_grammar.specs.grammars.Counts.{rules_of_pass, sum_of_passes}
 use Rattle.ag_grammar.specs.grammars.Passes.{Passes}
@@ -32,6 +32,12 @@ other_content B a b = a
 abbrev pub other_last : Last → Last
 other_last A = B
 other_last B = A
+
+-- The device that has the last file after this number of passes that alternate between two devices. The first pass writes to the
+-- second device.
+abbrev pub last_after : (passes : ℕ) → Last
+last_after zero = A
+last_after (suc passes) = other_last (last_after passes)
 
 -- The pass of the setting c ran from the device that has the last file to the other one, and did not change the content that it
 -- read. a and b are the contents before the pass, and a_new and b_new those after it. `count` and `evals` are as in `IsPassed`.

@@ -7,7 +7,7 @@ ghost use Rattle.passassign.specs.Rows.{IsGreatest, passes_of};
 ghost use Rattle.pass_rows.specs.Settings.{pass_setting};
 ghost use Rattle.passrun.specs.passing.Ahead.{IsRunFault};
 ghost use Rattle.passrun.specs.Rounds.{HasRunAll, IsPassedOn, LeavesAfterFailure, LeavesSolutions};
-ghost use Rattle.passrun.specs.Rounds.{LeavesSomeFile, last_content, other_content, other_last};
+ghost use Rattle.passrun.specs.Rounds.{LeavesSomeFile, last_after, last_content, other_content};
 ghost use Rattle.passrun.specs.Rounds.{one_more as added};
 ghost use Rattle.planchecker.specs.Plans.{IsPlan};
 ghost use Rattle.passcode.specs.Settings.{setting_of};
@@ -25,16 +25,6 @@ use pass_rows::setting::Setting;
 use planchecker::Plan;
 use std::alloc::Global;
 use treefile::Device;
-
-/// Returns the other one of the two devices.
-fn other(last: Last) -> Last
-    ensures { result ≡ other_last last }
-{
-    match last {
-        Last::A => Last::B,
-        Last::B => Last::A,
-    }
-}
 
 /// Returns the number of the last pass of a plan.
 fn last_pass(plan: &Plan) -> u16
@@ -129,7 +119,7 @@ fn one_more(sum: Passed, passed: Passed) -> Passed
 /// at each node of its production. The meter counts these evaluations, and may be at most 2^62
 /// before the call.
 ///
-/// Returns the device that has the file of the last pass, with the number of nodes of the
+/// Returns the device that has the file of the last pass (`Last::after`), with the number of nodes of the
 /// tree, and the numbers of records read and written in all passes together. If `first` is one more
 /// than the greatest pass, runs, reads and writes nothing, and returns `Last::A` with three zeros.
 ///
@@ -170,6 +160,9 @@ pub fn run_all<D: Device>(
         (IfOk result (λ r. LeavesSolutions grammar.now (passes_of plan.now.assignment) passes
         (D.content a.old) (last_content r.0 (D.content a.new) (D.content b.new))
         (other_content r.0 (D.content a.new) (D.content b.new))))) }
+    // whatever the devices return
+    ensures which { (passes : ℕ) → IsGreatest passes plan.now.assignment →
+        IfOk result (λ r. r.0 ≡ last_after (passes - (first - 1))) }
     // R1, P2 and P3 only if they are true of the first file
     ensures refused { IfErr result (λ f. WhenHonest (D.is_honest a.new)
         (WhenHonest (D.is_honest b.new)
@@ -217,7 +210,7 @@ pub fn run_all<D: Device>(
             last,
         };
         let passed = next_pass(&next, a, b, meter)?;
-        last = other(last);
+        last = last.other();
         sum = one_more(sum, passed);
     }
     Ok((last, sum))

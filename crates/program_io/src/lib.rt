@@ -9,18 +9,15 @@ mod output;
 mod overlaps;
 mod paths;
 mod same_file;
-mod system_faults;
+mod session;
 mod tree_paths;
 
-pub use files::{
-    build_translator, read_input, read_translator, report_of_input, report_of_sentence,
-};
-pub use output::write_file;
+pub use files::{build_translator, report_of_sentence};
 pub use overlaps::{
-    WORK_FILES, check_inputs, check_new_tree, check_output, check_outputs, check_translation,
-    check_tree, check_work_files,
+    WORK_FILES, check_inputs, check_new_tree, check_output, check_output_among, check_translation,
+    check_tree, check_work_files, ids_of,
 };
 pub use paths::path_in;
 pub use same_file::FileId;
-pub use system_faults::fault_or;
+pub use session::Session;
 pub use tree_paths::open_tree;

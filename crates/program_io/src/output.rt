@@ -1,9 +1,11 @@
 //! The files that translations are written to.
 
+ghost use Rattle.std.specs.Prelude.{IfErr};
+ghost use Rattle.program_io.specs.Sessions.{IsOutputFault};
+
 use crate::paths::{folder_of, path_in};
 use crate::same_file::FileId;
-use crate::system_faults::fault_or;
-use aggen::Fault;
+use aggen::{Fault, fault_or};
 use agoutput::write_bytes;
 use messages::FaultReport;
 use std::alloc::Global;
@@ -35,7 +37,9 @@ pub fn write_file<R: Files + Print>(
     alloc: Global,
     path: &str,
     bytes: &[u8],
-) -> Result<(), FaultReport> {
+) -> Result<(), FaultReport>
+    ensures { IfErr result (λ report. IsOutputFault report.fault) }
+{
     match put(rt, alloc, path, bytes) {
         Ok(()) => Ok(()),
         Err(Fault::NoMemory) => Err(FaultReport::new(alloc, Fault::NoMemory)),
@@ -45,7 +49,9 @@ pub fn write_file<R: Files + Print>(
 
 /// Writes bytes to the file at `path`, as `write_file` does. Fails with the fault that the report
 /// of `write_file` contains.
-fn put<R: Files + Print>(rt: &R, alloc: Global, path: &str, bytes: &[u8]) -> Result<(), Fault> {
+fn put<R: Files + Print>(rt: &R, alloc: Global, path: &str, bytes: &[u8]) -> Result<(), Fault>
+    ensures { IfErr result IsOutputFault }
+{
     let standard = FileId::of_standard_output(rt)?;
     match fs::metadata(rt, path) {
         Ok(found) if standard == Some(FileId::of(&found)) => {
@@ -75,7 +81,9 @@ fn is_of_system(path: &str) -> bool {
 
 /// Opens the existing file at `path` to write at its end. Fails with F1 if it can't be opened, and
 /// with NoMemory if memory is refused.
-fn open_to_append<R: Files>(rt: &R, path: &str) -> Result<R::File, Fault> {
+fn open_to_append<R: Files>(rt: &R, path: &str) -> Result<R::File, Fault>
+    ensures { IfErr result IsOutputFault }
+{
     let mut how = OpenOptions::new();
     how.append(true);
     how.open(rt, path)
@@ -92,7 +100,9 @@ fn replace<R: Files>(
     path: &str,
     bytes: &[u8],
     mode: Option<Permissions>,
-) -> Result<(), Fault> {
+) -> Result<(), Fault>
+    ensures { IfErr result IsOutputFault }
+{
     let path = target_of(rt, alloc, path)?;
     let (new, file) = create_beside(rt, alloc, path.as_str())?;
     let filled = fill(file, bytes, mode);
@@ -117,7 +127,9 @@ fn fill<F: io::Write + OpenFile + Drop>(
     mut file: F,
     bytes: &[u8],
     mode: Option<Permissions>,
-) -> Result<(), Fault> {
+) -> Result<(), Fault>
+    ensures { IfErr result IsOutputFault }
+{
     if let Some(mode) = mode {
         file.set_permissions(mode)
             .map_err(|error| fault_or(&error, Fault::File))?;
@@ -128,7 +140,9 @@ fn fill<F: io::Write + OpenFile + Drop>(
 /// Returns the path that the links at `path` lead to. No file need exist there. Fails with F1 if
 /// there are more than `MAX_LINKS` links, or if a link can't be read, and with NoMemory if memory
 /// is refused.
-fn target_of<R: Files>(rt: &R, alloc: Global, path: &str) -> Result<String, Fault> {
+fn target_of<R: Files>(rt: &R, alloc: Global, path: &str) -> Result<String, Fault>
+    ensures { IfErr result IsOutputFault }
+{
     let mut target = String::from_str(alloc, path)?;
     // the last iteration only finds out whether there is another link after `MAX_LINKS` links
     for _ in 0..=MAX_LINKS {
@@ -147,7 +161,9 @@ fn target_of<R: Files>(rt: &R, alloc: Global, path: &str) -> Result<String, Faul
 
 /// Returns the path that the link at `path` leads to. Fails with F1 if the link can't be read, and
 /// with NoMemory if memory is refused.
-fn link_at<R: Files>(rt: &R, alloc: Global, path: &str) -> Result<String, Fault> {
+fn link_at<R: Files>(rt: &R, alloc: Global, path: &str) -> Result<String, Fault>
+    ensures { IfErr result IsOutputFault }
+{
     let link = match rt.read_link(alloc, path) {
         Ok(link) => link,
         Err(error) => return Err(fault_or(&error, Fault::File)),
@@ -162,7 +178,9 @@ fn link_at<R: Files>(rt: &R, alloc: Global, path: &str) -> Result<String, Fault>
 /// Creates a new file in the folder of `path`, and returns its path and the file. Fails with F1 if
 /// the file can't be created, or if all `MAX_NAMES` names are in use, and with NoMemory if memory
 /// is refused.
-fn create_beside<R: Files>(rt: &R, alloc: Global, path: &str) -> Result<(String, R::File), Fault> {
+fn create_beside<R: Files>(rt: &R, alloc: Global, path: &str) -> Result<(String, R::File), Fault>
+    ensures { IfErr result IsOutputFault }
+{
     let mut how = OpenOptions::new();
     how.write(true).create_new(true);
     for number in 0..MAX_NAMES {

@@ -3,6 +3,9 @@
 //! does, with a message and the file's name. They fail with NoMemory if memory is refused. Paths
 //! are compared through links: a path that is a link counts as the file that it leads to.
 
+ghost use Rattle.std.specs.Prelude.{◌≡◌, IfErr};
+ghost use Rattle.program_io.specs.Sessions.{IsInputFault};
+
 use crate::paths::{folder_of, path_in};
 use crate::same_file::FileId;
 use crate::tree_paths::check_tree_path;
@@ -41,7 +44,9 @@ pub fn check_tree<R: Files>(
     alloc: Global,
     tree: InputPath<'_>,
     folder: &str,
-) -> Result<(), FaultReport> {
+) -> Result<(), FaultReport>
+    ensures { IfErr result (λ report. IsInputFault report.fault) }
+{
     let is_overlap = is_existing_work_file(rt, alloc, tree, folder);
     fail_if(alloc, is_overlap, TREE_IS_WRITTEN, tree.name())
 }
@@ -52,7 +57,9 @@ pub fn check_inputs<R: Files>(
     alloc: Global,
     inputs: &[InputPath<'_>],
     folder: &str,
-) -> Result<(), FaultReport> {
+) -> Result<(), FaultReport>
+    ensures { IfErr result (λ report. IsInputFault report.fault) }
+{
     for input in inputs {
         let is_overlap = is_existing_work_file(rt, alloc, *input, folder);
         fail_if(alloc, is_overlap, INPUT_IS_WRITTEN, input.name())?;
@@ -68,7 +75,9 @@ pub fn check_new_tree<R: Files>(
     alloc: Global,
     path: &str,
     inputs: &[InputPath<'_>],
-) -> Result<(), FaultReport> {
+) -> Result<(), FaultReport>
+    ensures { IfErr result (λ report. IsInputFault report.fault) }
+{
     fail_if(alloc, is_input(rt, path, inputs), OUTPUT_IS_READ, path)?;
     fail_if(alloc, is_standard_output(rt, path), TREE_IS_OUTPUT, path)?;
     check_tree_path(rt, alloc, path)
@@ -76,7 +85,9 @@ pub fn check_new_tree<R: Files>(
 
 /// Fails with F1 if one of the work files in `folder` is a folder or a pipe, and if memory is
 /// refused.
-pub fn check_work_files<R: Files>(rt: &R, alloc: Global, folder: &str) -> Result<(), FaultReport> {
+pub fn check_work_files<R: Files>(rt: &R, alloc: Global, folder: &str) -> Result<(), FaultReport>
+    ensures { IfErr result (λ report. IsInputFault report.fault) }
+{
     for name in WORK_FILES {
         match path_in(alloc, folder, name) {
             Ok(path) => check_tree_path(rt, alloc, path.as_str())?,
@@ -95,7 +106,9 @@ pub fn check_translation<R: Files>(
     output: Option<&str>,
     inputs: &[InputPath<'_>],
     work: Option<&str>,
-) -> Result<(), FaultReport> {
+) -> Result<(), FaultReport>
+    ensures { IfErr result (λ report. IsInputFault report.fault) }
+{
     match (output, work) {
         (Some(path), _) => check_output(rt, alloc, path, inputs, work),
         (None, Some(folder)) => check_standard_output(rt, alloc, folder),
@@ -111,7 +124,9 @@ pub fn check_output<R: Files>(
     path: &str,
     inputs: &[InputPath<'_>],
     work: Option<&str>,
-) -> Result<(), FaultReport> {
+) -> Result<(), FaultReport>
+    ensures { IfErr result (λ report. IsInputFault report.fault) }
+{
     fail_if(alloc, is_input(rt, path, inputs), OUTPUT_IS_READ, path)?;
     match work {
         Some(folder) => {
@@ -122,31 +137,24 @@ pub fn check_output<R: Files>(
     }
 }
 
-/// Fails if one of the regular files at the paths `outputs` is one of those at the paths `inputs`,
-/// and if memory is refused. Does not compare the outputs with work files: `check_output` does.
-pub fn check_outputs<R: Files>(
+/// Fails if `path` leads to a regular file with one of the identities `ids`, which are those of
+/// inputs (`ids_of`), and if memory is refused. Does not compare the file with work files:
+/// `check_output` does.
+pub fn check_output_among<R: Files>(
     rt: &R,
     alloc: Global,
-    inputs: &[&str],
-    outputs: &[String],
-) -> Result<(), FaultReport> {
-    let Ok(ids) = ids_of(rt, alloc, inputs) else {
-        return Err(FaultReport::new(alloc, Fault::NoMemory));
-    };
-    for path in outputs {
-        let path = path.as_str();
-        fail_if(
-            alloc,
-            is_among(rt, path, ids.as_slice()),
-            OUTPUT_IS_READ,
-            path,
-        )?;
-    }
-    Ok(())
+    path: &str,
+    ids: &[FileId],
+) -> Result<(), FaultReport>
+    ensures { IfErr result (λ report. IsInputFault report.fault) }
+{
+    fail_if(alloc, is_among(rt, path, ids), OUTPUT_IS_READ, path)
 }
 
 /// Fails if standard output is one of the work files in `folder`, and if memory is refused.
-fn check_standard_output<R: Files>(rt: &R, alloc: Global, folder: &str) -> Result<(), FaultReport> {
+fn check_standard_output<R: Files>(rt: &R, alloc: Global, folder: &str) -> Result<(), FaultReport>
+    ensures { IfErr result (λ report. IsInputFault report.fault) }
+{
     for name in WORK_FILES {
         match path_in(alloc, folder, name) {
             Ok(path) => {
@@ -166,7 +174,9 @@ fn fail_if(
     is_overlap: Result<bool, NoMemory>,
     text: &str,
     path: &str,
-) -> Result<(), FaultReport> {
+) -> Result<(), FaultReport>
+    ensures { IfErr result (λ report. IsInputFault report.fault) }
+{
     match is_overlap {
         Ok(false) => Ok(()),
         Ok(true) => Err(overlap(alloc, text, path)),
@@ -248,7 +258,7 @@ fn is_among<R: Files>(rt: &R, path: &str, ids: &[FileId]) -> Result<bool, NoMemo
 }
 
 /// Returns the identities of the regular files at these paths, sorted. Fails if memory is refused.
-fn ids_of<R: Files>(rt: &R, alloc: Global, paths: &[&str]) -> Result<Vec<FileId>, NoMemory> {
+pub fn ids_of<R: Files>(rt: &R, alloc: Global, paths: &[&str]) -> Result<Vec<FileId>, NoMemory> {
     let mut ids = Vec::new(alloc);
     for path in paths {
         if let Some(id) = FileId::at(rt, path)? {
@@ -269,7 +279,9 @@ fn id_of_input<R: Files>(rt: &R, input: InputPath<'_>) -> Result<Option<FileId>,
 }
 
 /// Returns the report of a misused command line with the message `text` about the file at `path`.
-fn overlap(alloc: Global, text: &str, path: &str) -> FaultReport {
+fn overlap(alloc: Global, text: &str, path: &str) -> FaultReport
+    ensures { result.fault ≡ Fault.Usage }
+{
     let mut report = FaultReport::new(alloc, Fault::Usage).with_file(alloc, path);
     let written = report.parts.found.push_str(text);
     report.or_bare(written)

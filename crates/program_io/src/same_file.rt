@@ -1,8 +1,7 @@
 //! Whether two paths lead to one file.
 
-use crate::system_faults::fault_or;
 use ag_value::NoMemory;
-use aggen::Fault;
+use aggen::{Fault, fault_or};
 use std::fs::{self, Metadata};
 use std::io;
 use std::os::unix::fs::MetadataExt;

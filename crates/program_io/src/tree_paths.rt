@@ -1,8 +1,10 @@
 //! The paths of tree files. A tree file can be neither a folder nor a pipe: passes read it from its
 //! end, which a pipe does not allow.
 
-use crate::system_faults::fault_or;
-use aggen::Fault;
+ghost use Rattle.std.specs.Prelude.{◌≡◌, IfErr};
+ghost use Rattle.program_io.specs.Sessions.{IsInputFault};
+
+use aggen::{Fault, fault_or};
 use messages::FaultReport;
 use noted_file::CallRecord;
 use std::alloc::Global;
@@ -29,7 +31,9 @@ pub fn open_tree<R: Files>(
     rt: &R,
     alloc: Global,
     path: &str,
-) -> Result<FileDevice<R::File>, FaultReport> {
+) -> Result<FileDevice<R::File>, FaultReport>
+    ensures { IfErr result (λ report. IsInputFault report.fault) }
+{
     check_tree_path(rt, alloc, path)?;
     match FileDevice::existing(rt, alloc, path, CallRecord::new()) {
         Ok(tree) => Ok(tree),
@@ -39,7 +43,9 @@ pub fn open_tree<R: Files>(
 
 /// Fails with F1 if `path` leads to a folder or a pipe, through links, and with NoMemory if memory
 /// is refused. The report of F1 names the file. Does not fail if nothing is there.
-pub fn check_tree_path<R: Files>(rt: &R, alloc: Global, path: &str) -> Result<(), FaultReport> {
+pub fn check_tree_path<R: Files>(rt: &R, alloc: Global, path: &str) -> Result<(), FaultReport>
+    ensures { IfErr result (λ report. IsInputFault report.fault) }
+{
     match fs::metadata(rt, path) {
         Ok(found) if found.is_dir() => Err(misfit(alloc, path, FOLDER, NAME_IN_FOLDER)),
         Ok(found) if found.file_type().is_fifo() => Err(misfit(alloc, path, PIPE, NAME_REGULAR)),
@@ -54,7 +60,9 @@ pub fn check_tree_path<R: Files>(rt: &R, alloc: Global, path: &str) -> Result<()
 
 /// Returns the report of F1 of the file at `path`. `found` says why it can't be a tree file, and
 /// `help` what to do.
-fn misfit(alloc: Global, path: &str, found: &str, help: &str) -> FaultReport {
+fn misfit(alloc: Global, path: &str, found: &str, help: &str) -> FaultReport
+    ensures { result.fault ≡ Fault.File }
+{
     let mut report = FaultReport::of_file(alloc, Fault::File, path);
     let written = report.parts.add(found, help);
     report.or_bare(written)

@@ -6,5 +6,5 @@ mod progress;
 mod progress_lines;
 mod screen;
 
-pub use progress::{Progress, ShownDevice};
+pub use progress::Progress;
 pub use screen::Screen;

@@ -60,15 +60,10 @@ impl Screen {
         }
     }
 
-    /// Returns whether the progress of translations is shown.
-    pub fn shows_progress(self) -> bool {
-        self.shows_progress
-    }
-
     /// Returns the progress of a translation that begins now. The first tree file that is written
     /// is that of pass `first`: 0 if a sentence is parsed, and 1 if the tree is read from a file.
-    /// (With 1, nothing is shown while pass 1 runs: the pass reads a device that is not a
-    /// `ShownDevice`.) Returns `None` if no progress is shown, or the clock can't be read.
+    /// (With 1, nothing is shown while pass 1 runs: the pass reads a device that is not watched.)
+    /// Returns `None` if no progress is shown, or the clock can't be read.
     pub fn progress<'a, R: Clock + Eprint>(
         self,
         rt: &'a R,
@@ -83,17 +78,17 @@ impl Screen {
         Some(Progress::new(rt, began, passes, first))
     }
 
-    /// Prints a message on standard error, in one line. If messages are quiet, prints it only if it
-    /// is about a misused command line. If memory for the marked line is refused, prints the
-    /// message unmarked. A failure to print is ignored: the exit status still depends on the fault.
-    pub fn print<R: Eprint>(self, rt: &R, alloc: Global, report: &FaultReport) {
+    /// Prints a message on standard error: `line`, the line of the report. If messages are quiet,
+    /// prints it only if it is about a misused command line. Without `line`, since memory for it was
+    /// refused, prints the report part by part; so too if memory for the marks is refused, but then
+    /// without marks. A failure to print is ignored: the exit status still depends on the fault.
+    pub fn print<R: Eprint>(self, rt: &R, alloc: Global, report: &FaultReport, line: Option<&str>) {
         if self.is_quiet && !matches!(report.fault, Fault::Usage) {
             return;
         }
-        let marked = if self.is_marked {
-            marked_line(alloc, report)
-        } else {
-            None
+        let marked = match line {
+            Some(line) if self.is_marked => marked_line(alloc, report, line),
+            _ => None,
         };
         let _ = match marked {
             Some(line) => rt.eprintln(&line),
@@ -120,12 +115,11 @@ fn is_dumb<R: Env + AllocGlobal>(rt: &R) -> bool {
     }
 }
 
-/// Returns the line of a report with the fault's number and the place marked; `None` if memory is
-/// refused.
-fn marked_line(alloc: Global, report: &FaultReport) -> Option<String> {
-    let line = report.to_string(alloc).ok()?;
+/// Returns `line`, the line of a report, with the fault's number and the place marked; `None` if
+/// memory is refused.
+fn marked_line(alloc: Global, report: &FaultReport, line: &str) -> Option<String> {
     let fault = report.fault.to_string(alloc).ok()?;
-    let (fault, rest) = parts_at(line.as_str(), fault.len());
+    let (fault, rest) = parts_at(line, fault.len());
     let (number, offset) = parts_at(fault, number_len(fault));
     let (before, place) = parts_at(rest, place_start(report, rest));
     let (place, after) = parts_at(place, place_len(alloc, report)?);

@@ -1,14 +1,20 @@
 //! The command that translates several sentences: `run` with a folder for the translations.
 
+ghost use Rattle.std.specs.Prelude.{◌≡◌, IfErr, IfOk, None, map};
+ghost use Rattle.std.specs.Process.{exit_status};
+ghost use Rattle.program_io.specs.Sessions.{IsInputFault, path_of};
+ghost use Rattle.translation_commands.specs.Batches.{AreDone, IsDone, IsRefusedBatch, RunsBatch};
+ghost use Rattle.translation_commands.specs.Batches.{sooner, status_of_first};
+
 use crate::translations::TranslationRun;
-use aggen::{Fault, status};
+use aggen::{Fault, fault_or, status};
 use command_line::{BatchPaths, InputPath, file_name_of};
+use message_parts::display::PlainText;
 use messages::{FaultReport, Source};
 use program_io::{
-    build_translator, check_inputs, check_output, check_outputs, check_work_files, fault_or,
-    path_in, read_input,
+    Session, build_translator, check_inputs, check_output, check_output_among, check_work_files,
+    ids_of, path_in,
 };
-use screen::Screen;
 use std::alloc::{AllocError, Global};
 use std::fs;
 use std::process::ExitCode;
@@ -26,118 +32,154 @@ use std::rt::{Clock, Files};
 /// - if the folder for the translations is missing, can't be examined or is not a folder (F1);
 /// - if the grammar can't be read or is refused;
 /// - if memory is refused.
-pub fn run_sentences<'a, R: Files + Input + Print + Eprint + Clock>(
-    rt: &'a R,
-    alloc: Global,
-    paths: &'a BatchPaths<'a>,
-    screen: Screen,
-) -> Result<ExitCode, FaultReport> {
-    match output_paths(alloc, paths) {
-        Ok(outputs) => translate_to(rt, alloc, paths, outputs.as_slice(), screen),
-        Err(_) => Err(FaultReport::new(alloc, Fault::NoMemory)),
-    }
-}
-
-/// Does what `run_sentences` does. `outputs` are the paths of the translations, in the order of the
-/// sentences.
-fn translate_to<'a, R: Files + Input + Print + Eprint + Clock>(
-    rt: &'a R,
-    alloc: Global,
-    paths: &'a BatchPaths<'a>,
-    outputs: &[String],
-    screen: Screen,
-) -> Result<ExitCode, FaultReport> {
-    check_overlaps(rt, alloc, paths, outputs)?;
-    check_folder(rt, alloc, paths.folder)?;
-    let text = read_input(rt, alloc, paths.grammar)?;
+pub fn run_sentences<R: Files + Input + Print + Eprint + Clock>(
+    session: &mut Session<'_, R>,
+    paths: &BatchPaths<'_>,
+) -> Result<ExitCode, FaultReport>
+    ensures ran { IfOk result (λ code.
+        RunsBatch paths.now session.old session.new (exit_status code)) }
+    ensures refused { IfErr result (λ report.
+        IsRefusedBatch paths.now session.old session.new report.fault) }
+{
+    let alloc = session.alloc;
+    let Ok(tasks) = tasks_of(alloc, paths) else {
+        return Err(FaultReport::new(alloc, Fault::NoMemory));
+    };
+    check_batch(session.rt, alloc, paths, tasks.as_slice())?;
+    let text = session.read(paths.grammar)?;
     let grammar = Source::new(paths.grammar.name(), text.as_slice());
     let translator = build_translator(alloc, grammar)?;
-    let translating = TranslationRun {
-        rt,
-        alloc,
+    let run = TranslationRun {
         translator: &translator,
         grammar,
         work: paths.work,
-        screen,
     };
-    Ok(translate_each(&translating, paths.sentences.as_slice(), outputs))
+    let first = translate_each(session, run, tasks.as_slice());
+    Ok(ExitCode::from(first.unwrap_or(0)))
 }
 
-/// Translates each sentence to the file of `outputs` with the same index. Prints a message for each
-/// sentence that fails. Returns the status of the first sentence that failed; 0 if none did.
+/// A sentence of a batch: the path of its file, and that of its translation.
+#[derive(Drop)]
+struct Task<'a> {
+    sentence: &'a str,
+    output: String,
+}
+
+/// Returns the sentences with the paths of their translations: DIR/NAME.out for the sentence at
+/// PATH/NAME, where DIR is the folder for the translations. Fails if memory is refused.
+fn tasks_of<'a>(alloc: Global, paths: &BatchPaths<'a>) -> Result<Vec<Task<'a>>, AllocError>
+    ensures { IfOk result (λ tasks.
+        map (λ task. task.sentence) tasks.items ≡ paths.now.sentences.items) }
+{
+    let mut tasks = Vec::new(alloc);
+    for sentence in paths.sentences.iter() {
+        let name = format!(in alloc; "{}.out", file_name_of(sentence))?;
+        let output = path_in(alloc, paths.folder, name.as_str())?;
+        tasks.push(Task {
+            sentence: *sentence,
+            output,
+        })?;
+    }
+    Ok(tasks)
+}
+
+/// Translates each sentence, and prints a message for each that fails. Returns the status of the
+/// first sentence that failed, if one did.
 fn translate_each<R: Files + Input + Print + Eprint + Clock>(
-    translating: &TranslationRun<'_, R>,
-    sentences: &[&str],
-    outputs: &[String],
-) -> ExitCode {
-    let mut first = ExitCode::SUCCESS;
-    let mut is_first = true;
-    for (sentence, output) in sentences.iter().zip(outputs.iter()) {
-        if let Err(report) = translate(translating, sentence, output.as_str()) {
-            translating
-                .screen
-                .print(translating.rt, translating.alloc, &report);
-            if is_first {
-                first = ExitCode::from(status(&report.fault));
-                is_first = false;
-            }
-        }
+    session: &mut Session<'_, R>,
+    run: TranslationRun<'_>,
+    tasks: &[Task<'_>],
+) -> Option<u8>
+    ensures { AreDone run.entry.translator.now (path_of run.entry.work) tasks.now session.old
+        session.new None result }
+{
+    let mut first = None;
+    for task in tasks {
+        first = sooner(first, translate(session, run, task));
     }
     first
 }
 
-/// Returns the path of each translation: DIR/NAME.out for the sentence at PATH/NAME, where DIR is
-/// the folder for the translations. Fails if memory is refused.
-fn output_paths(alloc: Global, paths: &BatchPaths<'_>) -> Result<Vec<String>, AllocError> {
-    let mut outputs = Vec::new(alloc);
-    for sentence in paths.sentences.iter() {
-        let name = format!(in alloc; "{}.out", file_name_of(sentence))?;
-        outputs.push(path_in(alloc, paths.folder, name.as_str())?)?;
+/// Returns the status of the first sentence that failed, from that of the first of the sentences
+/// before and that of the last one.
+fn sooner(first: Option<u8>, last: Option<u8>) -> Option<u8>
+    ensures { result ≡ sooner first last }
+{
+    match first {
+        Some(status) => Some(status),
+        None => last,
     }
-    Ok(outputs)
 }
 
-/// Fails if one of the translations' files is the grammar or a sentence, if an input or a
-/// translation's file is one of the tree files of `--work`, and if memory is refused.
-fn check_overlaps<R: Files>(
+/// Translates a sentence, and writes the translation to its file. Prints a message if that fails,
+/// and returns the status. The message names the sentence, with two exceptions: one about refused
+/// memory, and one for which memory for the name is refused.
+fn translate<R: Files + Input + Print + Eprint + Clock>(
+    session: &mut Session<'_, R>,
+    run: TranslationRun<'_>,
+    task: &Task<'_>,
+) -> Option<u8>
+    ensures { IsDone run.entry.translator.now (path_of run.entry.work) task.now session.old
+        session.new result }
+{
+    let path = task.sentence;
+    match run.deliver(session, InputPath::File(path), Some(task.output.as_str())) {
+        Ok(()) => None,
+        Err(report) => {
+            let report = with_sentence(session.alloc, report, path);
+            session.report(&report);
+            Some(status(&report.fault))
+        }
+    }
+}
+
+/// Fails if an input is one of the tree files of `--work`, if one of these is a folder or a pipe
+/// (F1), if a translation's file is an input or one of these tree files, if the folder for the
+/// translations is not one (F1), and if memory is refused.
+fn check_batch<R: Files>(
     rt: &R,
     alloc: Global,
     paths: &BatchPaths<'_>,
-    outputs: &[String],
-) -> Result<(), FaultReport> {
+    tasks: &[Task<'_>],
+) -> Result<(), FaultReport>
+    ensures { IfErr result (λ report. IsInputFault report.fault) }
+{
     if let Some(folder) = paths.work {
-        check_work(rt, alloc, paths, outputs, folder)?;
+        check_work_files(rt, alloc, folder)?;
+        check_inputs(rt, alloc, &[paths.grammar], folder)?;
+        check_sentences(rt, alloc, tasks, folder)?;
     }
-    check_outputs(rt, alloc, paths.sentences.as_slice(), outputs)?;
-    for output in outputs {
-        check_output(rt, alloc, output.as_str(), &[paths.grammar], None)?;
+    let Ok(ids) = ids_of(rt, alloc, paths.sentences.as_slice()) else {
+        return Err(FaultReport::new(alloc, Fault::NoMemory));
+    };
+    for task in tasks {
+        let output = task.output.as_str();
+        check_output_among(rt, alloc, output, ids.as_slice())?;
+        check_output(rt, alloc, output, &[paths.grammar], paths.work)?;
     }
-    Ok(())
+    check_folder(rt, alloc, paths.folder)
 }
 
-/// Fails if an input, or a translation's file, is one of the tree files in `folder`, if one of
-/// these tree files is a folder or a pipe (F1), and if memory is refused.
-fn check_work<R: Files>(
+/// Fails if a sentence is one of the tree files in a folder, and if memory is refused.
+fn check_sentences<R: Files>(
     rt: &R,
     alloc: Global,
-    paths: &BatchPaths<'_>,
-    outputs: &[String],
+    tasks: &[Task<'_>],
     folder: &str,
-) -> Result<(), FaultReport> {
-    check_work_files(rt, alloc, folder)?;
-    check_inputs(rt, alloc, &[paths.grammar], folder)?;
-    for sentence in paths.sentences.iter() {
-        check_inputs(rt, alloc, &[InputPath::File(*sentence)], folder)?;
-    }
-    for output in outputs {
-        check_output(rt, alloc, output.as_str(), &[], Some(folder))?;
+) -> Result<(), FaultReport>
+    ensures { IfErr result (λ report. IsInputFault report.fault) }
+{
+    for task in tasks {
+        check_inputs(rt, alloc, &[InputPath::File(task.sentence)], folder)?;
     }
     Ok(())
 }
 
 /// Fails with F1 if `path` is not a folder or can't be examined, and with NoMemory if memory is
 /// refused.
-fn check_folder<R: Files>(rt: &R, alloc: Global, path: &str) -> Result<(), FaultReport> {
+fn check_folder<R: Files>(rt: &R, alloc: Global, path: &str) -> Result<(), FaultReport>
+    ensures { IfErr result (λ report. IsInputFault report.fault) }
+{
     let fault = match fs::metadata(rt, path) {
         Ok(found) if found.is_dir() => return Ok(()),
         Ok(_) => Fault::File,
@@ -146,40 +188,33 @@ fn check_folder<R: Files>(rt: &R, alloc: Global, path: &str) -> Result<(), Fault
     Err(FaultReport::of_file(alloc, fault, path))
 }
 
-/// Reads the sentence at `path`, translates it, and writes the translation to the file at `output`.
-/// Each report names the sentence, with two exceptions: a report of NoMemory, and one for which
-/// memory for the name is refused.
-fn translate<R: Files + Input + Print + Eprint + Clock>(
-    translating: &TranslationRun<'_, R>,
-    path: &str,
-    output: &str,
-) -> Result<(), FaultReport> {
-    let alloc = translating.alloc;
-    let bytes = read_input(translating.rt, alloc, InputPath::File(path))?;
-    let sentence = Source::new(path, bytes.as_slice());
-    match translating.write(sentence, output) {
-        Ok(()) => Ok(()),
-        Err(report) => Err(with_sentence(alloc, report, path)),
-    }
-}
-
 /// Returns a report with the path of the sentence. If the report has no file, the path becomes its
-/// file. If it has one, and its fault is F1, D1 or O2, it names the file that failed: then appends
-/// the path to the part `found`. Returns any other report, and one of NoMemory, unchanged.
-fn with_sentence(alloc: Global, mut report: FaultReport, path: &str) -> FaultReport {
+/// file. If it has one, and its fault is F1, D1 or O2, it names the file that failed: if that is
+/// not the sentence, then appends the path to the part `found`. Returns any other report, and one
+/// of NoMemory, unchanged.
+fn with_sentence(alloc: Global, mut report: FaultReport, path: &str) -> FaultReport
+    ensures { result.fault ≡ report.fault }
+{
     if matches!(report.fault, Fault::NoMemory) {
         return report;
     }
     if report.file.is_none() {
         return report.with_file(alloc, path);
     }
+    if is_named(alloc, &report.file, path) {
+        return report;
+    }
     if matches!(report.fault, Fault::File | Fault::Device | Fault::Write) {
-        // this report is made only since `with_file` escapes control characters in the path
-        let named = FaultReport::new(alloc, Fault::File).with_file(alloc, path);
-        if let Some(name) = &named.file {
-            let written = write!(report.parts.found, "for the sentence {}", name.as_str());
-            return report.or_bare(written);
-        }
+        let written = write!(report.parts.found, "for the sentence {}", PlainText(path));
+        return report.or_bare(written);
     }
     report
+}
+
+/// Says whether the file of a report is the one at `path`; false if memory is refused.
+fn is_named(alloc: Global, file: &Option<String>, path: &str) -> bool {
+    match (file, PlainText(path).to_string(alloc)) {
+        (Some(file), Ok(name)) => file.as_str() == name.as_str(),
+        _ => false,
+    }
 }

@@ -1,65 +1,76 @@
 //! The cause of an error, in the message of O1 (the root's `out` is not a text).
 
+ghost use Rattle.std.specs.Prelude.{◌≡◌};
+ghost use Rattle.treefile.specs.devices.Several.{BothPersist, Lasts};
+
 use ag_value::Value;
 use aggen::{Fault, Translator};
+use aggen_files::WorkFiles;
 use messages::{FaultReport, Source};
+use passrun::Last;
 use std::alloc::Global;
 use treefile::Device;
 use value_reasons::ErrorTranslation;
 
 /// What is needed to find the cause if the root's `out` is an error.
 #[derive(Clone, Copy)]
-pub(crate) struct CauseFinder<'a> {
+pub struct CauseFinder<'a> {
     /// The translator.
-    pub(crate) translator: &'a Translator,
+    pub translator: &'a Translator,
     /// The grammar's text.
-    pub(crate) grammar: Source<'a>,
+    pub grammar: Source<'a>,
     /// The sentence. `None` if the tree came from a file.
-    pub(crate) sentence: Option<Source<'a>>,
+    pub sentence: Option<Source<'a>>,
 }
 
 impl CauseFinder<'_> {
-    /// Returns what the message of O1 says of the cause, if `fault` is O1 and the root's `out` is
-    /// an error. The translation's last tree file has to be on the device `b` if the number of
-    /// passes is odd, and on the device `a` if that number is even.
-    ///
-    /// Returns `None` if `fault` is another fault or `out` is not an error. Also returns `None` if
-    /// no cause is found, if the tree file is damaged, exceeds a limit or can't be read, and if
-    /// memory is refused.
-    pub(crate) fn cause_of<D: Device>(
+    /// Returns the report of a translation with what its message says of the cause, if the fault is
+    /// O1 and the root's `out` is an error. `files` are the tree files of the translation: the cause
+    /// is looked for in that of the last pass. Returns the report unchanged if no cause is found,
+    /// and if the tree file is damaged, exceeds a limit or can't be read. Returns it without its
+    /// parts if memory for the text is refused.
+    pub fn with_cause<D: Device>(
         self,
         alloc: Global,
-        fault: &Fault,
-        a: &mut D,
-        b: &mut D,
-    ) -> Option<String> {
-        if !matches!(fault, Fault::NoText(Value::Fault(_))) {
-            return None;
+        report: FaultReport,
+        files: &mut WorkFiles<D>,
+    ) -> FaultReport
+        ensures fault { result.fault ≡ report.fault }
+        ensures devices { BothPersist D.is_honest D.failures files.old.a files.new.a
+            D.is_honest D.failures files.old.b files.new.b ⊥ }
+    {
+        if !matches!(report.fault, Fault::NoText(Value::Fault(_))) {
+            return report;
         }
-        let plan = self.translator.plan();
+        match Last::after(self.translator.plan().assignment().passes()) {
+            Last::A => self.describe(alloc, report, &mut files.a),
+            Last::B => self.describe(alloc, report, &mut files.b),
+        }
+    }
+
+    /// Returns the report of O1 with what its message says of the cause. `last` has the file of the
+    /// last pass.
+    fn describe<D: Device>(
+        self,
+        alloc: Global,
+        mut report: FaultReport,
+        last: &mut D,
+    ) -> FaultReport
+        ensures fault { result.fault ≡ report.fault }
+        ensures device { Lasts D.is_honest D.failures last.old last.new }
+    {
         let error = ErrorTranslation {
             grammar: self.translator.grammar(),
-            plan,
+            plan: self.translator.plan(),
             source: self.grammar,
             sentence: self.sentence,
         };
-        let last = if plan.assignment().passes() % 2 == 1 {
-            b
-        } else {
-            a
-        };
-        error.describe_cause(alloc, last).unwrap_or(None)
+        match error.describe_cause(alloc, last) {
+            Ok(Some(cause)) => {
+                let written = write!(report.parts.found, ", which {}", cause.as_str());
+                report.or_bare(written)
+            }
+            Ok(None) | Err(_) => report,
+        }
     }
-}
-
-/// Returns a report with the text about the cause appended to its part `found`, or unchanged if
-/// there is no cause. Returns the report without any of its parts if memory for the text is
-/// refused.
-pub(crate) fn with_cause(mut report: FaultReport, cause: Option<String>) -> FaultReport {
-    let Some(cause) = cause else {
-        return report;
-    };
-    let found = &mut report.parts.found;
-    let written = write!(found, ", which {}", cause.as_str());
-    report.or_bare(written)
 }

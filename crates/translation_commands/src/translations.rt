@@ -1,26 +1,25 @@
 //! The commands that translate one sentence: `run`, and the job on standard input.
 
-ghost use Rattle.std.specs.Prelude.{◌≡◌, ◌≢◌, IfErr, IsErr, OnErr, OnOk};
-ghost use Rattle.std.specs.Io.KnownBytes.{Appends};
-ghost use Rattle.agoutput.specs.Writing.{AppendsBeginning};
+ghost use Rattle.std.specs.Prelude.{◌≡◌, ◌≢◌, [], IfErr, IfOk, None, OnOk, Some};
+ghost use Rattle.aggen.specs.Translating.{IsTranslationFault, TranslatesSentence};
+ghost use Rattle.program_io.specs.Sessions.{IsInputFault, path_of};
+ghost use Rattle.translation_commands.specs.Runs.{Delivers, IsRefusedJob, IsRefusedRun, IsUndelivered, IsUntranslated};
+ghost use Rattle.translation_commands.specs.Runs.{DeliversJob, IsUndeliveredJob, RunsJob, RunsSentence};
+ghost use Rattle.translation_commands.specs.Runs.{Translated, opened};
+ghost use Rattle.aggen.specs.declared.translations.report.Report.{Report};
 
-use crate::cause::{CauseFinder, with_cause};
-use ag_job::Job;
+use crate::cause::CauseFinder;
+use ag_job::{Job, MAX_JOB_BYTES};
 use aggen::{Fault, Translator};
-use aggen_files::WorkFiles;
-use agoutput::write_bytes;
-use command_line::RunPaths;
+use aggen_files::{Silent, Watch, WorkDevice, WorkFiles};
+use command_line::{InputPath, RunPaths};
 use messages::{FaultReport, Source};
-use noted_file::CallRecord;
 use program_io::{
-    build_translator, check_inputs, check_translation, check_work_files, read_input,
-    report_of_sentence, write_file,
+    Session, build_translator, check_inputs, check_translation, check_work_files,
+    report_of_sentence,
 };
-use screen::{Progress, Screen, ShownDevice};
 use std::alloc::Global;
-use std::io::{self, Write};
 use std::rt::{Clock, Files};
-use treefile::{Device, SharedDevice};
 
 /// Translates a sentence, and prints the translation or writes it to a file. Reads the grammar,
 /// then the sentence, then creates the tree files of `--work`, and at last writes the translation.
@@ -34,47 +33,198 @@ use treefile::{Device, SharedDevice};
 /// Also fails if an input can't be read, if the grammar, the sentence or the translation is
 /// refused, if a tree file or the output fails, and if memory is refused.
 pub fn run_sentence<R: Files + Input + Print + Eprint + Clock>(
-    rt: &R,
-    alloc: Global,
+    session: &mut Session<'_, R>,
     paths: &RunPaths<'_>,
-    screen: Screen,
-) -> Result<(), FaultReport> {
+) -> Result<(), FaultReport>
+    ensures ran { OnOk result (RunsSentence paths.now.grammar paths.now.sentence
+        (path_of paths.now.output) (path_of paths.now.work) session.old session.new) }
+    ensures refused { IfErr result (λ report. IsRefusedRun paths.now.grammar paths.now.sentence
+        (path_of paths.now.output) (path_of paths.now.work) session.old session.new
+        report.fault) }
+{
+    check_run(session.rt, session.alloc, paths)?;
+    let text = session.read(paths.grammar)?;
+    let grammar = Source::new(paths.grammar.name(), text.as_slice());
+    let translator = build_translator(session.alloc, grammar)?;
+    let run = TranslationRun {
+        translator: &translator,
+        grammar,
+        work: paths.work,
+    };
+    run.deliver(session, paths.sentence, paths.output)
+}
+
+/// Fails as `run_sentence` does before it reads the grammar.
+fn check_run<R: Files>(rt: &R, alloc: Global, paths: &RunPaths<'_>) -> Result<(), FaultReport>
+    ensures { IfErr result (λ report. IsInputFault report.fault) }
+{
     let inputs = [paths.grammar, paths.sentence];
     if let Some(folder) = paths.work {
         check_work_files(rt, alloc, folder)?;
         check_inputs(rt, alloc, &inputs, folder)?;
     }
-    check_translation(rt, alloc, paths.output, &inputs, paths.work)?;
-    let text = read_input(rt, alloc, paths.grammar)?;
-    let grammar = Source::new(paths.grammar.name(), text.as_slice());
-    let translator = build_translator(alloc, grammar)?;
-    let translating = TranslationRun {
-        rt,
-        alloc,
-        translator: &translator,
-        grammar,
-        work: paths.work,
-        screen,
-    };
-    let bytes = read_input(rt, alloc, paths.sentence)?;
-    let sentence = Source::new(paths.sentence.name(), bytes.as_slice());
-    match paths.output {
-        Some(path) => translating.write(sentence, path),
-        None => translating.run(sentence, &mut io::writer(rt)),
-    }
+    check_translation(rt, alloc, paths.output, &inputs, paths.work)
 }
 
 /// Translates the job on standard input, with its tree files in memory, and prints the translation.
 /// Fails if the job can't be read or split (`Job::read`), if its grammar, its sentence or the
 /// translation is refused, if the output fails, and if memory is refused.
 pub fn run_input<R: Files + Input + Print + Eprint + Clock>(
-    rt: &R,
-    alloc: Global,
-    screen: Screen,
-) -> Result<(), FaultReport> {
-    match Job::read(alloc, rt.reader()) {
-        Ok(job) => translate_job(rt, alloc, &job, screen),
-        Err(fault) => Err(FaultReport::new(alloc, Fault::from(fault))),
+    session: &mut Session<'_, R>,
+) -> Result<(), FaultReport>
+    ensures ran { OnOk result (RunsJob session.old session.new) }
+    ensures refused { IfErr result (λ report. IsRefusedJob session.old session.new report.fault) }
+{
+    let bytes = session.read_standard(MAX_JOB_BYTES as u64 + 1)?;
+    match Job::read(session.alloc, bytes.as_slice()) {
+        Ok(job) => translate_job(session, &job),
+        Err(fault) => Err(FaultReport::new(session.alloc, Fault::from(fault))),
+    }
+}
+
+/// A translator with the text of its grammar, and where its tree files are kept.
+#[derive(Clone, Copy)]
+pub struct TranslationRun<'a> {
+    /// The translator.
+    pub translator: &'a Translator,
+    /// The grammar's text.
+    pub grammar: Source<'a>,
+    /// The folder for the tree files. If there is none, they are kept in memory.
+    pub work: Option<&'a str>,
+}
+
+impl<'a> TranslationRun<'a> {
+    /// Returns a run that keeps its tree files in memory.
+    fn in_memory(translator: &'a Translator, grammar: Source<'a>) -> TranslationRun<'a>
+        ensures translator { result.translator.now ≡ translator.now }
+        ensures work { result.work ≡ None }
+    {
+        TranslationRun {
+            translator,
+            grammar,
+            work: None,
+        }
+    }
+}
+
+impl TranslationRun<'_> {
+    /// Reads a sentence, translates it, and writes the translation to the file at the path `output`
+    /// or, if there is none, to standard output. Fails as `Session::read`, `translate` and
+    /// `Session::write` do.
+    pub fn deliver<R: Files + Input + Print + Eprint + Clock>(
+        self,
+        session: &mut Session<'_, R>,
+        from: InputPath<'_>,
+        output: Option<&str>,
+    ) -> Result<(), FaultReport>
+        ensures ran { OnOk result (Delivers self.entry.translator.now (path_of self.entry.work)
+            from.entry (path_of output.entry) session.old.events session.new) }
+        ensures refused { IfErr result (λ report. IsUndelivered self.entry.translator.now
+            (path_of self.entry.work) from.entry (path_of output.entry) session.old.events session.new
+            report.fault) }
+    {
+        let bytes = session.read(from)?;
+        let text = self.translate(session, Source::new(from.name(), bytes.as_slice()))?;
+        session.write(output, text.as_slice())
+    }
+
+    /// Returns the translation of a sentence. Shows the progress meanwhile. Fails as
+    /// `WorkFiles::open` and `WorkFiles::translate` do.
+    fn translate<R: Files + Eprint + Clock>(
+        self,
+        session: &mut Session<'_, R>,
+        sentence: Source<'_>,
+    ) -> Result<Vec<u8>, FaultReport>
+        ensures opened { OnOk result
+            (session.new.events ≡ opened (path_of self.entry.work) session.old.events) }
+        ensures translated { IfOk result (λ text. Translated self.entry.translator.now
+            (path_of self.entry.work) sentence.entry.bytes.now session.new text.items) }
+        ensures refused { IfErr result (λ report. IsUntranslated self.entry.translator.now
+            (path_of self.entry.work) sentence.entry.bytes.now session.old.events session.new
+            report.fault) }
+    {
+        // the first tree file is that of pass 0, which the parser writes
+        match session.progress(self.translator, 0) {
+            Some(progress) => self.translate_watched(session, sentence, &progress),
+            None => self.translate_watched(session, sentence, &Silent),
+        }
+    }
+
+    /// Does what `translate` does, but shows what `watch` shows.
+    fn translate_watched<R: Files, W: Watch>(
+        self,
+        session: &mut Session<'_, R>,
+        sentence: Source<'_>,
+        watch: &W,
+    ) -> Result<Vec<u8>, FaultReport>
+        ensures opened { OnOk result
+            (session.new.events ≡ opened (path_of self.entry.work) session.old.events) }
+        ensures translated { IfOk result (λ text. Translated self.entry.translator.now
+            (path_of self.entry.work) sentence.entry.bytes.now session.new text.items) }
+        ensures refused { IfErr result (λ report. IsUntranslated self.entry.translator.now
+            (path_of self.entry.work) sentence.entry.bytes.now session.old.events session.new
+            report.fault) }
+    {
+        let alloc = session.alloc;
+        let Some(folder) = self.work else {
+            let mut files = WorkFiles::in_memory(alloc).watched(watch);
+            return self.translate_with(alloc, sentence, &mut files, watch);
+        };
+        match session.open_work(folder, watch) {
+            Ok(mut files) => {
+                let translated = self.translate_with(alloc, sentence, &mut files, watch);
+                session.close_work(files);
+                translated
+            }
+            Err(fault) => Err(self.report_of(alloc, fault, sentence)),
+        }
+    }
+
+    /// Returns the translation of a sentence, made with the tree files `files`. Fails as
+    /// `WorkFiles::translate` does.
+    fn translate_with<D: WorkDevice, W: Watch>(
+        self,
+        alloc: Global,
+        sentence: Source<'_>,
+        files: &mut WorkFiles<D>,
+        watch: &W,
+    ) -> Result<Vec<u8>, FaultReport>
+        ensures translates { IfOk result (λ text. (report : Report) × TranslatesSentence
+            self.entry.translator.now sentence.entry.bytes.now
+            (D.is_honest files.new.a) (D.is_honest files.new.b)
+            (D.stored files.new.a) (D.stored files.new.b) (Some []) (Some text.items) report) }
+        ensures refused { IfErr result (λ report. IsTranslationFault self.entry.translator.now
+            sentence.entry.bytes.now (D.is_honest files.new.a) (D.is_honest files.new.b)
+            (Some []) (Some []) report.fault) }
+        ensures other { IfErr result (λ report. report.fault ≢ Fault.Write) }
+    {
+        let translated = files.translate(alloc, self.translator, sentence.bytes);
+        watch.end();
+        match translated {
+            Ok(made) => Ok(made.text),
+            Err(fault) => {
+                let report = self.report_of(alloc, fault, sentence);
+                let finder = CauseFinder {
+                    translator: self.translator,
+                    grammar: self.grammar,
+                    sentence: Some(sentence),
+                };
+                Err(finder.with_cause(alloc, report, files))
+            }
+        }
+    }
+
+    /// Returns the report of a fault. With `--work`, the report names the folder of the tree files
+    /// after F1 and D1. In all other cases returns the report of `report_of_sentence`.
+    fn report_of(self, alloc: Global, fault: Fault, sentence: Source<'_>) -> FaultReport
+        ensures { result.fault ≡ fault }
+    {
+        match (fault, self.work) {
+            (fault @ (Fault::File | Fault::Device), Some(folder)) => {
+                FaultReport::of_file(alloc, fault, folder)
+            }
+            (fault, _) => report_of_sentence(alloc, fault, self.translator, sentence),
+        }
     }
 }
 
@@ -82,281 +232,15 @@ pub fn run_input<R: Files + Input + Print + Eprint + Clock>(
 /// grammar, the sentence or the translation is refused, if the output fails, and if memory is
 /// refused.
 fn translate_job<R: Files + Print + Eprint + Clock>(
-    rt: &R,
-    alloc: Global,
+    session: &mut Session<'_, R>,
     job: &Job,
-    screen: Screen,
-) -> Result<(), FaultReport> {
+) -> Result<(), FaultReport>
+    ensures ran { OnOk result (DeliversJob job.now session.old.events session.new) }
+    ensures refused { IfErr result (λ report.
+        IsUndeliveredJob job.now session.old.events session.new report.fault) }
+{
     let (grammar, sentence) = Source::of_job(job.grammar(), job.sentence());
-    let translator = build_translator(alloc, grammar)?;
-    let translating = TranslationRun::in_memory(&*rt, alloc, &translator, grammar, screen);
-    translating.run(sentence, &mut io::writer(rt))
-}
-
-/// What a run of a translator needs besides the sentence and the output.
-#[derive(Drop)]
-pub struct TranslationRun<'a, R> {
-    /// The runtime.
-    pub rt: &'a R,
-    /// The allocator.
-    pub alloc: Global,
-    /// The translator.
-    pub translator: &'a Translator,
-    /// The grammar's text.
-    pub grammar: Source<'a>,
-    /// The folder for the tree files. If there is none, they are kept in memory.
-    pub work: Option<&'a str>,
-    /// How messages are printed, and whether the progress is shown.
-    pub screen: Screen,
-}
-
-impl<'a, R> TranslationRun<'a, R> {
-    /// Returns a run of a translator that keeps the tree files in memory.
-    fn in_memory(
-        rt: &'a R,
-        alloc: Global,
-        translator: &'a Translator,
-        grammar: Source<'a>,
-        screen: Screen,
-    ) -> TranslationRun<'a, R> {
-        TranslationRun {
-            rt,
-            alloc,
-            translator,
-            grammar,
-            work: None,
-            screen,
-        }
-    }
-}
-
-/// The outcome of a translation.
-#[derive(Drop)]
-struct Outcome {
-    /// The fault, if the translation failed.
-    result: Result<(), Fault>,
-    /// What the message says of the cause, if the fault is O1 and a cause was found.
-    cause: Option<String>,
-}
-
-impl Outcome {
-    /// Returns the outcome of a translation that succeeded.
-    fn success() -> Outcome {
-        Outcome {
-            result: Ok(()),
-            cause: None,
-        }
-    }
-
-    /// Returns the outcome of a translation that failed, without a cause.
-    fn failure(fault: Fault) -> Outcome {
-        Outcome {
-            result: Err(fault),
-            cause: None,
-        }
-    }
-}
-
-impl<R: Files + Print + Eprint + Clock> TranslationRun<'_, R> {
-    /// Translates a sentence into memory, and writes the translation to the file at `path`. Fails
-    /// as `run` and `write_file` do, but with NoMemory if `run` fails with O2
-    /// (`without_write_fault`).
-    pub fn write(&self, sentence: Source<'_>, path: &str) -> Result<(), FaultReport> {
-        let mut text = Vec::new(self.alloc);
-        self.run(sentence, &mut text).map_err(without_write_fault)?;
-        write_file(self.rt, self.alloc, path, text.as_slice())
-    }
-
-    /// Translates a sentence, and writes the translation to `out`. On failure returns a report
-    /// (`report_of`). The progress begins with pass 0, whose file the parser writes.
-    fn run<W: Write>(&self, sentence: Source<'_>, out: &mut W) -> Result<(), FaultReport> {
-        let Outcome { result, cause } = match self.screen.progress(self.rt, self.translator, 0) {
-            Some(progress) => self.run_shown(sentence, &progress, out),
-            None => self.run_unseen(sentence, out),
-        };
-        match result {
-            Ok(()) => Ok(()),
-            Err(fault) => Err(with_cause(self.report_of(fault, sentence), cause)),
-        }
-    }
-
-    /// Returns the report of a fault. With `--work`, the report names the folder of the tree files
-    /// after F1 and D1. In all other cases returns the report of `report_of_sentence`.
-    fn report_of(&self, fault: Fault, sentence: Source<'_>) -> FaultReport {
-        match (fault, self.work) {
-            (fault @ (Fault::File | Fault::Device), Some(folder)) => {
-                FaultReport::of_file(self.alloc, fault, folder)
-            }
-            (fault, _) => report_of_sentence(self.alloc, fault, self.translator, sentence),
-        }
-    }
-
-    /// Returns the outcome of a translation with the result `translated` and the devices `a` and
-    /// `b`. If it failed with O1, and the root's `out` is an error, looks for the cause in the last
-    /// tree file. (After O1 the devices contain the last two tree files.)
-    fn outcome_of<D: Device>(
-        &self,
-        translated: Result<aggen::Report, Fault>,
-        sentence: Source<'_>,
-        a: &mut D,
-        b: &mut D,
-    ) -> Outcome {
-        match translated {
-            Ok(_) => Outcome::success(),
-            Err(fault) => {
-                let finder = CauseFinder {
-                    translator: self.translator,
-                    grammar: self.grammar,
-                    sentence: Some(sentence),
-                };
-                let cause = finder.cause_of(self.alloc, &fault, a, b);
-                Outcome {
-                    result: Err(fault),
-                    cause,
-                }
-            }
-        }
-    }
-
-    /// Translates a sentence with two devices, and writes the translation to `out`.
-    fn translate_on<D: Device, W: Write>(
-        &self,
-        sentence: Source<'_>,
-        a: &mut D,
-        b: &mut D,
-        out: &mut W,
-    ) -> Outcome {
-        let translated = self.translator.translate(sentence.bytes, a, b, out);
-        self.outcome_of(translated, sentence, a, b)
-    }
-
-    /// Translates a sentence without showing the progress, and writes the translation to `out`.
-    fn run_unseen<W: Write>(&self, sentence: Source<'_>, out: &mut W) -> Outcome {
-        match self.work {
-            Some(folder) => self.run_in(folder, sentence, out),
-            None => {
-                let mut a = SharedDevice::new(self.alloc);
-                let mut b = SharedDevice::new(self.alloc);
-                self.translate_on(sentence, &mut a, &mut b, out)
-            }
-        }
-    }
-
-    /// Translates a sentence with the tree files in a folder, without showing the progress, and
-    /// writes the translation to `out`. The fault, if there is one, is that of `WorkFiles::open` or
-    /// of `WorkFiles::translate`.
-    fn run_in<W: Write>(&self, folder: &str, sentence: Source<'_>, out: &mut W) -> Outcome {
-        match open_work(self.rt, self.alloc, folder) {
-            Ok(mut files) => {
-                let translated = files.translate(self.alloc, self.translator, sentence.bytes, out);
-                self.outcome_of(translated, sentence, &mut files.a, &mut files.b)
-            }
-            Err(fault) => Outcome::failure(fault),
-        }
-    }
-
-    /// Translates a sentence into memory, and shows the progress. Then erases the line of progress,
-    /// and writes the translation to `out`. The cause of an error is looked for in the inner
-    /// devices, so no progress is shown meanwhile.
-    fn run_shown<W: Write>(
-        &self,
-        sentence: Source<'_>,
-        progress: &Progress<'_, R>,
-        out: &mut W,
-    ) -> Outcome {
-        let mut text = Vec::new(self.alloc);
-        let outcome = match self.work {
-            Some(folder) => self.run_shown_in(folder, sentence, &*progress, &mut text),
-            None => {
-                let mut a = ShownDevice::new(SharedDevice::new(self.alloc), &*progress);
-                let mut b = ShownDevice::new(SharedDevice::new(self.alloc), &*progress);
-                let bytes = sentence.bytes;
-                let translated = self.translator.translate(bytes, &mut a, &mut b, &mut text);
-                let (mut a, mut b) = (a.into_inner(), b.into_inner());
-                self.outcome_of(translated, sentence, &mut a, &mut b)
-            }
-        };
-        progress.erase();
-        Outcome {
-            result: write_translation(outcome.result, text.as_slice(), out),
-            cause: outcome.cause,
-        }
-    }
-
-    /// Translates a sentence to `text` with the tree files in a folder, and shows the progress.
-    /// The fault, if there is one, is that of `WorkFiles::open`, of `WorkFiles::finish` or of the
-    /// translation. If both `finish` and the translation fail, it is that of `finish`.
-    fn run_shown_in(
-        &self,
-        folder: &str,
-        sentence: Source<'_>,
-        progress: &Progress<'_, R>,
-        text: &mut Vec<u8>,
-    ) -> Outcome {
-        let WorkFiles { a, b } = match open_work(self.rt, self.alloc, folder) {
-            Ok(files) => files,
-            Err(fault) => return Outcome::failure(fault),
-        };
-        let mut a = ShownDevice::new(a, progress);
-        let mut b = ShownDevice::new(b, progress);
-        let translated = self
-            .translator
-            .translate(sentence.bytes, &mut a, &mut b, text);
-        let mut files = WorkFiles {
-            a: a.into_inner(),
-            b: b.into_inner(),
-        };
-        let outcome = self.outcome_of(translated, sentence, &mut files.a, &mut files.b);
-        match files.finish() {
-            Ok(()) => outcome,
-            Err(fault) => Outcome::failure(Fault::from(fault)),
-        }
-    }
-}
-
-/// Opens the tree files a.agt and b.agt in a folder, each with a new record of calls. Fails as
-/// `WorkFiles::open` does.
-pub(crate) fn open_work<R: Files>(
-    rt: &R,
-    alloc: Global,
-    folder: &str,
-) -> Result<WorkFiles<R::File>, Fault> {
-    WorkFiles::open(rt, alloc, folder, CallRecord::new(), CallRecord::new())
-}
-
-/// Writes a translation that was made in memory. `translated` is the result of making it, and
-/// `text` is the translation. Fails with O2 if a write to `out` fails, or accepts none of the
-/// bytes; a prefix of `text` was then written. If `translated` is a failure, writes nothing, and
-/// fails with the fault of `translated`. If this fault is O2, fails with NoMemory instead: a write
-/// to a buffer in memory fails only if memory is refused.
-pub fn write_translation<W: Write>(
-    translated: Result<(), Fault>,
-    text: &[u8],
-    out: &mut W,
-) -> Result<(), Fault>
-    ensures written { OnOk result (Appends (W.contents out.old) (W.contents out.new) text.now) }
-    ensures begins { OnOk translated (OnErr result
-        (AppendsBeginning (W.contents out.old) (W.contents out.new) text.now)) }
-    ensures refused { IfErr result (λ e. e ≢ Fault.Write → out.new ≡ out.old) }
-    ensures failed { IsErr translated → IfErr result (λ e. e ≢ Fault.Write) × IsErr result }
-{
-    match translated {
-        Ok(()) => match write_bytes(out, text) {
-            Ok(()) => Ok(()),
-            Err(_) => Err(Fault::Write),
-        },
-        Err(Fault::Write) => Err(Fault::NoMemory),
-        Err(fault) => Err(fault),
-    }
-}
-
-/// Returns the report of a failed translation into memory, with NoMemory instead of O2: a write to
-/// a buffer in memory fails only if memory is refused.
-pub fn without_write_fault(mut report: FaultReport) -> FaultReport
-    ensures { result.fault ≢ Fault.Write }
-{
-    if matches!(report.fault, Fault::Write) {
-        report.fault = Fault::NoMemory;
-    }
-    report
+    let translator = build_translator(session.alloc, grammar)?;
+    let text = TranslationRun::in_memory(&translator, grammar).translate(session, sentence)?;
+    session.write(None, text.as_slice())
 }

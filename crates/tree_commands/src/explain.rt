@@ -10,7 +10,7 @@ use agoutput::write_text;
 use command_line::{ExplainWords, NodeWords, PlaceInSentence};
 use message_parts::display::PlainText;
 use messages::{FaultReport, Position, Source};
-use program_io::{build_translator, open_tree, read_input};
+use program_io::{Session, build_translator};
 use std::alloc::{AllocError, Global};
 use std::io;
 use std::rt::Files;
@@ -38,19 +38,19 @@ use value_reasons::{ExplainedTree, NodeRequest, write_errors};
 /// have been printed before O2, NoMemory or D1, and before R1 if something changes the file
 /// meanwhile.
 pub fn explain_tree<R: Files + Input + Print>(
-    rt: &R,
-    alloc: Global,
+    session: &mut Session<'_, R>,
     words: &ExplainWords<'_>,
 ) -> Result<(), FaultReport> {
-    let bytes = read_input(rt, alloc, words.grammar)?;
+    let (rt, alloc) = (session.rt, session.alloc);
+    let bytes = session.read(words.grammar)?;
     let source = Source::new(words.grammar.name(), bytes.as_slice());
     let translator = build_translator(alloc, source)?;
-    let sentence = read_sentence(rt, alloc, words.node)?;
+    let sentence = read_sentence(session, words.node)?;
     let path = match TreePath::find(rt, alloc, words.tree) {
         Ok(path) => path,
         Err(_) => return Err(no_memory(alloc)),
     };
-    let mut tree = open_tree(rt, alloc, path.as_str())?;
+    let mut tree = session.open_tree(path.as_str())?;
     let explaining = ExplanationRun {
         translator: &translator,
         source,
@@ -64,13 +64,12 @@ pub fn explain_tree<R: Files + Input + Print>(
 /// Returns the bytes of the sentence, if the command line names the node by line and column, and
 /// otherwise no bytes. Fails if the sentence can't be read, and if memory is refused.
 fn read_sentence<R: Files + Input>(
-    rt: &R,
-    alloc: Global,
+    session: &mut Session<'_, R>,
     node: NodeWords<'_>,
 ) -> Result<Vec<u8>, FaultReport> {
     match node {
-        NodeWords::At(place) => read_input(rt, alloc, place.sentence),
-        NodeWords::None | NodeWords::Path(_) => Ok(Vec::new(alloc)),
+        NodeWords::At(place) => session.read(place.sentence),
+        NodeWords::None | NodeWords::Path(_) => Ok(Vec::new(session.alloc)),
     }
 }
 

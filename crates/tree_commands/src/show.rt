@@ -5,7 +5,7 @@ use ag_grammar::Grammar;
 use aggen::{Fault, Translator};
 use command_line::ShowWords;
 use messages::FaultReport;
-use program_io::{open_tree, read_translator};
+use program_io::Session;
 use std::alloc::Global;
 use std::io;
 use std::rt::Files;
@@ -27,13 +27,12 @@ use treefile::Device;
 /// The records are read again while they are printed. So a part of the output may have been printed
 /// before O2, NoMemory or D1, and before R1 if something changes the file meanwhile.
 pub fn show_tree<R: Files + Input + Print>(
-    rt: &R,
-    alloc: Global,
+    session: &mut Session<'_, R>,
     words: &ShowWords<'_>,
 ) -> Result<(), FaultReport> {
-    let translator = read_translator(rt, alloc, words.grammar)?;
-    let mut tree = open_tree(rt, alloc, words.tree)?;
-    show_device(rt, alloc, &translator, words, &mut tree)
+    let translator = session.read_translator(words.grammar)?;
+    let mut tree = session.open_tree(words.tree)?;
+    show_device(session.rt, session.alloc, &translator, words, &mut tree)
 }
 
 /// Prints the nodes of the tree file on a device. Fails as `show_tree` does.

@@ -245,6 +245,15 @@ impl<F: Read + Write + Seek + OpenFile> FileDevice<F> {
     }
 }
 
+impl<F: Drop> FileDevice<F> {
+    /// Closes the file, and returns the record of its calls. Loses the bytes that are buffered.
+    pub fn into_calls(self) -> CallRecord
+        ensures { result.events ≡ self.events }
+    {
+        self.file.into_calls()
+    }
+}
+
 impl<F: Read + Write + Seek + OpenFile> Device for FileDevice<F> {
     ghost content = { content_of };
 

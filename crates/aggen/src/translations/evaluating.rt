@@ -4,7 +4,7 @@
 ghost use Rattle.std.specs.Prelude.{◌≡◌, IfErr, IfOk, IsErrOf};
 ghost use Rattle.aggen.specs.Building.{IsLeastPlan};
 ghost use Rattle.aggen.specs.Evaluating.{IsTreeFaultBeforeText, LeavesFilesOfTree};
-ghost use Rattle.passrun.specs.Rounds.{LeavesSomeFile, other_last};
+ghost use Rattle.passrun.specs.Rounds.{LeavesSomeFile};
 ghost use Rattle.treefile.specs.devices.Device.{LeavesContent, WhenHonest};
 ghost use Rattle.treefile.specs.devices.Several.{ThreePersist};
 
@@ -12,19 +12,9 @@ use crate::translations::report::Report;
 use crate::translator::Translator;
 use ag_eval::Meter;
 use ag_fault::Fault;
-use passrun::{Last, run_all, run_pass};
+use passrun::{run_all, run_pass};
 use planchecker::Plan;
 use treefile::Device;
-
-/// Returns the device, of two, that is not `last`.
-fn other(last: Last) -> Last
-    ensures { result ≡ other_last last }
-{
-    match last {
-        Last::A => Last::B,
-        Last::B => Last::A,
-    }
-}
 
 impl Translator {
     /// Runs all passes of the plan over the tree whose file is on the device `tree`. Pass 1 reads
@@ -66,7 +56,7 @@ impl Translator {
             evals: meter.count(),
             read: first.read + others.read,
             written: first.written + others.written,
-            last: other(last),
+            last: last.other(),
         })
     }
 }

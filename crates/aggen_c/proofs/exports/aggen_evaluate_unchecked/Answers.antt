@@ -1,4 +1,5 @@
-use Rattle.aggen_c.specs.Results.{IsEvaluationOf, IsEvaluationRefusal}
+use Rattle.aggen.specs.Results.{IsEvaluationOf}
+use Rattle.aggen_c.specs.Results.{IsEvaluationRefusal}
 use Rattle.aggen_c.proofs.Answered.{answered}
 use Rattle.aggen_c.proofs.exports.aggen_evaluate_unchecked.Goals as goal
 

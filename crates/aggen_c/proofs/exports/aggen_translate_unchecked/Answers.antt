@@ -1,4 +1,5 @@
-use Rattle.aggen_c.specs.Results.{IsTranslationOf, IsTranslationRefusal}
+use Rattle.aggen.specs.Results.{IsTranslationOf}
+use Rattle.aggen_c.specs.Results.{IsTranslationRefusal}
 use Rattle.aggen_c.proofs.Answered.{answered}
 use Rattle.aggen_c.proofs.exports.aggen_translate_unchecked.Goals as goal
 

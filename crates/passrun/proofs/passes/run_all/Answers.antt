@@ -1,5 +1,5 @@
-use Rattle.passrun.proofs.Common.{inl, suc, ◌≡◌, ◌+◌, ◌-◌, refl, ◌∙◌, arith, err_from_is_err_and, A}
-use Rattle.passrun.specs.Rounds.{other_content}
+use Rattle.passrun.proofs.Common.{inl, suc, ◌≡◌, ◌+◌, ◌-◌, refl, sym, ap, ◌∙◌, arith, err_from_is_err_and, A}
+use Rattle.passrun.specs.Rounds.{last_after, other_content, other_last}
 use Rattle.passrun.proofs.course.Stepping.{all_goes_on, all_refused, all_starts, greatest_most, left_again, persists_on}
 use Rattle.passrun.proofs.course.Stepping.{persists_still}
 use Rattle.passrun.proofs.Totals.{greatest_is_last, solutions_left}
@@ -22,6 +22,9 @@ loop-done-init g c =
       written = omega arith;
       a_left = λ h. (0, inl refl);
       b_left = λ h. (0, inl refl);
+      which =
+          let none : (c.args.first - 1) - (c.args.first - 1) ≡ 0 = omega arith in
+          rw none refl;
       far = λ same. refl;
       runs =
           λ ha hb. all_starts refl (omega arith);
@@ -56,6 +59,9 @@ loop-done-preserved g c =
           left_again _ _ _ (old.a_left (c.in_ok-passed.ensures.devices.first.honest h)) (c.next_pass.ensures.a_left h);
       b_left = λ h.
           left_again _ _ _ (old.b_left (c.in_ok-passed.ensures.devices.second.honest h)) (c.next_pass.ensures.b_left h);
+      which =
+          let more : c.loop-done.done + 1 - (c.args.first - 1) ≡ suc (c.loop-done.done - (c.args.first - 1)) = omega arith in
+          c.other-last.ensures ∙ ap other_last old.which ∙ sym (ap last_after more);
       far = λ same. absurd (omega arith);
       runs = λ ha hb.
           let next : c.loop-done.done + 1 ≡ suc c.loop-done.done = omega arith in
@@ -75,6 +81,15 @@ returns-clause-passed g c = λ passes is ha hb.
     let end = c.loop-done-test.false in
     let same : c.loop-done.done ≡ passes = omega arith in
     rw (← same) (c.loop-done.invariant.runs ha hb)
+
+pub returns-clause-which : goal.returns-clause-which
+returns-clause-which g c = λ passes is.
+    let a = greatest_most is c.last_pass-passes.ensures in
+    let b = greatest_most c.last_pass-passes.ensures is in
+    let high = c.loop-done.invariant.high in
+    let end = c.loop-done-test.false in
+    let same : c.loop-done.done ≡ passes = omega arith in
+    rw (← same) c.loop-done.invariant.which
 
 -- From pass 1 on, the passes compute the solution.
 pub returns-clause-solution : goal.returns-clause-solution

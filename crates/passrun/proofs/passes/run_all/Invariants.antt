@@ -1,5 +1,5 @@
 use Rattle.passrun.proofs.Common.{◌≡◌, ◌+◌, ◌-◌, ◌*◌, ◌≤◌, max_nodes, passes_of, Persists, WhenHonest}
-use Rattle.passrun.specs.Rounds.{HasRunAll, LeavesSomeFile}
+use Rattle.passrun.specs.Rounds.{HasRunAll, LeavesSomeFile, last_after}
 use Rattle.passrun.proofs.passes.run_all.Given as goal
 
 abbrev pub invariant-loop-done : goal.invariant-loop-done
@@ -17,6 +17,7 @@ invariant-loop-done g l = record {
   written : l.sum.written ≤ l.done * 1048576;
   a_left : WhenHonest (g.D.Device.is_honest l.a) (LeavesSomeFile (g.D.Device.content l.fn.a) (g.D.Device.content l.a));
   b_left : WhenHonest (g.D.Device.is_honest l.b) (LeavesSomeFile (g.D.Device.content l.fn.b) (g.D.Device.content l.b));
+  which : l.last ≡ last_after (l.done - (l.first - 1));
   far : l.done ≡ l.first - 1 → g.D.Device.content l.b ≡ g.D.Device.content l.fn.b;
   runs : WhenHonest (g.D.Device.is_honest l.a)
       (WhenHonest (g.D.Device.is_honest l.b)

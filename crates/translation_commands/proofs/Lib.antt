@@ -1,0 +1,3 @@
+pub mod Batches
+pub mod Evaluated
+pub mod Translated
