@@ -2,7 +2,8 @@
 
 Some versions of the toolchain keep no library from one run to the next, so without these tools/archive would have to prove all of
 them again. tools/gate keeps them as soon as `rt ci` has proved the crate: all crates below it are proved then. They are hard links,
-so they take no time and little space; later runs of `rt` don't reach them.
+so they take no time and little space; later runs of `rt` don't reach them. Each file's name has a suffix, since `rt ci` refuses a
+file of .rt or .antt that belongs to no crate.
 """
 import os
 import shutil
@@ -16,6 +17,7 @@ from rooms import TOP, below, crates_in, link_or_copy
 
 CRATE = "aggen_c"
 FOLDER = TOP / "out" / "libraries"
+SUFFIX = ".kept"
 
 
 def sources():
@@ -29,6 +31,15 @@ def lower_crates():
     return below(CRATE, uses) if CRATE in uses else []
 
 
+def copy(folder, to, name_of):
+    """Links or copies all files below a folder, each to the name that `name_of` returns for its name."""
+    for file in folder.rglob("*"):
+        if file.is_file():
+            path = to / file.relative_to(folder)
+            path.parent.mkdir(parents=True, exist_ok=True)
+            link_or_copy(file, path.with_name(name_of(file.name)))
+
+
 def keep(began_with):
     """Links the libraries that `rt ci` has just proved, if they are of the sources that it began with. Keeps all of them or none:
     they fit only each other. A library with rt's stamp is of an earlier run."""
@@ -40,14 +51,19 @@ def keep(began_with):
         return
     new.mkdir(parents=True)
     for name, it in left.items():
-        shutil.copytree(it / f"{name}.rlib", new / f"{name}.rlib", copy_function=link_or_copy)
+        copy(it / f"{name}.rlib", new / f"{name}.rlib", lambda file: file + SUFFIX)
     (new / "sources").write_text(began_with, encoding="utf-8")
     os.replace(new, FOLDER)
 
 
 def kept():
-    """Returns the folder of each library that is kept for the sources that are there now, by the crate's name."""
+    """Returns the names of the crates whose libraries are kept for the sources that are there now."""
     file = FOLDER / "sources"
     if not file.is_file() or file.read_text(encoding="utf-8") != sources():
-        return {}
-    return {it.stem: it for it in FOLDER.glob("*.rlib")}
+        return []
+    return [it.stem for it in FOLDER.glob("*.rlib")]
+
+
+def give(name, to):
+    """Copies the kept library of a crate to a new folder."""
+    copy(FOLDER / f"{name}.rlib", to, lambda file: file.removesuffix(SUFFIX))
