@@ -87,7 +87,10 @@ impl<F: Read + Write + Seek + OpenFile> WorkFiles<FileDevice<F>> {
 
 impl WorkFiles<SharedDevice> {
     /// Returns two empty devices in memory. Takes no memory itself.
-    pub fn in_memory(alloc: Global) -> WorkFiles<SharedDevice> {
+    pub fn in_memory(alloc: Global) -> WorkFiles<SharedDevice>
+        ensures a { result.a ≡ [] }
+        ensures b { result.b ≡ [] }
+    {
         WorkFiles {
             a: SharedDevice::new(alloc),
             b: SharedDevice::new(alloc),

@@ -54,11 +54,10 @@ pub record HasValueLine (text line : List ℕ) : Type 0 where
   pub has : HasValue text shown
   pub is : line ≡ value_line shown
 
--- Why there is no such line: X1 to X4 are true of the text, which has no value. For NoMemory, and for D1 of the device in memory,
--- nothing is claimed, and no other fault is possible.
+-- Why there is no such line: X1 to X4 are true of the text, which has no value. For NoMemory nothing is claimed, and no other fault
+-- is possible.
 abbrev pub IsValueFault : (text : List ℕ) → Fault → Type 0
 IsValueFault text (fault.Expr e) = IsReason text e × HasNoValue text
-IsValueFault text fault.Device = Unit {0}
 IsValueFault text fault.NoMemory = Unit {0}
 IsValueFault text _ = ⊥
 

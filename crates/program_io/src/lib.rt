@@ -13,10 +13,7 @@ mod session;
 mod tree_paths;
 
 pub use files::{build_translator, report_of_sentence};
-pub use overlaps::{
-    WORK_FILES, check_inputs, check_new_tree, check_output, check_output_among, check_translation,
-    check_tree, check_work_files, ids_of,
-};
+pub use overlaps::{CheckedInput, INPUT_IS_WRITTEN, TREE_IS_WRITTEN, WORK_FILES};
 pub use paths::path_in;
 pub use same_file::FileId;
 pub use session::Session;

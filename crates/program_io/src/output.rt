@@ -5,10 +5,9 @@ ghost use Rattle.program_io.specs.Sessions.{IsOutputFault};
 
 use crate::paths::{folder_of, path_in};
 use crate::same_file::FileId;
+use crate::session::Session;
 use aggen::{Fault, fault_or};
 use agoutput::write_bytes;
-use messages::FaultReport;
-use std::alloc::Global;
 use std::fs::{self, OpenFile, OpenOptions, Permissions};
 use std::io::{self, ErrorKind};
 use std::rt::Files;
@@ -19,55 +18,140 @@ const MAX_LINKS: usize = 40;
 /// The greatest number of names that are tried for a new file. Another run may be using a name.
 const MAX_NAMES: u32 = 1_000;
 
-/// Writes a translation to the file at `path`:
-///
-/// - prints it if the file is a regular one and also standard output. A new file in its place would
-///   not be standard output;
-/// - appends it to a file that is not a regular one, and to any existing file whose path begins
-///   with /dev/ (but not /dev/shm/) or /proc/;
-/// - replaces any other file by a new one with the same mode, and creates a missing file, in both
-///   cases with the whole translation or not at all.
-///
-/// Fails with F1 if the file can't be examined, opened or created, if its mode can't be set, or if
-/// its links can't be followed. Fails with O2 if a write fails or takes no byte, or if the new file
-/// can't be renamed. The report of F1 and O2 names the file. Fails with NoMemory if memory is
-/// refused.
-pub fn write_file<R: Files + Print>(
-    rt: &R,
-    alloc: Global,
-    path: &str,
-    bytes: &[u8],
-) -> Result<(), FaultReport>
-    ensures { IfErr result (λ report. IsOutputFault report.fault) }
-{
-    match put(rt, alloc, path, bytes) {
-        Ok(()) => Ok(()),
-        Err(Fault::NoMemory) => Err(FaultReport::new(alloc, Fault::NoMemory)),
-        Err(fault) => Err(FaultReport::new(alloc, fault).with_file(alloc, path)),
+impl<R: Files + Print> Session<'_, R> {
+    /// Writes a translation to the file at `path`:
+    ///
+    /// - prints it if the file is a regular one and also standard output. A new file in its place
+    ///   would not be standard output;
+    /// - appends it to a file that is not a regular one, and to any existing file whose path begins
+    ///   with /dev/ (but not /dev/shm/) or /proc/;
+    /// - replaces any other file by a new one with the same mode, and creates a missing file, in
+    ///   both cases with the whole translation or not at all.
+    ///
+    /// Fails with F1 if the file can't be examined, opened or created, if its mode can't be set, or
+    /// if its links can't be followed. Fails with O2 if a write fails or takes no byte, or if the
+    /// new file can't be renamed. Fails with NoMemory if memory is refused.
+    pub(crate) fn write_file(&self, path: &str, bytes: &[u8]) -> Result<(), Fault>
+        ensures { IfErr result IsOutputFault }
+    {
+        let standard = FileId::of_standard_output(self.rt)?;
+        match fs::metadata(self.rt, path) {
+            Ok(found) if standard == Some(FileId::of(&found)) => self.print(bytes),
+            Ok(found) if found.is_file() && !is_of_system(path) => {
+                // only to fail if the file can't be written: a rename would replace it all the same
+                self.open_to_append(path)?;
+                self.replace(path, bytes, Some(found.permissions()))
+            }
+            Ok(_) => {
+                let mut file = self.open_to_append(path)?;
+                write_bytes(&mut file, bytes).map_err(Fault::from)
+            }
+            Err(error) if error.kind() == ErrorKind::NotFound => self.replace(path, bytes, None),
+            Err(error) => Err(fault_or(&error, Fault::File)),
+        }
     }
 }
 
-/// Writes bytes to the file at `path`, as `write_file` does. Fails with the fault that the report
-/// of `write_file` contains.
-fn put<R: Files + Print>(rt: &R, alloc: Global, path: &str, bytes: &[u8]) -> Result<(), Fault>
-    ensures { IfErr result IsOutputFault }
-{
-    let standard = FileId::of_standard_output(rt)?;
-    match fs::metadata(rt, path) {
-        Ok(found) if standard == Some(FileId::of(&found)) => {
-            write_bytes(&mut io::writer(rt), bytes).map_err(Fault::from)
+impl<R: Print> Session<'_, R> {
+    /// Prints bytes on standard output. Fails with O2 if a write fails or takes no byte.
+    pub(crate) fn print(&self, bytes: &[u8]) -> Result<(), Fault>
+        ensures { IfErr result IsOutputFault }
+    {
+        write_bytes(&mut io::writer(self.rt), bytes).map_err(Fault::from)
+    }
+}
+
+impl<R: Files> Session<'_, R> {
+    /// Opens the existing file at `path` to write at its end. Fails with F1 if it can't be opened,
+    /// and with NoMemory if memory is refused.
+    fn open_to_append(&self, path: &str) -> Result<R::File, Fault>
+        ensures { IfErr result IsOutputFault }
+    {
+        let mut how = OpenOptions::new();
+        how.append(true);
+        how.open(self.rt, path)
+            .map_err(|error| fault_or(&error, Fault::File))
+    }
+
+    /// Writes bytes to a new file, with the mode `mode` if there is one. Once the new file has all
+    /// bytes, renames it to the path that the links at `path` lead to, so that symbolic links stay.
+    /// If a step after its creation fails, removes the new file. Fails as `target_of`,
+    /// `create_beside` and `fill` do, and with O2 if the new file can't be renamed.
+    fn replace(&self, path: &str, bytes: &[u8], mode: Option<Permissions>) -> Result<(), Fault>
+        ensures { IfErr result IsOutputFault }
+    {
+        let path = self.target_of(path)?;
+        let (new, file) = self.create_beside(path.as_str())?;
+        let replaced = match fill(file, bytes, mode) {
+            Ok(()) => fs::rename(self.rt, new.as_str(), path.as_str()).map_err(|error| fault_or(
+                &error,
+                Fault::Write,
+            )),
+            Err(fault) => Err(fault),
+        };
+        if replaced.is_err() {
+            // the new file is of no use; nothing more can be done if it can't be removed
+            let _ = fs::remove_file(self.rt, new.as_str());
         }
-        Ok(found) if found.is_file() && !is_of_system(path) => {
-            // only to fail if the file can't be written: a rename would replace it all the same
-            open_to_append(rt, path)?;
-            replace(rt, alloc, path, bytes, Some(found.permissions()))
+        replaced
+    }
+
+    /// Returns the path that the links at `path` lead to. No file need exist there. Fails with F1
+    /// if there are more than `MAX_LINKS` links, or if a link can't be read, and with NoMemory if
+    /// memory is refused.
+    fn target_of(&self, path: &str) -> Result<String, Fault>
+        ensures { IfErr result IsOutputFault }
+    {
+        let mut target = String::from_str(self.alloc, path)?;
+        // the last iteration only finds out whether there is another link after `MAX_LINKS` links
+        for _ in 0..=MAX_LINKS {
+            match fs::symlink_metadata(self.rt, target.as_str()) {
+                Ok(found) if found.is_symlink() => target = self.link_at(target.as_str())?,
+                Ok(_) => return Ok(target),
+                Err(error) => match fault_or(&error, Fault::File) {
+                    Fault::NoMemory => return Err(Fault::NoMemory),
+                    // `create_beside` fails later if a file can't be created there
+                    _ => return Ok(target),
+                },
+            }
         }
-        Ok(_) => {
-            let mut file = open_to_append(rt, path)?;
-            write_bytes(&mut file, bytes).map_err(Fault::from)
+        Err(Fault::File)
+    }
+
+    /// Returns the path that the link at `path` leads to. Fails with F1 if the link can't be read,
+    /// and with NoMemory if memory is refused.
+    fn link_at(&self, path: &str) -> Result<String, Fault>
+        ensures { IfErr result IsOutputFault }
+    {
+        let link = match self.rt.read_link(self.alloc, path) {
+            Ok(link) => link,
+            Err(error) => return Err(fault_or(&error, Fault::File)),
+        };
+        let link = link.as_str();
+        if link.starts_with('/') {
+            return Ok(String::from_str(self.alloc, link)?);
         }
-        Err(error) if error.kind() == ErrorKind::NotFound => replace(rt, alloc, path, bytes, None),
-        Err(error) => Err(fault_or(&error, Fault::File)),
+        Ok(path_in(self.alloc, folder_of(path), link)?)
+    }
+
+    /// Creates a new file in the folder of `path`, and returns its path and the file. Fails with F1
+    /// if the file can't be created, or if all `MAX_NAMES` names are in use, and with NoMemory if
+    /// memory is refused.
+    fn create_beside(&self, path: &str) -> Result<(String, R::File), Fault>
+        ensures { IfErr result IsOutputFault }
+    {
+        let mut how = OpenOptions::new();
+        how.write(true).create_new(true);
+        for number in 0..MAX_NAMES {
+            let name = format!(in self.alloc; ".aggen-{number}.part")?;
+            let new = path_in(self.alloc, folder_of(path), name.as_str())?;
+            match how.open(self.rt, new.as_str()) {
+                Ok(file) => return Ok((new, file)),
+                Err(error) if error.kind() == ErrorKind::AlreadyExists => {}
+                Err(error) => return Err(fault_or(&error, Fault::File)),
+            }
+        }
+        Err(Fault::File)
     }
 }
 
@@ -77,47 +161,6 @@ fn put<R: Files + Print>(rt: &R, alloc: Global, path: &str, bytes: &[u8]) -> Res
 fn is_of_system(path: &str) -> bool {
     let is_device = path.starts_with("/dev/") && !path.starts_with("/dev/shm/");
     is_device || path.starts_with("/proc/")
-}
-
-/// Opens the existing file at `path` to write at its end. Fails with F1 if it can't be opened, and
-/// with NoMemory if memory is refused.
-fn open_to_append<R: Files>(rt: &R, path: &str) -> Result<R::File, Fault>
-    ensures { IfErr result IsOutputFault }
-{
-    let mut how = OpenOptions::new();
-    how.append(true);
-    how.open(rt, path)
-        .map_err(|error| fault_or(&error, Fault::File))
-}
-
-/// Writes bytes to a new file, with the mode `mode` if there is one. Once the new file has all
-/// bytes, renames it to the path that the links at `path` lead to, so that symbolic links stay. If
-/// a step after its creation fails, removes the new file. Fails as `target_of`, `create_beside` and
-/// `fill` do, and with O2 if the new file can't be renamed.
-fn replace<R: Files>(
-    rt: &R,
-    alloc: Global,
-    path: &str,
-    bytes: &[u8],
-    mode: Option<Permissions>,
-) -> Result<(), Fault>
-    ensures { IfErr result IsOutputFault }
-{
-    let path = target_of(rt, alloc, path)?;
-    let (new, file) = create_beside(rt, alloc, path.as_str())?;
-    let filled = fill(file, bytes, mode);
-    let renamed = match filled {
-        Ok(()) => fs::rename(rt, new.as_str(), path.as_str()).map_err(|error| fault_or(
-            &error,
-            Fault::Write,
-        )),
-        Err(fault) => Err(fault),
-    };
-    if renamed.is_err() {
-        // the new file is of no use; nothing more can be done if it can't be removed
-        let _ = fs::remove_file(rt, new.as_str());
-    }
-    renamed
 }
 
 /// Sets the mode of a new file to `mode`, if there is one, and writes bytes to the file. Fails with
@@ -135,62 +178,4 @@ fn fill<F: io::Write + OpenFile + Drop>(
             .map_err(|error| fault_or(&error, Fault::File))?;
     }
     write_bytes(&mut file, bytes).map_err(Fault::from)
-}
-
-/// Returns the path that the links at `path` lead to. No file need exist there. Fails with F1 if
-/// there are more than `MAX_LINKS` links, or if a link can't be read, and with NoMemory if memory
-/// is refused.
-fn target_of<R: Files>(rt: &R, alloc: Global, path: &str) -> Result<String, Fault>
-    ensures { IfErr result IsOutputFault }
-{
-    let mut target = String::from_str(alloc, path)?;
-    // the last iteration only finds out whether there is another link after `MAX_LINKS` links
-    for _ in 0..=MAX_LINKS {
-        match fs::symlink_metadata(rt, target.as_str()) {
-            Ok(found) if found.is_symlink() => target = link_at(rt, alloc, target.as_str())?,
-            Ok(_) => return Ok(target),
-            Err(error) => match fault_or(&error, Fault::File) {
-                Fault::NoMemory => return Err(Fault::NoMemory),
-                // `create_beside` fails later if a file can't be created there
-                _ => return Ok(target),
-            },
-        }
-    }
-    Err(Fault::File)
-}
-
-/// Returns the path that the link at `path` leads to. Fails with F1 if the link can't be read, and
-/// with NoMemory if memory is refused.
-fn link_at<R: Files>(rt: &R, alloc: Global, path: &str) -> Result<String, Fault>
-    ensures { IfErr result IsOutputFault }
-{
-    let link = match rt.read_link(alloc, path) {
-        Ok(link) => link,
-        Err(error) => return Err(fault_or(&error, Fault::File)),
-    };
-    let link = link.as_str();
-    if link.starts_with('/') {
-        return Ok(String::from_str(alloc, link)?);
-    }
-    Ok(path_in(alloc, folder_of(path), link)?)
-}
-
-/// Creates a new file in the folder of `path`, and returns its path and the file. Fails with F1 if
-/// the file can't be created, or if all `MAX_NAMES` names are in use, and with NoMemory if memory
-/// is refused.
-fn create_beside<R: Files>(rt: &R, alloc: Global, path: &str) -> Result<(String, R::File), Fault>
-    ensures { IfErr result IsOutputFault }
-{
-    let mut how = OpenOptions::new();
-    how.write(true).create_new(true);
-    for number in 0..MAX_NAMES {
-        let name = format!(in alloc; ".aggen-{number}.part")?;
-        let new = path_in(alloc, folder_of(path), name.as_str())?;
-        match how.open(rt, new.as_str()) {
-            Ok(file) => return Ok((new, file)),
-            Err(error) if error.kind() == ErrorKind::AlreadyExists => {}
-            Err(error) => return Err(fault_or(&error, Fault::File)),
-        }
-    }
-    Err(Fault::File)
 }

@@ -2,8 +2,8 @@
 
 use ag_value::NoMemory;
 use aggen::{Fault, fault_or};
+use command_line::InputPath;
 use std::fs::{self, Metadata};
-use std::io;
 use std::os::unix::fs::MetadataExt;
 use std::rt::Files;
 
@@ -34,27 +34,28 @@ impl FileId {
     /// Returns the identity of the regular file at `path`, through links. Returns `None` if no
     /// regular file is there, or if the system's call fails. Fails if memory is refused.
     pub fn at<R: Files>(rt: &R, path: &str) -> Result<Option<FileId>, NoMemory> {
-        match fs::metadata(rt, path) {
-            Ok(metadata) if metadata.is_file() => Ok(Some(FileId::of(&metadata))),
-            Ok(_) => Ok(None),
-            Err(error) => none_or_refused(&error),
+        match found_at(rt, path)? {
+            Some(found) if found.is_file() => Ok(Some(FileId::of(&found))),
+            _ => Ok(None),
         }
     }
 
     /// Returns the identity of the folder at `path`, through links. Returns `None` if no folder is
     /// there, or if the system's call fails. Fails if memory is refused.
     pub fn of_folder<R: Files>(rt: &R, path: &str) -> Result<Option<FileId>, NoMemory> {
-        match fs::metadata(rt, path) {
-            Ok(metadata) if metadata.is_dir() => Ok(Some(FileId::of(&metadata))),
-            Ok(_) => Ok(None),
-            Err(error) => none_or_refused(&error),
+        match found_at(rt, path)? {
+            Some(found) if found.is_dir() => Ok(Some(FileId::of(&found))),
+            _ => Ok(None),
         }
     }
 
-    /// Returns the identity of standard input if it is a regular file, else `None`. Fails if memory
-    /// is refused.
-    pub fn of_standard_input<R: Files>(rt: &R) -> Result<Option<FileId>, NoMemory> {
-        FileId::at(rt, STANDARD_INPUT)
+    /// Returns the identity of an input if it is a regular file, else `None`. Fails if memory is
+    /// refused.
+    pub fn of_input<R: Files>(rt: &R, input: InputPath<'_>) -> Result<Option<FileId>, NoMemory> {
+        match input {
+            InputPath::Standard => FileId::at(rt, STANDARD_INPUT),
+            InputPath::File(path) => FileId::at(rt, path),
+        }
     }
 
     /// Returns the identity of standard output if it is a regular file, else `None`. Fails if
@@ -64,11 +65,14 @@ impl FileId {
     }
 }
 
-/// Returns `None` for a call of the file system that failed with `error`. Fails with NoMemory if
-/// the call failed because memory was refused.
-fn none_or_refused(error: &io::Error) -> Result<Option<FileId>, NoMemory> {
-    match fault_or(error, Fault::File) {
-        Fault::NoMemory => Err(NoMemory::NoMemory),
-        _ => Ok(None),
+/// Returns the metadata of the file at `path`, through links. Returns `None` if nothing is there, or
+/// if the system's call fails. Fails if memory is refused.
+pub fn found_at<R: Files>(rt: &R, path: &str) -> Result<Option<Metadata>, NoMemory> {
+    match fs::metadata(rt, path) {
+        Ok(found) => Ok(Some(found)),
+        Err(error) if matches!(fault_or(&error, Fault::File), Fault::NoMemory) => {
+            Err(NoMemory::NoMemory)
+        }
+        Err(_) => Ok(None),
     }
 }

@@ -1,26 +1,24 @@
 //! A run of the program: what it reads, writes and reports, with the record of that.
 
-ghost use Rattle.std.specs.Prelude.{◌≡◌, ◌⊎◌, [], IfErr, IfOk, OnOk, is_ok, true, false};
+ghost use Rattle.std.specs.Prelude.{◌≡◌, ◌⊎◌, [], IfErr, IfOk, Ok, OnOk, is_ok, true, false};
 ghost use Rattle.aggen_files.specs.Opening.{IsOpeningFault};
 ghost use Rattle.program_io.specs.Commands.{IsNoGrammar, OfGrammar};
 ghost use Rattle.program_io.specs.Sessions.{HasReported, IsInputFault, IsOutputFault, after, path_of};
 ghost use Rattle.program_io.specs.Sessions.{read_event};
 ghost use Rattle.run_record.specs.Events.{open_event, report_event, standard_event, write_event};
 
-use crate::files::{build_translator, report_of_input};
-use crate::output::write_file;
+use crate::files::build_translator;
 use crate::tree_paths::open_tree;
+use ag_grammar::limits::MAX_TEXT_BYTES;
 use ag_job::{JobFault, ReadFault, read_prefix};
-use aggen::{Fault, Translator, bytes_of, source_of};
+use aggen::{Fault, Translator, source_of};
 use aggen_files::{Watch, Watched, WorkFiles};
-use agoutput::write_bytes;
 use command_line::InputPath;
 use messages::{FaultReport, Source};
 use noted_file::CallRecord;
 use run_record::RunRecord;
 use screen::{Progress, Screen};
 use std::alloc::Global;
-use std::io;
 use std::marker::Model;
 use std::rt::{Clock, Files};
 use treefile::FileDevice;
@@ -93,6 +91,19 @@ impl<'a, R: Clock + Eprint> Session<'a, R> {
     }
 }
 
+impl<R> Session<'_, R> {
+    /// Returns what a call returned, or the report of refused memory if it failed.
+    pub fn granted<T, E: Drop>(&self, given: Result<T, E>) -> Result<T, FaultReport>
+        ensures granted { IfOk given (λ value. result ≡ Ok value) }
+        ensures refused { IfErr result (λ report. report.fault ≡ Fault.NoMemory) }
+    {
+        match given {
+            Ok(value) => Ok(value),
+            Err(_) => Err(FaultReport::new(self.alloc, Fault::NoMemory)),
+        }
+    }
+}
+
 impl<R: Files + Input> Session<'_, R> {
     /// Reads a grammar or a sentence: the bytes that its reader returns until it returns none, but
     /// at most the first 1,048,577. That is one more than a grammar or a sentence may have, so a
@@ -106,16 +117,17 @@ impl<R: Files + Input> Session<'_, R> {
             self.new ≡ after (read_event input.entry bytes.items) self.old) }
         ensures refused { IfErr result (λ report. IsInputFault report.fault × (self.new ≡ self.old)) }
     {
-        let bytes = match input {
-            InputPath::Standard => bytes_of(self.alloc, self.rt.reader()),
-            InputPath::File(path) => source_of(self.rt, self.alloc, path),
+        let path = match input {
+            InputPath::Standard => return self.read_standard(MAX_TEXT_BYTES as u64 + 1),
+            InputPath::File(path) => path,
         };
-        match bytes {
+        match source_of(self.rt, self.alloc, path) {
             Ok(bytes) => {
-                self.note_read(input, bytes.as_slice());
+                self.noted
+                    .note(&[FILE, 1], path.as_bytes(), bytes.as_slice());
                 Ok(bytes)
             }
-            Err(fault) => Err(report_of_input(self.alloc, fault, input)),
+            Err(fault) => Err(FaultReport::of_file(self.alloc, fault, path)),
         }
     }
 }
@@ -135,16 +147,6 @@ impl<R: Files + Input> Session<'_, R> {
 }
 
 impl<R> Session<'_, R> {
-    /// Records that an input was read.
-    fn note_read(&mut self, input: InputPath<'_>, bytes: &[u8])
-        ensures { self.new ≡ after (read_event input.entry bytes.now) self.old }
-    {
-        match input {
-            InputPath::Standard => self.noted.note(&[STANDARD, 1], &[], bytes),
-            InputPath::File(path) => self.noted.note(&[FILE, 1], path.as_bytes(), bytes),
-        }
-    }
-
     /// Records that an output was written, or that writing it failed.
     fn note_written(&mut self, is_ok: bool, output: Option<&str>, bytes: &[u8])
         ensures { self.new ≡ after (write_event is_ok (path_of output.entry) bytes.now) self.old }
@@ -159,29 +161,24 @@ impl<R> Session<'_, R> {
 
 impl<R: Files + Print> Session<'_, R> {
     /// Writes an output: to the file at the path `output` (`write_file`), or to standard output if
-    /// there is none. Fails as `write_file` does, and with O2 if a write to standard output fails or
-    /// takes no byte.
+    /// there is none (`print`). Fails as these do. The report of a fault of a file names it.
     pub fn write(&mut self, output: Option<&str>, bytes: &[u8]) -> Result<(), FaultReport>
         ensures written { self.new
             ≡ after (write_event (is_ok result) (path_of output.entry) bytes.now) self.old }
         ensures refused { IfErr result (λ report. IsOutputFault report.fault) }
     {
         let written = match output {
-            Some(path) => write_file(self.rt, self.alloc, path, bytes),
-            None => print_bytes(self.rt, self.alloc, bytes),
+            Some(path) => self.write_file(path, bytes),
+            None => self.print(bytes),
         };
         self.note_written(written.is_ok(), output, bytes);
-        written
-    }
-}
-
-/// Prints bytes on standard output. Fails with O2 if a write fails or takes no byte.
-fn print_bytes<R: Print>(rt: &R, alloc: Global, bytes: &[u8]) -> Result<(), FaultReport>
-    ensures { IfErr result (λ report. IsOutputFault report.fault) }
-{
-    match write_bytes(&mut io::writer(rt), bytes) {
-        Ok(()) => Ok(()),
-        Err(_) => Err(FaultReport::new(alloc, Fault::Write)),
+        match (written, output) {
+            (Ok(()), _) => Ok(()),
+            (Err(fault @ (Fault::File | Fault::Write)), Some(path)) => {
+                Err(FaultReport::new(self.alloc, fault).with_file(self.alloc, path))
+            }
+            (Err(fault), _) => Err(FaultReport::new(self.alloc, fault)),
+        }
     }
 }
 

@@ -4,11 +4,11 @@
 ghost use Rattle.std.specs.Prelude.{◌≡◌, IfErr};
 ghost use Rattle.program_io.specs.Sessions.{IsInputFault};
 
-use aggen::{Fault, fault_or};
+use crate::same_file::found_at;
+use aggen::Fault;
 use messages::FaultReport;
 use noted_file::CallRecord;
 use std::alloc::Global;
-use std::fs;
 use std::os::unix::fs::FileTypeExt;
 use std::rt::Files;
 use treefile::FileDevice;
@@ -46,15 +46,14 @@ pub fn open_tree<R: Files>(
 pub fn check_tree_path<R: Files>(rt: &R, alloc: Global, path: &str) -> Result<(), FaultReport>
     ensures { IfErr result (λ report. IsInputFault report.fault) }
 {
-    match fs::metadata(rt, path) {
-        Ok(found) if found.is_dir() => Err(misfit(alloc, path, FOLDER, NAME_IN_FOLDER)),
-        Ok(found) if found.file_type().is_fifo() => Err(misfit(alloc, path, PIPE, NAME_REGULAR)),
+    match found_at(rt, path) {
+        Ok(Some(found)) if found.is_dir() => Err(misfit(alloc, path, FOLDER, NAME_IN_FOLDER)),
+        Ok(Some(found)) if found.file_type().is_fifo() => {
+            Err(misfit(alloc, path, PIPE, NAME_REGULAR))
+        }
+        // if nothing is there, or the call failed, the call that opens the file later fails too
         Ok(_) => Ok(()),
-        Err(error) => match fault_or(&error, Fault::File) {
-            Fault::NoMemory => Err(FaultReport::new(alloc, Fault::NoMemory)),
-            // nothing is there, or the call that opens the file later fails too
-            _ => Ok(()),
-        },
+        Err(_) => Err(FaultReport::new(alloc, Fault::NoMemory)),
     }
 }
 

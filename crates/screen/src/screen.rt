@@ -100,75 +100,34 @@ impl Screen {
 /// Returns whether the environment allows colours: `NO_COLOR` is missing or empty, or can't be
 /// read.
 fn allows_colors<R: Env + AllocGlobal>(rt: &R) -> bool {
-    match std::env::var(rt, "NO_COLOR") {
-        Ok(value) => value.is_empty(),
-        Err(_) => true,
-    }
+    std::env::var(rt, "NO_COLOR").map_or(true, |value| value.is_empty())
 }
 
 /// Returns whether the terminal is dumb, which means that it shows text alone: `TERM` is `dumb` or
 /// missing, or can't be read.
 fn is_dumb<R: Env + AllocGlobal>(rt: &R) -> bool {
-    match std::env::var(rt, "TERM") {
-        Ok(value) => value.as_str() == "dumb",
-        Err(_) => true,
-    }
+    std::env::var(rt, "TERM").map_or(true, |value| value.as_str() == "dumb")
 }
 
 /// Returns `line`, the line of a report, with the fault's number and the place marked; `None` if
-/// memory is refused.
+/// memory is refused. The number is the part before the first space, without the colon in
+/// `usage: ..`. The place is a file with line and column, which comes before the parts, or a file
+/// alone, at the end of the line. A position without a file is not marked.
 fn marked_line(alloc: Global, report: &FaultReport, line: &str) -> Option<String> {
-    let fault = report.fault.to_string(alloc).ok()?;
-    let (fault, rest) = parts_at(line, fault.len());
-    let (number, offset) = parts_at(fault, number_len(fault));
-    let (before, place) = parts_at(rest, place_start(report, rest));
-    let (place, after) = parts_at(place, place_len(alloc, report)?);
-    if place.is_empty() {
-        return format!(in alloc; "{NUMBER}{number}{END}{offset}{rest}").ok();
-    }
-    format!(in alloc; "{NUMBER}{number}{END}{offset}{before}{PLACE}{place}{END}{after}").ok()
-}
-
-/// Returns the number of bytes of the part of a fault's text that is marked: the part before the
-/// first space, or the whole text if it has no space. A colon before that space, as in
-/// `usage: ..`, is not marked.
-fn number_len(fault: &str) -> usize {
-    match fault.split_once(' ') {
-        Some((word, _)) => word.trim_end_matches(':').len(),
-        None => fault.len(),
-    }
-}
-
-/// Returns the offset in bytes of a report's place in `rest`, the part of the line after the fault.
-/// A line and a column, with or without a file, come after ` (`, which has 2 bytes. A file without
-/// them is at the end of `rest`. Returns 0 if there is neither.
-fn place_start(report: &FaultReport, rest: &str) -> usize {
-    match (report.location, &report.file) {
-        (Location::At(_), _) => 2,
-        (_, Some(file)) => rest.len().saturating_sub(file.len()),
-        (_, None) => 0,
-    }
-}
-
-/// Returns the number of bytes of a report's place: a file with line and column, or a file alone.
-/// Returns 0 if the report has no file. A position without a file is not marked. Returns `None` if
-/// memory is refused.
-fn place_len(alloc: Global, report: &FaultReport) -> Option<usize> {
-    match (report.location, &report.file) {
-        (Location::At(Position { line, column }), Some(file)) => {
-            let place = format!(in alloc; "{}:{line}:{column}", file.as_str()).ok()?;
-            Some(place.len())
-        }
-        (_, Some(file)) => Some(file.len()),
-        (_, None) => Some(0),
-    }
-}
-
-/// Returns the parts of a text before and after an offset in bytes. If the offset is greater than
-/// the length, or divides a character, returns the whole text and an empty text.
-fn parts_at(text: &str, at: usize) -> (&str, &str) {
-    match text.split_at_checked(at) {
-        Some(parts) => parts,
-        None => (text, ""),
-    }
+    let word = line.split(' ').next()?;
+    let (number, rest) = line.split_at_checked(word.trim_end_matches(':').len())?;
+    let file = match &report.file {
+        Some(file) if !file.is_empty() => file.as_str(),
+        _ => return format!(in alloc; "{NUMBER}{number}{END}{rest}").ok(),
+    };
+    let place = match report.location {
+        Location::At(Position { line, column }) => format!(in alloc; "{file}:{line}:{column}"),
+        Location::Whole | Location::InFault => String::from_str(alloc, file),
+    };
+    let place = place.ok()?;
+    let (before, after) = match report.location {
+        Location::At(_) => rest.split_once(place.as_str())?,
+        Location::Whole | Location::InFault => rest.rsplit_once(place.as_str())?,
+    };
+    format!(in alloc; "{NUMBER}{number}{END}{before}{PLACE}{place}{END}{after}").ok()
 }

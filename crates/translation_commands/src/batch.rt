@@ -7,16 +7,12 @@ ghost use Rattle.translation_commands.specs.Batches.{AreDone, IsDone, IsRefusedB
 ghost use Rattle.translation_commands.specs.Batches.{sooner, status_of_first};
 
 use crate::translations::TranslationRun;
-use aggen::{Fault, fault_or, status};
+use aggen::{Fault, status};
 use command_line::{BatchPaths, InputPath, file_name_of};
 use message_parts::display::PlainText;
 use messages::{FaultReport, Source};
-use program_io::{
-    Session, build_translator, check_inputs, check_output, check_output_among, check_work_files,
-    ids_of, path_in,
-};
+use program_io::{CheckedInput, FileId, INPUT_IS_WRITTEN, Session, build_translator, path_in};
 use std::alloc::{AllocError, Global};
-use std::fs;
 use std::process::ExitCode;
 use std::rt::{Clock, Files};
 
@@ -42,10 +38,8 @@ pub fn run_sentences<R: Files + Input + Print + Eprint + Clock>(
         IsRefusedBatch paths.now session.old session.new report.fault) }
 {
     let alloc = session.alloc;
-    let Ok(tasks) = tasks_of(alloc, paths) else {
-        return Err(FaultReport::new(alloc, Fault::NoMemory));
-    };
-    check_batch(session.rt, alloc, paths, tasks.as_slice())?;
+    let tasks = session.granted(tasks_of(alloc, paths))?;
+    check_batch(session, paths, tasks.as_slice())?;
     let text = session.read(paths.grammar)?;
     let grammar = Source::new(paths.grammar.name(), text.as_slice());
     let translator = build_translator(alloc, grammar)?;
@@ -133,59 +127,36 @@ fn translate<R: Files + Input + Print + Eprint + Clock>(
     }
 }
 
-/// Fails if an input is one of the tree files of `--work`, if one of these is a folder or a pipe
-/// (F1), if a translation's file is an input or one of these tree files, if the folder for the
-/// translations is not one (F1), and if memory is refused.
+/// Fails as `run_sentences` does before it reads the grammar.
 fn check_batch<R: Files>(
-    rt: &R,
-    alloc: Global,
+    session: &Session<'_, R>,
     paths: &BatchPaths<'_>,
     tasks: &[Task<'_>],
 ) -> Result<(), FaultReport>
     ensures { IfErr result (λ report. IsInputFault report.fault) }
 {
-    if let Some(folder) = paths.work {
-        check_work_files(rt, alloc, folder)?;
-        check_inputs(rt, alloc, &[paths.grammar], folder)?;
-        check_sentences(rt, alloc, tasks, folder)?;
-    }
-    let Ok(ids) = ids_of(rt, alloc, paths.sentences.as_slice()) else {
-        return Err(FaultReport::new(alloc, Fault::NoMemory));
-    };
+    let inputs = session.granted(inputs_of(session.alloc, paths))?;
+    let ids = session.check_inputs(inputs.as_slice(), paths.work)?;
     for task in tasks {
-        let output = task.output.as_str();
-        check_output_among(rt, alloc, output, ids.as_slice())?;
-        check_output(rt, alloc, output, &[paths.grammar], paths.work)?;
+        session.check_output(Some(task.output.as_str()), ids.as_slice(), paths.work)?;
     }
-    check_folder(rt, alloc, paths.folder)
+    match session.granted(FileId::of_folder(session.rt, paths.folder))? {
+        Some(_) => Ok(()),
+        None => Err(FaultReport::of_file(session.alloc, Fault::File, paths.folder)),
+    }
 }
 
-/// Fails if a sentence is one of the tree files in a folder, and if memory is refused.
-fn check_sentences<R: Files>(
-    rt: &R,
+/// Returns the grammar and the sentences, in this order. Fails if memory is refused.
+fn inputs_of<'a>(
     alloc: Global,
-    tasks: &[Task<'_>],
-    folder: &str,
-) -> Result<(), FaultReport>
-    ensures { IfErr result (λ report. IsInputFault report.fault) }
-{
-    for task in tasks {
-        check_inputs(rt, alloc, &[InputPath::File(task.sentence)], folder)?;
+    paths: &BatchPaths<'a>,
+) -> Result<Vec<CheckedInput<'a>>, AllocError> {
+    let mut inputs = Vec::new(alloc);
+    inputs.push(CheckedInput(paths.grammar, INPUT_IS_WRITTEN))?;
+    for sentence in paths.sentences.iter() {
+        inputs.push(CheckedInput(InputPath::File(*sentence), INPUT_IS_WRITTEN))?;
     }
-    Ok(())
-}
-
-/// Fails with F1 if `path` is not a folder or can't be examined, and with NoMemory if memory is
-/// refused.
-fn check_folder<R: Files>(rt: &R, alloc: Global, path: &str) -> Result<(), FaultReport>
-    ensures { IfErr result (λ report. IsInputFault report.fault) }
-{
-    let fault = match fs::metadata(rt, path) {
-        Ok(found) if found.is_dir() => return Ok(()),
-        Ok(_) => Fault::File,
-        Err(error) => fault_or(&error, Fault::File),
-    };
-    Err(FaultReport::of_file(alloc, fault, path))
+    Ok(inputs)
 }
 
 /// Returns a report with the path of the sentence. If the report has no file, the path becomes its

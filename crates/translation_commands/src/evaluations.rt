@@ -3,7 +3,7 @@
 ghost use Rattle.std.specs.Prelude.{◌≡◌, ◌≢◌, [], IfErr, IfOk, OnOk, Some};
 ghost use Rattle.aggen.specs.Evaluating.{EvaluatesTree, IsEvaluationFault};
 ghost use Rattle.aggen.specs.declared.translations.report.Report.{Report};
-ghost use Rattle.program_io.specs.Sessions.{IsInputFault, path_of};
+ghost use Rattle.program_io.specs.Sessions.{path_of};
 ghost use Rattle.treefile.specs.devices.Device.{LeavesContent};
 ghost use Rattle.treefile.specs.devices.Several.{Lasts};
 ghost use Rattle.translation_commands.specs.Evaluations.{Evaluated, EvaluatesFile, HasEvaluated, IsRefusedEvaluation};
@@ -15,9 +15,7 @@ use aggen::{Fault, Translator};
 use aggen_files::{Silent, Watch, WorkDevice, WorkFiles};
 use command_line::{EvalPaths, InputPath};
 use messages::{FaultReport, Source};
-use program_io::{
-    Session, build_translator, check_inputs, check_translation, check_tree, check_work_files,
-};
+use program_io::{CheckedInput, INPUT_IS_WRITTEN, Session, TREE_IS_WRITTEN, build_translator};
 use std::alloc::Global;
 use std::rt::{Clock, Files};
 use treefile::{Device, MemDevice};
@@ -44,7 +42,11 @@ pub fn evaluate<R: Files + Input + Print + Eprint + Clock>(
         (path_of paths.now.output) (path_of paths.now.work) session.old session.new
         report.fault) }
 {
-    check_eval(session.rt, session.alloc, paths)?;
+    let inputs = [
+        CheckedInput(paths.tree, TREE_IS_WRITTEN),
+        CheckedInput(paths.grammar, INPUT_IS_WRITTEN),
+    ];
+    session.check_files(&inputs, paths.output, paths.work)?;
     let text = session.read(paths.grammar)?;
     let grammar = Source::new(paths.grammar.name(), text.as_slice());
     let translator = build_translator(session.alloc, grammar)?;
@@ -55,19 +57,6 @@ pub fn evaluate<R: Files + Input + Print + Eprint + Clock>(
         work: paths.work,
     };
     run.deliver(session, paths.output)
-}
-
-/// Fails as `evaluate` does before it reads the grammar.
-fn check_eval<R: Files>(rt: &R, alloc: Global, paths: &EvalPaths<'_>) -> Result<(), FaultReport>
-    ensures { IfErr result (λ report. IsInputFault report.fault) }
-{
-    if let Some(folder) = paths.work {
-        check_work_files(rt, alloc, folder)?;
-        check_tree(rt, alloc, paths.tree, folder)?;
-        check_inputs(rt, alloc, &[paths.grammar], folder)?;
-    }
-    let inputs = [paths.grammar, paths.tree];
-    check_translation(rt, alloc, paths.output, &inputs, paths.work)
 }
 
 /// What an evaluation needs.

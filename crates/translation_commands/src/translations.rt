@@ -2,7 +2,7 @@
 
 ghost use Rattle.std.specs.Prelude.{◌≡◌, ◌≢◌, [], IfErr, IfOk, None, OnOk, Some};
 ghost use Rattle.aggen.specs.Translating.{IsTranslationFault, TranslatesSentence};
-ghost use Rattle.program_io.specs.Sessions.{IsInputFault, path_of};
+ghost use Rattle.program_io.specs.Sessions.{path_of};
 ghost use Rattle.translation_commands.specs.Runs.{Delivers, IsRefusedJob, IsRefusedRun, IsUndelivered, IsUntranslated};
 ghost use Rattle.translation_commands.specs.Runs.{DeliversJob, IsUndeliveredJob, RunsJob, RunsSentence};
 ghost use Rattle.translation_commands.specs.Runs.{Translated, opened};
@@ -14,10 +14,7 @@ use aggen::{Fault, Translator};
 use aggen_files::{Silent, Watch, WorkDevice, WorkFiles};
 use command_line::{InputPath, RunPaths};
 use messages::{FaultReport, Source};
-use program_io::{
-    Session, build_translator, check_inputs, check_translation, check_work_files,
-    report_of_sentence,
-};
+use program_io::{CheckedInput, INPUT_IS_WRITTEN, Session, build_translator, report_of_sentence};
 use std::alloc::Global;
 use std::rt::{Clock, Files};
 
@@ -42,7 +39,11 @@ pub fn run_sentence<R: Files + Input + Print + Eprint + Clock>(
         (path_of paths.now.output) (path_of paths.now.work) session.old session.new
         report.fault) }
 {
-    check_run(session.rt, session.alloc, paths)?;
+    let inputs = [
+        CheckedInput(paths.grammar, INPUT_IS_WRITTEN),
+        CheckedInput(paths.sentence, INPUT_IS_WRITTEN),
+    ];
+    session.check_files(&inputs, paths.output, paths.work)?;
     let text = session.read(paths.grammar)?;
     let grammar = Source::new(paths.grammar.name(), text.as_slice());
     let translator = build_translator(session.alloc, grammar)?;
@@ -52,18 +53,6 @@ pub fn run_sentence<R: Files + Input + Print + Eprint + Clock>(
         work: paths.work,
     };
     run.deliver(session, paths.sentence, paths.output)
-}
-
-/// Fails as `run_sentence` does before it reads the grammar.
-fn check_run<R: Files>(rt: &R, alloc: Global, paths: &RunPaths<'_>) -> Result<(), FaultReport>
-    ensures { IfErr result (λ report. IsInputFault report.fault) }
-{
-    let inputs = [paths.grammar, paths.sentence];
-    if let Some(folder) = paths.work {
-        check_work_files(rt, alloc, folder)?;
-        check_inputs(rt, alloc, &inputs, folder)?;
-    }
-    check_translation(rt, alloc, paths.output, &inputs, paths.work)
 }
 
 /// Translates the job on standard input, with its tree files in memory, and prints the translation.

@@ -17,7 +17,7 @@ use aggen_files::{parse_to_file, upgrade_file};
 use agoutput::nodes_line;
 use command_line::{ParsePaths, UpgradePaths};
 use messages::{ConvertedPaths, FaultReport, Source};
-use program_io::{Session, check_new_tree, report_of_sentence};
+use program_io::{CheckedInput, INPUT_IS_WRITTEN, Session, report_of_sentence};
 use std::rt::Files;
 use treefile::FileDevice;
 
@@ -36,8 +36,11 @@ pub fn parse_file<R: Files + Input + Print>(
     ensures refused { IfErr result (λ report.
         IsRefusedParse paths.now session.old session.new report.fault) }
 {
-    let inputs = [paths.grammar, paths.sentence];
-    check_new_tree(session.rt, session.alloc, paths.tree, &inputs)?;
+    let inputs = [
+        CheckedInput(paths.grammar, INPUT_IS_WRITTEN),
+        CheckedInput(paths.sentence, INPUT_IS_WRITTEN),
+    ];
+    session.check_new_tree(paths.tree, &inputs)?;
     let translator = session.read_translator(paths.grammar)?;
     parse_with(session, &translator, paths)
 }
@@ -120,7 +123,7 @@ pub fn convert_file<R: Files + Input + Print>(
     ensures refused { IfErr result (λ report.
         IsRefusedConversion paths.now session.old session.new report.fault) }
 {
-    check_new_tree(session.rt, session.alloc, paths.tree, &[paths.grammar])?;
+    session.check_new_tree(paths.tree, &[CheckedInput(paths.grammar, INPUT_IS_WRITTEN)])?;
     let translator = session.read_translator(paths.grammar)?;
     convert_with(session, &translator, paths)
 }
