@@ -51,13 +51,12 @@ pub use Rattle.normalform.specs.faults.Faults.{in_productive, in_reached, in_rul
 pub use Rattle.normalform.specs.faults.Faults.{limit_checks, missing_at, missing_check, missing_checks, missing_in, name_check}
 pub use Rattle.normalform.specs.faults.Faults.{naming_checks, new_check, new_target, next_index, not_defined_here, not_defined_in}
 pub use Rattle.normalform.specs.faults.Faults.{not_normal, not_normal_in, numbers_defined, occurrence_check, rule_checks}
+pub use Rattle.normalform.specs.faults.Faults.{literal_limits, production_limits, symbol_limits}
 pub use Rattle.normalform.specs.faults.Faults.{rule_kinds, same_target, start_checks, symbol_checks, targets_of, unknown_checks}
 pub use Rattle.normalform.specs.faults.Faults.{unknown_in, used_check, with_name, with_rule, with_symbol, with_target}
-pub use Rattle.normalform.specs.faults.Found.{IsFoundAt}
 pub use Rattle.normalform.specs.faults.PlacedItem.{item_placed}
 pub use Rattle.normalform.specs.faults.Readable.{is_separator, readable_in, readable_item}
 pub use Rattle.normalform.specs.faults.ReferenceChecks.{check_of_occurrence, checks_of, checks_of_production, checks_of_rule}
-pub use Rattle.normalform.specs.faults.Underivable.{IsFirstUnderivable}
 pub use Rattle.normalform.specs.numbers.Numbers.{classes_of, declared, declared_names, is_class, item_of, literals_of, names_at}
 pub use Rattle.normalform.specs.numbers.Numbers.{number_in, numbered, placed, production_of, rule_of, stored_of, symbol_of}
 pub use Rattle.normalform.specs.numbers.Numbers.{target_of, with_item, with_production, with_text}

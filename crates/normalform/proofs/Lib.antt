@@ -1,3 +1,4 @@
 pub mod Common
 pub mod found
+pub mod Listing
 pub mod numbered

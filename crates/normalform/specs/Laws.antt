@@ -1,5 +1,5 @@
 -- Laws about raw grammars and their faults, and a worked example.
-use Rattle.std.specs.Prelude.{ℕ, ◌≡◌, [], ◌∷◌, All}
+use Rattle.std.specs.Prelude.{ℕ, ◌≡◌, ◌↔◌, List, [], ◌∷◌, All}
 use Rattle.ag_grammar.specs.declared.grammar.Item.TheVariants as item
 use Rattle.ag_grammar.specs.declared.grammar.Terminal.TheVariants.{Literal, Class}
 use Rattle.ag_grammar.specs.grammars.Accepted.{IsAccepted}
@@ -9,6 +9,7 @@ use Rattle.ag_grammar.specs.declared.raw.RawItem.TheVariants as raw_item
 use Rattle.ag_grammar.specs.declared.raw.RawProduction.{RawProduction}
 use Rattle.ag_grammar.specs.declared.raw.RawSymbol.{RawSymbol}
 use Rattle.normalform.specs.declared.fault.NormalFault.{NormalFault}
+use Rattle.normalform.specs.faults.AllFaults.{AreFaults}
 use Rattle.normalform.specs.faults.Faults.{IsFirstFault, HasNoFault, IsReadable, AreListedIn}
 use Rattle.normalform.specs.numbers.Numbers.{numbered}
 
@@ -29,6 +30,19 @@ OneFirstFault = (raw : RawGrammar) (f h : NormalFault) → IsFirstFault raw f �
 -- A raw grammar that has no fault has no first fault.
 abbrev pub NoFirstFaultWithoutFault : Type 0
 NoFirstFaultWithoutFault = (raw : RawGrammar) (f : NormalFault) → IsFirstFault raw f → HasNoFault raw → ⊥
+
+-- A raw grammar has one list of faults.
+abbrev pub OneList : Type 0
+OneList = (raw : RawGrammar) (xs ys : List NormalFault) → AreFaults raw xs → AreFaults raw ys → xs ≡ ys
+
+-- The head of the list of faults is the first fault.
+abbrev pub HeadIsFirst : Type 0
+HeadIsFirst = (raw : RawGrammar) (f : NormalFault) (fs : List NormalFault) → AreFaults raw (f ∷ fs) → IsFirstFault raw f
+
+-- The list of faults is empty exactly if the numbered grammar is accepted. The premises are those of `AcceptedWithoutFault`.
+abbrev pub NoneIfAccepted : Type 0
+NoneIfAccepted = (raw : RawGrammar) → IsReadable raw → All AreListedIn (numbered raw).productions
+    → AreFaults raw [] ↔ IsAccepted (numbered raw)
 
 -- The worked example: the production S = "x" NAME "y" "x" S of one symbol S. In the numbered grammar the second "x" has the
 -- number of the first, and S the number 0. Texts are lists of ASCII codes: 83 is S, 120 is x, and 121 is y. `named c` is the name

@@ -1,8 +1,8 @@
--- The faults of a raw grammar, and the result of the search for them.
-pub mod ReferenceChecks
+-- The faults of a raw grammar.
+pub mod AllFaults
 pub mod Clauses
+pub mod FaultList
 pub mod Faults
-pub mod Found
-pub mod Underivable
 pub mod PlacedItem
 pub mod Readable
+pub mod ReferenceChecks

@@ -1,191 +1,151 @@
-//! Checking a raw grammar: the result is the numbered grammar, or the first fault.
-ghost use Rattle.std.specs.Prelude.{◌≡◌, map, All, Some, None, IfOk, IfErr, IfSome};
+//! Checking a raw grammar: the result is the numbered grammar, or the first fault, or the list of
+//! all faults.
+ghost use Rattle.std.specs.Prelude.{◌≡◌, [], map, All, IfOk, IfErr, OnOk};
 ghost use Rattle.ag_grammar.specs.grammars.Accepted.{IsAccepted};
 ghost use Rattle.ag_grammar.specs.grammars.Order.{IsInOrder};
-ghost use Rattle.normalform.specs.faults.Faults.{first_wrong, start_checks, naming_checks, rule_kinds};
-ghost use Rattle.normalform.specs.faults.Faults.{further_checks, IsReadable, HasNoFault, IsTrueOf};
-ghost use Rattle.normalform.specs.faults.Faults.{IsFirstFault};
-ghost use Rattle.ag_grammar.specs.grammars.Accepted.{IsProductive, IsReached};
-ghost use Rattle.normalform.specs.faults.Clauses as spec;
-ghost use Rattle.normalform.specs.faults.Faults.{AreAll};
-ghost use Rattle.normalform.specs.faults.Found.{IsFound, IsFoundAt};
+ghost use Rattle.normalform.specs.faults.AllFaults.{AreMarked, IsSearched, AreFaults, IsHead};
+ghost use Rattle.normalform.specs.faults.AllFaults.{IsHeadOrNoMemory};
+ghost use Rattle.normalform.specs.faults.FaultList.{wrong, after_checks};
+ghost use Rattle.normalform.specs.faults.Faults.{naming_checks, rule_kinds, further_checks};
+ghost use Rattle.normalform.specs.faults.Faults.{IsReadable, HasNoFault, IsTrueOf};
 ghost use Rattle.normalform.specs.faults.Faults.{IsSmall, AreListedIn};
 ghost use Rattle.normalform.specs.numbers.Numbers.{symbol_of, declared_names, number_in, production_of};
 ghost use Rattle.normalform.specs.numbers.Numbers.{numbered};
 
 use crate::fault::NormalFault;
 use crate::faults::clause::{clauses_of, reach_edges};
-use crate::faults::limits::first_limit;
-use crate::faults::naming::{first_doubled, first_unknown};
-use crate::faults::rules::{
-    first_doubled_rule, first_missing, first_not_defined, first_not_normal,
+use crate::faults::fault_list::FaultList;
+use crate::faults::limits::push_limits;
+use crate::faults::naming::{push_doubled, push_unknown};
+use crate::faults::rules::{push_doubled_rules, push_missing, push_not_defined, push_not_normal};
+use crate::faults::structure::{
+    SymbolCheck, productive_marks, push_bad_start, push_unmarked, reached_marks,
 };
-use crate::faults::underivable::first_underivable;
 use crate::numbers::declared::Declared;
-use crate::numbers::moving::{move_symbols, name_at};
+use crate::numbers::moving::move_symbols;
 use crate::numbers::numbering::{Numbering, classes_of, literal_texts};
 use ag_grammar::{Grammar, Named, Production, RawGrammar, RawProduction, RawSymbol};
 use ag_value::{Items, NoMemory, Text};
-use closure::{Clause, Clauses, Edge};
 use std::alloc::Global;
 
-/// The first fault, as it is found: N4 and N5 have the number of the symbol. The search borrows the
-/// raw grammar, so the symbol's name is moved into the fault only afterwards (`refusal`).
-#[derive(Drop)]
-enum Found {
-    /// A fault of any kind except N4 and N5.
-    Fault(NormalFault),
-    /// N4: the symbol with this number is not productive.
-    Unproductive(usize),
-    /// N5: the symbol with this number is not reached.
-    Unreachable(usize),
-}
-
-/// Returns N3 if the start symbol is not declared, has an inherited attribute, or has no
-/// synthesized `out`.
-fn bad_start(declared: &Declared<'_>, name: &Named) -> Option<NormalFault>
-    ensures { result ≡ first_wrong (start_checks declared.now name.now) }
-{
-    if declared.is_start(declared.number(name.name.as_str())) {
-        None
-    } else {
-        Some(NormalFault::BadStart)
-    }
-}
-
-/// Returns the first fault of N1 to N3, if there is one.
-fn naming_fault(
+/// Appends the faults N1 to N3.
+#[tactic(auto, using(crate::proofs::Listing::after_both))]
+fn push_naming(
     alloc: Global,
+    faults: &mut FaultList,
     raw: &RawGrammar,
     declared: &Declared<'_>,
-) -> Result<Option<NormalFault>, NoMemory>
+) -> Result<(), NoMemory>
     requires { declared.now ≡ map symbol_of raw.now.symbols }
-    ensures { IfOk result (λ f. f ≡ first_wrong (naming_checks raw.now)) }
+    ensures { OnOk result (faults.new ≡ after_checks faults.old (naming_checks raw.now)) }
 {
-    if let Some(fault) = first_unknown(alloc, declared, raw.productions.as_slice())? {
-        return Ok(Some(fault));
-    }
-    if let Some(fault) = first_doubled(alloc, raw.symbols.as_slice())? {
-        return Ok(Some(fault));
-    }
-    Ok(bad_start(declared, &raw.start))
+    push_unknown(alloc, faults, declared, raw.productions.as_slice())?;
+    push_doubled(alloc, faults, raw.symbols.as_slice())?;
+    push_bad_start(faults, declared, &raw.start)?;
+    Ok(())
 }
 
-/// Returns the first fault of N6 to N9, those of rules, if there is one.
-fn rule_fault(
+/// Appends the faults N4 and N5, for a grammar without N1 to N3.
+fn push_structure(
     alloc: Global,
+    faults: &mut FaultList,
+    raw: &RawGrammar,
+    declared: &Declared<'_>,
+) -> Result<(), NoMemory>
+    requires declared { declared.now ≡ map symbol_of raw.now.symbols }
+    requires names { wrong (naming_checks raw.now) ≡ [] }
+    ensures { OnOk result (AreMarked raw.now faults.old faults.new) }
+{
+    let symbols = raw.symbols.as_slice();
+    let clauses = clauses_of(alloc, declared, raw.productions.as_slice())?;
+    let edges = reach_edges(alloc, clauses.as_slice())?;
+    let productive = productive_marks(alloc, raw, clauses)?;
+    let start = declared.number(raw.start.name.as_str());
+    let reached = reached_marks(alloc, raw, start, edges.as_slice())?;
+    push_unmarked(
+        alloc,
+        SymbolCheck::Productive,
+        faults,
+        productive.as_slice(),
+        symbols,
+    )?;
+    push_unmarked(
+        alloc,
+        SymbolCheck::Reached,
+        faults,
+        reached.as_slice(),
+        symbols,
+    )?;
+    Ok(())
+}
+
+/// Appends the faults N6 to N9, those of rules.
+#[tactic(auto, using(crate::proofs::Listing::after_both))]
+fn push_rule_kinds(
+    alloc: Global,
+    faults: &mut FaultList,
     declared: &Declared<'_>,
     productions: &[RawProduction],
-) -> Result<Option<NormalFault>, NoMemory>
-    ensures { IfOk result (λ f. f ≡ first_wrong (rule_kinds declared.now productions.now)) }
+) -> Result<(), NoMemory>
+    ensures { OnOk result (faults.new ≡ after_checks faults.old
+        (rule_kinds declared.now productions.now)) }
 {
-    if let Some(fault) = first_missing(alloc, declared, productions)? {
-        return Ok(Some(fault));
-    }
-    if let Some(fault) = first_doubled_rule(alloc, declared, productions)? {
-        return Ok(Some(fault));
-    }
-    if let Some(fault) = first_not_defined(alloc, declared, productions)? {
-        return Ok(Some(fault));
-    }
-    first_not_normal(alloc, declared, productions)
+    push_missing(alloc, faults, declared, productions)?;
+    push_doubled_rules(alloc, faults, declared, productions)?;
+    push_not_defined(alloc, faults, declared, productions)?;
+    push_not_normal(alloc, faults, declared, productions)?;
+    Ok(())
 }
 
-/// Returns the first fault of N6 to N10, if there is one.
-fn further_fault(
+/// Appends the faults N6 to N10.
+#[tactic(auto, using(crate::proofs::Listing::after_both))]
+fn push_further(
     alloc: Global,
+    faults: &mut FaultList,
     raw: &RawGrammar,
     declared: &Declared<'_>,
-) -> Result<Option<NormalFault>, NoMemory>
+) -> Result<(), NoMemory>
     requires { declared.now ≡ map symbol_of raw.now.symbols }
-    ensures { IfOk result (λ f. f ≡ first_wrong (further_checks raw.now)) }
+    ensures { OnOk result (faults.new ≡ after_checks faults.old (further_checks raw.now)) }
 {
     let symbols = raw.symbols.as_slice();
     let productions = raw.productions.as_slice();
-    if let Some(fault) = rule_fault(alloc, declared, productions)? {
-        return Ok(Some(fault));
-    }
-    first_limit(alloc, declared, symbols, productions)
+    push_rule_kinds(alloc, faults, declared, productions)?;
+    push_limits(alloc, faults, declared, symbols, productions)?;
+    Ok(())
 }
 
-/// Returns the number of the first symbol that is not productive (N4), if there is one. `clauses`
-/// has a clause for each production: the left side is productive if each symbol of the right side
-/// is. The grammar must have none of N1 to N3. So each symbol of a production is declared, and the
-/// symbol's number is below the count of declared symbols, as `Clauses::new` requires.
-fn unproductive(
-    alloc: Global,
-    raw: &RawGrammar,
-    clauses: Vec<Clause>,
-) -> Result<Option<usize>, NoMemory>
-    requires clauses { clauses.items
-        ≡ spec.clauses_of (map symbol_of raw.now.symbols) raw.now.productions }
-    requires names { first_wrong (naming_checks raw.now) ≡ None }
-    ensures found { IfOk result (λ o. IfSome o (λ n. IsFoundAt raw.now
-        (λ name. NormalFault.Unproductive name) n)) }
-    ensures none { IfOk result (λ o. o ≡ None → AreAll (IsProductive (numbered raw.now)) raw.now) }
-{
-    let clauses = Clauses::new(alloc, clauses, raw.symbols.as_slice().len())?;
-    first_underivable(alloc, &clauses, &[])
-}
-
-/// Returns the number of the first symbol that is not reached (N5), if there is one. `start` is the
-/// number of the start symbol. `edges` has an edge from the left side of each production to each
-/// symbol of its right side. The grammar must have none of N1 to N4, so that N5 is the first fault.
-fn unreachable(
-    alloc: Global,
-    raw: &RawGrammar,
-    start: usize,
-    edges: &[Edge],
-) -> Result<Option<usize>, NoMemory>
-    requires edges { edges.now ≡ spec.reach_edges
-        (spec.clauses_of (map symbol_of raw.now.symbols) raw.now.productions) }
-    requires start { start
-        ≡ number_in (declared_names (map symbol_of raw.now.symbols)) raw.now.start.name }
-    requires names { first_wrong (naming_checks raw.now) ≡ None }
-    requires productive { AreAll (IsProductive (numbered raw.now)) raw.now }
-    ensures found { IfOk result (λ o. IfSome o (λ n. IsFoundAt raw.now
-        (λ name. NormalFault.Unreachable name) n)) }
-    ensures none { IfOk result (λ o. o ≡ None → AreAll (IsReached (numbered raw.now)) raw.now) }
-{
-    let clauses = Clauses::of_edges(alloc, edges, raw.symbols.as_slice().len())?;
-    first_underivable(alloc, &clauses, &[start])
-}
-
-/// Returns the first fault of N4 to N10, if there is one, for a grammar without N1 to N3.
-fn structure_fault(
-    alloc: Global,
-    raw: &RawGrammar,
-    declared: &Declared<'_>,
-) -> Result<Option<Found>, NoMemory>
-    requires declared { declared.now ≡ map symbol_of raw.now.symbols }
-    requires names { first_wrong (naming_checks raw.now) ≡ None }
-    ensures { IfOk result (λ found. IsFound raw.now found) }
-{
-    let clauses = clauses_of(alloc, declared, raw.productions.as_slice())?;
-    let edges = reach_edges(alloc, clauses.as_slice())?;
-    if let Some(number) = unproductive(alloc, raw, clauses)? {
-        return Ok(Some(Found::Unproductive(number)));
-    }
-    let start = declared.number(raw.start.name.as_str());
-    if let Some(number) = unreachable(alloc, raw, start, edges.as_slice())? {
-        return Ok(Some(Found::Unreachable(number)));
-    }
-    if let Some(fault) = further_fault(alloc, raw, declared)? {
-        return Ok(Some(Found::Fault(fault)));
-    }
-    Ok(None)
-}
-
-/// Returns the first fault of a raw grammar, if there is one. Fails with `NoMemory` if memory is
+/// Returns the faults of a raw grammar, or only the first one. Fails with `NoMemory` if memory is
 /// refused.
-fn first_fault(alloc: Global, raw: &RawGrammar) -> Result<Option<Found>, NoMemory>
-    ensures { IfOk result (λ found. IsFound raw.now found) }
+fn found_faults(alloc: Global, raw: &RawGrammar, only_first: bool) -> Result<FaultList, NoMemory>
+    ensures { IfOk result (λ faults. IsSearched raw.now only_first faults) }
 {
     let declared = Declared::new(alloc, raw.symbols.as_slice())?;
-    if let Some(fault) = naming_fault(alloc, raw, &declared)? {
-        return Ok(Some(Found::Fault(fault)));
+    let mut faults = FaultList::new(alloc, only_first);
+    push_naming(alloc, &mut faults, raw, &declared)?;
+    if !faults.is_empty() {
+        return Ok(faults);
     }
-    structure_fault(alloc, raw, &declared)
+    push_structure(alloc, &mut faults, raw, &declared)?;
+    push_further(alloc, &mut faults, raw, &declared)?;
+    Ok(faults)
+}
+
+/// Returns all faults of a raw grammar: exactly the checks that fail, in their order, which is that
+/// of the kinds of `NormalFault`. If names are wrong (N1 to N3), these are all, since faults of
+/// other kinds may only follow from them. Fails with `NoMemory` only if memory was refused.
+pub fn faults_of(alloc: Global, raw: &RawGrammar) -> Result<FaultList, NoMemory>
+    ensures exact { IfOk result (λ faults. AreFaults raw.now faults.items) }
+{
+    found_faults(alloc, raw, false)
+}
+
+/// Returns the first fault of a raw grammar, if there is one. The search ends with it.
+fn first_fault(alloc: Global, raw: &RawGrammar) -> Result<Option<NormalFault>, NoMemory>
+    ensures { IfOk result (λ fault. IsHead raw.now fault) }
+{
+    let faults = found_faults(alloc, raw, true)?;
+    Ok(faults.into_first())
 }
 
 /// Returns the number of the start symbol, and the numbered productions. `literals` are the
@@ -238,35 +198,25 @@ fn number(alloc: Global, raw: RawGrammar) -> Result<Grammar, NoMemory>
     Ok(Grammar::new(symbols, productions, literals, classes, start))
 }
 
-/// Returns the fault that was found, with the symbol's name moved into it for N4 and N5.
-fn refusal(found: Found, raw: RawGrammar) -> NormalFault
-    requires { IsFound raw (Some found) }
-    ensures { IsFirstFault raw result }
-{
-    match found {
-        Found::Fault(fault) => fault,
-        Found::Unproductive(number) => NormalFault::Unproductive(name_at(raw.symbols, number)),
-        Found::Unreachable(number) => NormalFault::Unreachable(name_at(raw.symbols, number)),
-    }
-}
-
 /// Checks a raw grammar, which has to be readable (`is_readable`), and returns the numbered
 /// grammar, which is accepted. Its classes ascend, and its literals are in the order of their first
 /// appearance. Names and expressions are moved into it.
 ///
-/// Fails with the first fault: the first one of the first kind that occurs, in the order of
-/// `NormalFault`, which says which fault of a kind is the first. The numbered grammar is then not
-/// accepted, and the raw grammar is dropped. Fails with `NoMemory` only if memory was refused.
-#[tactic(auto, using(crate::proofs::numbered::Accepting::refused))]
+/// Fails with the first fault, the head of the list that `faults_of` returns: the first one of the
+/// first kind that occurs, in the order of `NormalFault`, which says which fault of a kind is the
+/// first. The numbered grammar is then not accepted, and the raw grammar is dropped. Fails with
+/// `NoMemory` only if memory was refused.
+#[tactic(auto, using(crate::proofs::numbered::Accepting::refused, crate::proofs::found::Searched::head_first, crate::proofs::found::Searched::head_none))]
 pub fn check(alloc: Global, raw: RawGrammar) -> Result<Grammar, NormalFault>
     requires { IsReadable raw }
     ensures numbered { IfOk result (λ g. g ≡ numbered raw) }
     ensures accepted { IfOk result (λ g. IsAccepted g) }
     ensures in_order { IfOk result (λ g. IsInOrder g) }
     ensures refused { IfErr result (λ fault. IsTrueOf raw fault) }
+    ensures first { IfErr result (λ fault. IsHeadOrNoMemory raw fault) }
 {
     match first_fault(alloc, &raw)? {
         None => Ok(number(alloc, raw)?),
-        Some(found) => Err(refusal(found, raw)),
+        Some(fault) => Err(fault),
     }
 }

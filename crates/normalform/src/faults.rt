@@ -1,11 +1,12 @@
-//! The search for the first fault of a raw grammar.
+//! The search for the faults of a raw grammar.
 
 pub mod clause;
+pub mod fault_list;
 pub mod limits;
 pub mod naming;
 pub mod placed;
 pub mod readable;
 pub mod reference_checks;
 pub mod rules;
+pub mod structure;
 pub mod targets;
-pub mod underivable;

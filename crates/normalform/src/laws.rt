@@ -3,7 +3,7 @@
 ghost use Rattle.normalform.specs.Examples.{WorkedNames, WorkedRules};
 ghost use Rattle.normalform.specs.Laws.{AcceptedWithoutFault, NoFaultWhereAccepted};
 ghost use Rattle.normalform.specs.Laws.{OneFirstFault, NoFirstFaultWithoutFault};
-ghost use Rattle.normalform.specs.Laws.{WorkedNumbers};
+ghost use Rattle.normalform.specs.Laws.{OneList, HeadIsFirst, NoneIfAccepted, WorkedNumbers};
 
 /// States that the numbered grammar of a raw grammar is accepted if the raw one has no fault and is
 /// readable, and if each expression of a rule lists its occurrences and has no unbound name
@@ -28,6 +28,24 @@ pub fn one_first_fault()
 #[tactic(auto, using(crate::proofs::numbered::Accepting::first_excludes))]
 pub fn no_first_fault_without_fault()
     ensures { NoFirstFaultWithoutFault }
+{}
+
+/// States that a raw grammar has one list of faults.
+pub fn one_list()
+    ensures { OneList }
+{}
+
+/// States that the head of the list of faults is the first fault.
+pub fn head_is_first()
+    ensures { HeadIsFirst }
+{}
+
+/// States that the list of faults is empty exactly if the numbered grammar is accepted. The raw
+/// grammar has to be readable, and each expression of a rule has to list its occurrences and have
+/// no unbound name.
+#[tactic(auto, using(crate::proofs::numbered::Accepting::none_if_accepted))]
+pub fn none_if_accepted()
+    ensures { NoneIfAccepted }
 {}
 
 /// Worked example: the numbers of a small grammar.

@@ -20,6 +20,7 @@ mod faults;
 pub mod laws;
 mod numbers;
 
-pub use checking::check;
+pub use checking::{check, faults_of};
 pub use fault::{LimitKind, NormalFault};
+pub use faults::fault_list::FaultList;
 pub use faults::readable::is_readable;

@@ -1,6 +1,6 @@
 -- A raw grammar has no fault exactly if the numbered one is accepted.
 use Rattle.normalform.proofs.Common
-use Common.{All, inr, ℕ, zero, suc, ◌≡◌, ◌+◌, ◌<◌, ◌≤◌, ◌≢◌, Bool, true, List, [], ◌∷◌, ◌++◌, length, map, Some, None, Option}
+use Common.{All, ◌↔◌, inr, ℕ, zero, suc, ◌≡◌, ◌+◌, ◌<◌, ◌≤◌, ◌≢◌, Bool, true, List, [], ◌∷◌, ◌++◌, length, map, Some, None, Option}
 use Common.{slice_get, get_or, refl, ap, arith, subst, and_parts, eqb-true, leb-true, le-leb, length-map, slice_get-get_or}
 use Common.{slice_get_within, get_or_from_slice_get, list_any, list_all, Has, Each, Differ, Item, Production, Symbol, Literal}
 use Common.{Class, stored_items, is_below, RawGrammar, RawItem, RawProduction, NormalFault, first_wrong, unknown_in, item_checks}
@@ -25,6 +25,8 @@ use Rattle.normalform.proofs.numbered.Placing.{stored_same}
 use Rattle.normalform.proofs.found.Reduced.{symbols, produces, name_known, known, unknown_parts}
 use Rattle.normalform.proofs.found.Right.{all_right, both_right, together, is_right, right_is, flat_each, each_flat, along_each}
 use Rattle.normalform.proofs.found.Right.{each_along}
+use Rattle.normalform.proofs.found.Searched.{none_listed, listed_none}
+use Rattle.normalform.specs.faults.AllFaults.{AreFaults}
 use Rattle.normalform.proofs.found.Ruled.{all_ruled, ruled_all, rules_single, single_rules, targets_given, given_targets}
 use Rattle.normalform.proofs.found.Ruled.{arguments_found, found_arguments, each_mapped, mapped_each}
 use Rattle.normalform.proofs.numbered.Small.{passes_at}
@@ -315,3 +317,10 @@ refused raw f first = inr (first, λ accepted. first_excludes raw f first (no_fa
 pub accepted_without_fault : (raw : RawGrammar) → IsReadable raw → All AreListedIn (numbered raw).productions → HasNoFault raw
     → IsAccepted (numbered raw)
 accepted_without_fault raw readable listed none = accepted raw readable (listed_each (numbered raw).productions listed) none
+
+pub none_if_accepted : (raw : RawGrammar) → IsReadable raw → All AreListedIn (numbered raw).productions
+    → AreFaults raw [] ↔ IsAccepted (numbered raw)
+none_if_accepted raw readable listed = (
+  λ none. accepted_without_fault raw readable listed (none_listed raw none),
+  λ accepted. listed_none raw (no_fault raw accepted),
+)

@@ -314,10 +314,6 @@ pub record IsSmall (ss : List Symbol) (literals : List (List ℕ)) : Type 0 wher
   pub attributes : list_all few_attributes ss ≡ true
   pub texts : length literals ≤ max_literals
 
--- the name of the symbol with this number
-abbrev pub IsNameAt : List RawSymbol → ℕ → Named → Type 0
-IsNameAt ss number name = (s : RawSymbol) × (slice_get ss number ≡ Some s) × (s.name ≡ name)
-
 -- a fault that `check` may return: it is the first one and the numbered grammar is not accepted, or it is `NoMemory`
 abbrev pub IsTrueOf : RawGrammar → NormalFault → Type 0
 IsTrueOf raw f = (f ≡ fault.NoMemory) ⊎ (IsFirstFault raw f × (IsAccepted (numbered raw) → ⊥))

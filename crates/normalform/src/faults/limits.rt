@@ -1,13 +1,15 @@
 //! Checks the limits of a grammar (N10).
 ghost use Rattle.std.specs.Prelude.{◌≡◌, ◌+◌, fold, map, IfOk, OnOk};
 ghost use Rattle.std.specs.List.{list_all};
-ghost use Rattle.normalform.specs.faults.Faults.{first_wrong, limit_checks, few_attributes, few_items};
+ghost use Rattle.normalform.specs.faults.FaultList.{after_checks};
+ghost use Rattle.normalform.specs.faults.Faults.{limit_checks, few_attributes, few_items};
 ghost use Rattle.normalform.specs.faults.Faults.{few_children, is_short, symbol_limits};
 ghost use Rattle.normalform.specs.faults.Faults.{production_limits, literal_limits};
 ghost use Rattle.normalform.specs.numbers.Numbers as spec;
 ghost use Rattle.normalform.specs.numbers.Numbers.{symbol_of, with_item};
 
 use crate::fault::{LimitKind, NormalFault};
+use crate::faults::fault_list::FaultList;
 use crate::faults::placed::places_of;
 use crate::numbers::declared::Declared;
 use crate::numbers::names::Names;
@@ -122,71 +124,82 @@ fn all_are_short(texts: &Names<'_>) -> bool
     true
 }
 
-/// Returns N10 with the first limit that the symbols exceed, if there is one.
-fn symbol_limit(symbols: &[RawSymbol]) -> Option<NormalFault>
-    ensures { result ≡ first_wrong (symbol_limits (map symbol_of symbols.now)) }
+/// Appends N10 for each limit that the symbols exceed.
+#[tactic(auto, using(crate::proofs::Listing::after_both))]
+fn push_symbol_limits(faults: &mut FaultList, symbols: &[RawSymbol]) -> Result<(), NoMemory>
+    ensures { OnOk result (faults.new ≡ after_checks faults.old
+        (symbol_limits (map symbol_of symbols.now))) }
 {
-    if symbols.len() > MAX_SYMBOLS {
-        return Some(NormalFault::Limit(LimitKind::Symbols));
-    }
-    if !all_have_few_attributes(symbols) {
-        return Some(NormalFault::Limit(LimitKind::Attributes));
-    }
-    None
+    faults.push_unless(
+        symbols.len() <= MAX_SYMBOLS,
+        NormalFault::Limit(LimitKind::Symbols),
+    )?;
+    faults.push_unless(
+        all_have_few_attributes(symbols),
+        NormalFault::Limit(LimitKind::Attributes),
+    )
 }
 
-/// Returns N10 with the first limit that the productions exceed, if there is one.
-fn production_limit(
+/// Appends N10 for each limit that the productions exceed.
+#[tactic(auto, using(crate::proofs::Listing::after_both))]
+fn push_production_limits(
     alloc: Global,
+    faults: &mut FaultList,
     declared: &Declared<'_>,
     productions: &[RawProduction],
-) -> Result<Option<NormalFault>, NoMemory>
-    ensures { IfOk result (λ f. f
-        ≡ first_wrong (production_limits declared.now productions.now)) }
+) -> Result<(), NoMemory>
+    ensures { OnOk result (faults.new ≡ after_checks faults.old
+        (production_limits declared.now productions.now)) }
 {
-    if productions.len() > MAX_PRODUCTIONS {
-        return Ok(Some(NormalFault::Limit(LimitKind::Productions)));
-    }
-    if !all_have_few_items(productions) {
-        return Ok(Some(NormalFault::Limit(LimitKind::Items)));
-    }
-    if !all_have_few_children(alloc, declared, productions)? {
-        return Ok(Some(NormalFault::Limit(LimitKind::Stored)));
-    }
-    Ok(None)
+    faults.push_unless(
+        productions.len() <= MAX_PRODUCTIONS,
+        NormalFault::Limit(LimitKind::Productions),
+    )?;
+    faults.push_unless(
+        all_have_few_items(productions),
+        NormalFault::Limit(LimitKind::Items),
+    )?;
+    faults.push_unless(
+        all_have_few_children(alloc, declared, productions)?,
+        NormalFault::Limit(LimitKind::Stored),
+    )
 }
 
-/// Returns N10 with the first limit that the literals exceed, if there is one.
-fn literal_limit(literals: &Names<'_>) -> Option<NormalFault>
-    ensures { result ≡ first_wrong (literal_limits literals.now) }
+/// Appends N10 for each limit that the literals exceed.
+#[tactic(auto, using(crate::proofs::Listing::after_both))]
+fn push_literal_limits(faults: &mut FaultList, literals: &Names<'_>) -> Result<(), NoMemory>
+    ensures { OnOk result (faults.new ≡ after_checks faults.old (literal_limits literals.now)) }
 {
-    if !all_are_short(literals) {
-        return Some(NormalFault::Limit(LimitKind::LiteralLength));
-    }
-    if literals.count() > MAX_LITERALS {
-        return Some(NormalFault::Limit(LimitKind::Literals));
-    }
-    None
+    faults.push_unless(
+        all_are_short(literals),
+        NormalFault::Limit(LimitKind::LiteralLength),
+    )?;
+    faults.push_unless(
+        literals.count() <= MAX_LITERALS,
+        NormalFault::Limit(LimitKind::Literals),
+    )
 }
 
-/// Returns N10 with the first limit that is exceeded, in the order of `LimitKind`; `None` if there
-/// is none. `declared` has the same symbols as `symbols`. Fails with `NoMemory` if memory is
-/// refused.
-pub fn first_limit(
+/// Appends N10 for each limit that is exceeded, in the order of `LimitKind`. `declared` has the same
+/// symbols as `symbols`. Fails with `NoMemory` if memory is refused.
+#[tactic(auto, using(crate::proofs::Listing::after_full, crate::proofs::Listing::after_both))]
+pub fn push_limits(
     alloc: Global,
+    faults: &mut FaultList,
     declared: &Declared<'_>,
     symbols: &[RawSymbol],
     productions: &[RawProduction],
-) -> Result<Option<NormalFault>, NoMemory>
+) -> Result<(), NoMemory>
     requires { declared.now ≡ map symbol_of symbols.now }
-    ensures { IfOk result (λ f. f ≡ first_wrong (limit_checks declared.now productions.now)) }
+    ensures { OnOk result (faults.new ≡ after_checks faults.old
+        (limit_checks declared.now productions.now)) }
 {
-    if let Some(fault) = symbol_limit(symbols) {
-        return Ok(Some(fault));
+    if faults.is_full() {
+        return Ok(());
     }
-    if let Some(fault) = production_limit(alloc, declared, productions)? {
-        return Ok(Some(fault));
-    }
+    push_symbol_limits(faults, symbols)?;
+    push_production_limits(alloc, faults, declared, productions)?;
     let literals = literals_of(alloc, productions)?;
-    Ok(literal_limit(&literals))
+    push_literal_limits(faults, &literals)?;
+    Ok(())
 }

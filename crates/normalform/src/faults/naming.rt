@@ -1,159 +1,193 @@
 //! The faults N1 and N2: names that are not declared, places that do not exist, and names that are
 //! declared twice.
-ghost use Rattle.std.specs.Prelude.{◌≡◌, ◌++◌, ◌∷◌, [], fold, None, IfOk, OnOk, flat_map};
+ghost use Rattle.std.specs.Prelude.{◌≡◌, ◌++◌, ◌∷◌, [], fold, OnOk, flat_map};
+ghost use Rattle.normalform.specs.faults.FaultList.{after_checks};
 ghost use Rattle.normalform.specs.faults.Faults as spec;
-ghost use Rattle.normalform.specs.faults.Faults.{first_wrong, name_check, item_checks, new_check};
+ghost use Rattle.normalform.specs.faults.Faults.{name_check, item_checks, new_check};
 ghost use Rattle.normalform.specs.faults.Faults.{unknown_in};
 ghost use Rattle.normalform.specs.faults.Faults.{symbol_checks, with_name, with_symbol};
 ghost use Rattle.normalform.specs.numbers.Numbers.{declared_names, with_text};
 
 use crate::fault::NormalFault;
-use crate::faults::reference_checks::{RuleCheck, first_in_production};
+use crate::faults::fault_list::FaultList;
+use crate::faults::reference_checks::{RuleCheck, push_in_production};
 use crate::numbers::declared::Declared;
 use crate::numbers::names::Names;
 use ag_grammar::{Named, RawItem, RawProduction, RawSymbol};
 use ag_value::NoMemory;
 use std::alloc::Global;
 
-/// Returns N1 if a symbol's name is not declared.
-fn unknown_name(declared: &Declared<'_>, name: &Named) -> Option<NormalFault>
-    ensures { result ≡ first_wrong (name_check (declared_names declared.now) name.now ∷ []) }
+/// Appends N1 if a symbol's name is not declared.
+fn push_unknown_name(
+    faults: &mut FaultList,
+    declared: &Declared<'_>,
+    name: &Named,
+) -> Result<(), NoMemory>
+    ensures { OnOk result (faults.new ≡ after_checks faults.old
+        (name_check (declared_names declared.now) name.now ∷ [])) }
 {
-    if declared.has(name.name.as_str()) {
-        None
-    } else {
-        Some(NormalFault::UnknownName(name.at))
-    }
+    faults.push_unless(
+        declared.has(name.name.as_str()),
+        NormalFault::UnknownName(name.at),
+    )
 }
 
-/// Returns N1 if an item is an undeclared symbol.
-fn unknown_in_item(declared: &Declared<'_>, item: &RawItem) -> Option<NormalFault>
-    ensures { result ≡ first_wrong (item_checks (declared_names declared.now) item.now) }
+/// Appends N1 if an item is an undeclared symbol.
+#[tactic(auto, using(crate::proofs::Listing::after_none))]
+fn push_unknown_item(
+    faults: &mut FaultList,
+    declared: &Declared<'_>,
+    item: &RawItem,
+) -> Result<(), NoMemory>
+    ensures { OnOk result (faults.new ≡ after_checks faults.old
+        (item_checks (declared_names declared.now) item.now)) }
 {
     match item {
-        RawItem::Name(name) => unknown_name(declared, name),
-        _ => None,
+        RawItem::Name(name) => push_unknown_name(faults, declared, name),
+        _ => Ok(()),
     }
 }
 
-/// Returns N1 for the first undeclared symbol of a right side.
-fn unknown_in_items(declared: &Declared<'_>, items: &[RawItem]) -> Option<NormalFault>
-    ensures { result
-        ≡ first_wrong (flat_map (item_checks (declared_names declared.now)) items.now) }
+/// Appends N1 for each undeclared symbol of a right side.
+#[tactic(auto, using(crate::proofs::Listing::after_none))]
+fn push_unknown_items(
+    faults: &mut FaultList,
+    declared: &Declared<'_>,
+    items: &[RawItem],
+) -> Result<(), NoMemory>
+    ensures { OnOk result (faults.new ≡ after_checks faults.old
+        (flat_map (item_checks (declared_names declared.now)) items.now)) }
 {
     for item in items {
-        if let Some(fault) = unknown_in_item(declared, item) {
-            return Some(fault);
-        }
+        push_unknown_item(faults, declared, item)?;
     }
-    None
+    Ok(())
 }
 
-/// Returns the first fault N1 of a production: of its left side, then of its items, then of its
-/// rules.
-fn unknown_in_production(
+/// Appends the faults N1 of a production: of its left side, then of its items, then of its rules.
+#[tactic(auto, using(crate::proofs::Listing::after_full))]
+fn push_unknown_in(
     alloc: Global,
+    faults: &mut FaultList,
     declared: &Declared<'_>,
     production: &RawProduction,
-) -> Result<Option<NormalFault>, NoMemory>
-    ensures { IfOk result (λ f. f ≡ first_wrong (unknown_in declared.now production.now)) }
+) -> Result<(), NoMemory>
+    ensures { OnOk result (faults.new ≡ after_checks faults.old
+        (unknown_in declared.now production.now)) }
 {
-    if let Some(fault) = unknown_name(declared, &production.left) {
-        return Ok(Some(fault));
+    if faults.is_full() {
+        return Ok(());
     }
-    if let Some(fault) = unknown_in_items(declared, production.items.as_slice()) {
-        return Ok(Some(fault));
-    }
-    first_in_production(alloc, RuleCheck::Known, declared, production)
+    push_unknown_name(faults, declared, &production.left)?;
+    push_unknown_items(faults, declared, production.items.as_slice())?;
+    push_in_production(alloc, RuleCheck::Known, faults, declared, production)?;
+    Ok(())
 }
 
-/// Returns the first fault N1: an undeclared symbol of a production, or a target or an argument of
-/// a rule whose place or attribute does not exist.
-pub fn first_unknown(
+/// Appends each fault N1: an undeclared symbol of a production, or a target or an argument of a
+/// rule whose place or attribute does not exist.
+#[tactic(auto, using(crate::proofs::Listing::after_none))]
+pub fn push_unknown(
     alloc: Global,
+    faults: &mut FaultList,
     declared: &Declared<'_>,
     productions: &[RawProduction],
-) -> Result<Option<NormalFault>, NoMemory>
-    ensures { IfOk result (λ f. f ≡ first_wrong (spec.unknown_checks declared.now productions.now)) }
+) -> Result<(), NoMemory>
+    ensures { OnOk result (faults.new ≡ after_checks faults.old
+        (spec.unknown_checks declared.now productions.now)) }
 {
     for production in productions {
-        if let Some(fault) = unknown_in_production(alloc, declared, production)? {
-            return Ok(Some(fault));
-        }
+        push_unknown_in(alloc, faults, declared, production)?;
     }
-    Ok(None)
+    Ok(())
 }
 
-/// Returns N2 if a name is one of the earlier names, which are `seen`. Otherwise adds it to `seen`.
-fn doubled_name<'t>(seen: &mut Names<'t>, name: &'t Named) -> Result<Option<NormalFault>, NoMemory>
-    ensures fault { IfOk result (λ f. f ≡ first_wrong (new_check seen.old name.now)) }
+/// Appends N2 if a name is one of the earlier names, which are `seen`. Otherwise adds it to `seen`.
+fn push_doubled_name<'t>(
+    faults: &mut FaultList,
+    seen: &mut Names<'t>,
+    name: &'t Named,
+) -> Result<(), NoMemory>
+    ensures faults { OnOk result (faults.new ≡ after_checks faults.old
+        (new_check seen.old name.now)) }
     ensures seen { OnOk result (seen.new ≡ with_text seen.old name.now.name) }
 {
-    if seen.insert(name.name.as_str())? {
-        Ok(None)
-    } else {
-        Ok(Some(NormalFault::DoubledName(name.at)))
-    }
+    let is_new = seen.insert(name.name.as_str())?;
+    faults.push_unless(is_new, NormalFault::DoubledName(name.at))
 }
 
-/// Returns N2 for the first name of `names` that is in `seen` or repeats an earlier name of
-/// `names`. Adds the names before this name to `seen`. Adds all names if there is no such name.
-fn doubled_names<'t>(
+/// Appends N2 for each name of `names` that is in `seen` or repeats an earlier name of `names`.
+/// Adds the names to `seen`.
+#[tactic(auto, using(crate::proofs::Listing::after_none))]
+fn push_doubled_names<'t>(
+    faults: &mut FaultList,
     seen: &mut Names<'t>,
     names: &'t [Named],
-) -> Result<Option<NormalFault>, NoMemory>
-    ensures fault { IfOk result (λ f. f ≡ first_wrong (spec.doubled_names seen.old names.now)) }
-    ensures seen { IfOk result (λ f. f ≡ None → seen.new ≡ fold with_name seen.old names.now) }
+) -> Result<(), NoMemory>
+    ensures faults { OnOk result (faults.new ≡ after_checks faults.old
+        (spec.doubled_names seen.old names.now)) }
+    ensures seen { OnOk result (seen.new ≡ fold with_name seen.old names.now) }
 {
     for name in names {
-        if let Some(fault) = doubled_name(seen, name)? {
-            return Ok(Some(fault));
-        }
+        push_doubled_name(faults, seen, name)?;
     }
-    Ok(None)
+    Ok(())
 }
 
-/// Returns N2 for the first attribute that is declared again in its symbol.
-fn doubled_attributes(alloc: Global, symbol: &RawSymbol) -> Result<Option<NormalFault>, NoMemory>
-    ensures { IfOk result (λ f. f
-        ≡ first_wrong (spec.doubled_names [] (symbol.now.syn ++ symbol.now.inh))) }
-{
-    let mut seen = Names::new(alloc);
-    if let Some(fault) = doubled_names(&mut seen, symbol.syn.as_slice())? {
-        return Ok(Some(fault));
-    }
-    doubled_names(&mut seen, symbol.inh.as_slice())
-}
-
-/// Returns the first fault N2 of a symbol. `seen` has the names of the symbols before it. Adds the
-/// symbol's name to `seen`, unless it is there already.
-fn doubled_in_symbol<'t>(
+/// Appends N2 for each attribute that is declared again in its symbol.
+#[tactic(auto, using(crate::proofs::Listing::after_full))]
+fn push_doubled_attributes(
     alloc: Global,
+    faults: &mut FaultList,
+    symbol: &RawSymbol,
+) -> Result<(), NoMemory>
+    ensures { OnOk result (faults.new ≡ after_checks faults.old
+        (spec.doubled_names [] (symbol.now.syn ++ symbol.now.inh))) }
+{
+    if faults.is_full() {
+        return Ok(());
+    }
+    let mut seen = Names::new(alloc);
+    push_doubled_names(faults, &mut seen, symbol.syn.as_slice())?;
+    push_doubled_names(faults, &mut seen, symbol.inh.as_slice())?;
+    Ok(())
+}
+
+/// Appends the faults N2 of a symbol. `seen` has the names of the symbols before it. Adds the
+/// symbol's name to `seen`, unless it is there already.
+#[tactic(auto, using(crate::proofs::Listing::after_both))]
+fn push_doubled_in<'t>(
+    alloc: Global,
+    faults: &mut FaultList,
     seen: &mut Names<'t>,
     symbol: &'t RawSymbol,
-) -> Result<Option<NormalFault>, NoMemory>
-    ensures fault { IfOk result (λ f. f ≡ first_wrong (symbol_checks seen.old symbol.now)) }
+) -> Result<(), NoMemory>
+    ensures faults { OnOk result (faults.new ≡ after_checks faults.old
+        (symbol_checks seen.old symbol.now)) }
     ensures seen { OnOk result (seen.new ≡ with_symbol seen.old symbol.now) }
 {
-    if let Some(fault) = doubled_name(seen, &symbol.name)? {
-        return Ok(Some(fault));
-    }
-    doubled_attributes(alloc, symbol)
+    push_doubled_name(faults, seen, &symbol.name)?;
+    push_doubled_attributes(alloc, faults, symbol)?;
+    Ok(())
 }
 
-/// Returns the first fault N2: a symbol that is declared again, or an attribute that is declared
-/// again in its symbol.
-pub fn first_doubled<'t>(
+/// Appends each fault N2: a symbol that is declared again, or an attribute that is declared again
+/// in its symbol.
+#[tactic(auto, using(crate::proofs::Listing::after_none, crate::proofs::Listing::after_full))]
+pub fn push_doubled<'t>(
     alloc: Global,
+    faults: &mut FaultList,
     symbols: &'t [RawSymbol],
-) -> Result<Option<NormalFault>, NoMemory>
-    ensures { IfOk result (λ f. f ≡ first_wrong (spec.doubled_checks symbols.now)) }
+) -> Result<(), NoMemory>
+    ensures { OnOk result (faults.new ≡ after_checks faults.old
+        (spec.doubled_checks symbols.now)) }
 {
+    if faults.is_full() {
+        return Ok(());
+    }
     let mut seen = Names::new(alloc);
     for symbol in symbols {
-        if let Some(fault) = doubled_in_symbol(alloc, &mut seen, symbol)? {
-            return Ok(Some(fault));
-        }
+        push_doubled_in(alloc, faults, &mut seen, symbol)?;
     }
-    Ok(None)
+    Ok(())
 }

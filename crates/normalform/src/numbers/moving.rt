@@ -1,7 +1,6 @@
-//! Moving parts of a raw grammar, into the numbered one or into a fault.
-ghost use Rattle.std.specs.Prelude.{◌≡◌, ◌<◌, length, map, IfOk};
+//! Moving parts of a raw grammar into the numbered one.
+ghost use Rattle.std.specs.Prelude.{◌≡◌, map, IfOk};
 ghost use Rattle.ag_grammar.specs.grammars.Raw.{texts_of};
-ghost use Rattle.normalform.specs.faults.Faults.{IsNameAt};
 ghost use Rattle.normalform.specs.numbers.Numbers.{symbol_of};
 
 use ag_grammar::{Named, RawSymbol, Symbol};
@@ -35,14 +34,4 @@ pub fn move_symbols(alloc: Global, symbols: Items<RawSymbol>) -> Result<Items<Sy
         })?;
     }
     Ok(Items::from_vec(moved))
-}
-
-/// Returns the name of the symbol with this number, with the name's offset in the declaration.
-/// Drops the other symbols.
-pub fn name_at(symbols: Items<RawSymbol>, number: usize) -> Named
-    requires { number < length symbols }
-    ensures { IsNameAt symbols number result }
-{
-    let mut symbols = symbols.into_vec();
-    symbols.swap_remove(number).name
 }

@@ -1,6 +1,6 @@
--- The remaining goals of `first_fault`.
-use Rattle.normalform.proofs.Common.{sym, ◌∙◌, in_names}
+-- The head of the list.
+use Rattle.normalform.proofs.found.Searched.{head_found}
 use Rattle.normalform.proofs.checking.first_fault.Goals as goal
 
-pub returns-in-Some : goal.returns-in-Some
-returns-in-Some c = in_names (sym c.in_ok-fault.ensures ∙ c.in-Some.is)
+pub returns : goal.returns
+returns c = head_found _ _ _ c.in_ok-faults.ensures c.into_first.ensures
