@@ -3,7 +3,7 @@ pub use Rattle.std.proofs.Common.{All, AllPairs, Bool, Err, IfOk, IfSome, List, 
 pub use Rattle.std.proofs.Common.{append-nil, append_assoc, arith, bytes_eq, cond, drop, false, filter, flat_map, fold, get_or}
 pub use Rattle.std.proofs.Common.{if◌then◌else◌, inl, inr, is_some, length, length-append, map, nat_eq, nat_le, nat_lt, not}
 pub use Rattle.std.proofs.Common.{position, refl, slice_get, subst, suc, sym, take, true, unwrap_or, zero, ℕ, ◌&&◌, ◌++◌, ◌+◌}
-pub use Rattle.std.proofs.Common.{◌-◌, ◌<◌, ◌↔◌, ◌∙◌, ◌∷◌, ◌≡◌, ◌≢◌, ◌≤◌, ◌⊎◌}
+pub use Rattle.std.proofs.Common.{◌-◌, ◌<◌, ◌||◌, ◌↔◌, ◌∙◌, ◌∷◌, ◌≡◌, ◌≢◌, ◌≤◌, ◌⊎◌}
 pub use Rattle.std.proofs.lemmas.Bool.{and_parts, cases_eq, cases_lt, eq-eqb, eqb-true, false≢true, le-leb, leb-true, lt-ltb}
 pub use Rattle.std.proofs.lemmas.Bool.{ltb-true}
 pub use Rattle.std.proofs.lemmas.Bool.Decides.{nat_tests}
@@ -51,7 +51,7 @@ pub use Rattle.normalform.specs.faults.Faults.{in_productive, in_reached, in_rul
 pub use Rattle.normalform.specs.faults.Faults.{limit_checks, missing_at, missing_check, missing_checks, missing_in, name_check}
 pub use Rattle.normalform.specs.faults.Faults.{naming_checks, new_check, new_target, next_index, not_defined_here, not_defined_in}
 pub use Rattle.normalform.specs.faults.Faults.{not_normal, not_normal_in, numbers_defined, occurrence_check, rule_checks}
-pub use Rattle.normalform.specs.faults.Faults.{literal_limits, production_limits, symbol_limits}
+pub use Rattle.normalform.specs.faults.Faults.{exists, is_hidden, later_kinds, literal_limits, production_limits, symbol_limits}
 pub use Rattle.normalform.specs.faults.Faults.{rule_kinds, same_target, start_checks, symbol_checks, targets_of, unknown_checks}
 pub use Rattle.normalform.specs.faults.Faults.{unknown_in, used_check, with_name, with_rule, with_symbol, with_target}
 pub use Rattle.normalform.specs.faults.PlacedItem.{item_placed}

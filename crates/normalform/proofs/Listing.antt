@@ -3,8 +3,9 @@ use Rattle.normalform.proofs.Common
 use Common.{ℕ, suc, ◌+◌, ◌-◌, ◌<◌, ◌≡◌, ◌∙◌, Bool, true, false, List, [], ◌∷◌, ◌++◌, None, refl, sym, ap}
 use Common.{arith, append_assoc, append-nil, length, get_or, drop, map, flat_map, fold, slice_get, range_with_len}
 use Common.{NormalFault, Check, first_wrong, checks_along, get_or-map, length-map}
+use Common.{◌⊎◌, inl, inr, eq-eqb, nat_eq, nat_tests, length-append, false≢true}
 use Rattle.std.proofs.lemmas.List.{drop_more}
-use Rattle.normalform.specs.faults.FaultList.{Found, wrong, kept, is_full, after_checks}
+use Rattle.normalform.specs.faults.FaultList.{Found, TellsIfNone, wrong, kept, is_empty, is_full, after_checks}
 
 -- the faults of the failing checks of a concatenated list
 pub wrong_append : (xs ys : List Check) → wrong (xs ++ ys) ≡ wrong xs ++ wrong ys
@@ -125,3 +126,27 @@ pub along_append : {S X : Type 0} (f : S → X → List Check) (g : S → X → 
     → checks_along f g s (xs ++ ys) ≡ checks_along f g s xs ++ checks_along f g (fold g s xs) ys
 along_append f g s [] ys = refl
 along_append f g s (x ∷ xs) ys = simp (along_append f g (g s x) xs ys, append_assoc)
+
+-- whether the length of the list has stayed tells whether no check has failed, unless the list is full
+kept_length : (b : Bool) (old ws : List NormalFault)
+    → (is_full (record { only_first = b; items = kept b old ws }) ≡ true)
+    ⊎ (nat_eq (length (kept b old ws)) (length old) ≡ is_empty ws)
+kept_length false old [] = inr (let e = append-nil old in rw e (eq-eqb (length old) (length old) refl))
+kept_length false old (w ∷ ws) = inr (let long = length-append old (w ∷ ws) in grind (arith, nat_tests))
+kept_length true [] [] = inr refl
+kept_length true [] (w ∷ ws) = inl refl
+kept_length true (f ∷ fs) ws = inl refl
+
+pub tells : (old new : Found) (cs : List Check) → new ≡ after_checks old cs
+    → TellsIfNone new cs (nat_eq (length new.items) (length old.items))
+tells old new cs e = rw e (kept_length old.only_first old.items (wrong cs))
+
+-- a list that is full stays full
+pub tells_later : (old new : Found) (cs ds : List Check) (b : Bool) → new ≡ after_checks old ds → TellsIfNone old cs b
+    → TellsIfNone new cs b
+tells_later old new cs ds b e (inl full) = inl (let same = e ∙ sym (after_full old ds full) in rw same full)
+tells_later old new cs ds b e (inr is) = inr is
+
+pub told : (found : Found) (cs : List Check) (b : Bool) → TellsIfNone found cs b → is_full found ≡ false → b ≡ is_empty (wrong cs)
+told found cs b (inl full) not_full = absurd (false≢true (sym not_full ∙ full))
+told found cs b (inr is) not_full = is

@@ -4,9 +4,10 @@ ghost use Rattle.std.specs.Prelude.{◌≡◌, [], map, All, IfOk, IfErr, OnOk};
 ghost use Rattle.ag_grammar.specs.grammars.Accepted.{IsAccepted};
 ghost use Rattle.ag_grammar.specs.grammars.Order.{IsInOrder};
 ghost use Rattle.normalform.specs.faults.AllFaults.{AreMarked, IsSearched, AreFaults, IsHead};
-ghost use Rattle.normalform.specs.faults.AllFaults.{IsHeadOrNoMemory};
-ghost use Rattle.normalform.specs.faults.FaultList.{wrong, after_checks};
-ghost use Rattle.normalform.specs.faults.Faults.{naming_checks, rule_kinds, further_checks};
+ghost use Rattle.normalform.specs.faults.AllFaults.{IsHeadOrNoMemory, checks_of_rules, if_none};
+ghost use Rattle.normalform.specs.faults.FaultList.{wrong, after_checks, is_empty, TellsIfNone};
+ghost use Rattle.normalform.specs.faults.Faults.{naming_checks, doubled_checks, missing_checks};
+ghost use Rattle.normalform.specs.faults.Faults.{later_kinds};
 ghost use Rattle.normalform.specs.faults.Faults.{IsReadable, HasNoFault, IsTrueOf};
 ghost use Rattle.normalform.specs.faults.Faults.{IsSmall, AreListedIn};
 ghost use Rattle.normalform.specs.numbers.Numbers.{symbol_of, declared_names, number_in, production_of};
@@ -28,25 +29,44 @@ use ag_grammar::{Grammar, Named, Production, RawGrammar, RawProduction, RawSymbo
 use ag_value::{Items, NoMemory, Text};
 use std::alloc::Global;
 
-/// Appends the faults N1 to N3.
-#[tactic(auto, using(crate::proofs::Listing::after_both))]
+/// Appends each fault N2. Returns whether there is none; if the list is full, the answer has no
+/// meaning.
+fn push_doubled_noting(
+    alloc: Global,
+    faults: &mut FaultList,
+    symbols: &[RawSymbol],
+) -> Result<bool, NoMemory>
+    ensures faults { OnOk result (faults.new ≡ after_checks faults.old
+        (doubled_checks symbols.now)) }
+    ensures distinct { IfOk result (λ distinct.
+        TellsIfNone faults.new (doubled_checks symbols.now) distinct) }
+{
+    let before = faults.len();
+    push_doubled(alloc, faults, symbols)?;
+    Ok(faults.len() == before)
+}
+
+/// Appends the faults N1 to N3. Returns whether there is no N2; if the list is full, the answer has
+/// no meaning.
 fn push_naming(
     alloc: Global,
     faults: &mut FaultList,
     raw: &RawGrammar,
     declared: &Declared<'_>,
-) -> Result<(), NoMemory>
+) -> Result<bool, NoMemory>
     requires { declared.now ≡ map symbol_of raw.now.symbols }
-    ensures { OnOk result (faults.new ≡ after_checks faults.old (naming_checks raw.now)) }
+    ensures faults { OnOk result (faults.new ≡ after_checks faults.old (naming_checks raw.now)) }
+    ensures distinct { IfOk result (λ distinct.
+        TellsIfNone faults.new (doubled_checks raw.now.symbols) distinct) }
 {
     push_unknown(alloc, faults, declared, raw.productions.as_slice())?;
-    push_doubled(alloc, faults, raw.symbols.as_slice())?;
+    let distinct = push_doubled_noting(alloc, faults, raw.symbols.as_slice())?;
     push_bad_start(faults, declared, &raw.start)?;
-    Ok(())
+    Ok(distinct)
 }
 
 /// Appends the faults N4 and N5, for a grammar without N1 to N3.
-fn push_structure(
+fn push_marked(
     alloc: Global,
     faults: &mut FaultList,
     raw: &RawGrammar,
@@ -79,38 +99,78 @@ fn push_structure(
     Ok(())
 }
 
-/// Appends the faults N6 to N9, those of rules.
+/// Appends the faults N4 and N5, if the grammar has none of N1 to N3. `faults` has these.
+fn push_structure(
+    alloc: Global,
+    faults: &mut FaultList,
+    raw: &RawGrammar,
+    declared: &Declared<'_>,
+) -> Result<(), NoMemory>
+    requires declared { declared.now ≡ map symbol_of raw.now.symbols }
+    requires names { is_empty faults.now.items ≡ is_empty (wrong (naming_checks raw.now)) }
+    ensures { OnOk result (AreMarked raw.now faults.old faults.new) }
+{
+    if !faults.is_empty() {
+        return Ok(());
+    }
+    push_marked(alloc, faults, raw, declared)
+}
+
+/// Appends the faults N6, if the grammar has no N2 (`distinct`).
+#[tactic(auto, using(crate::proofs::Listing::after_none))]
+fn push_missing_if(
+    alloc: Global,
+    faults: &mut FaultList,
+    raw: &RawGrammar,
+    declared: &Declared<'_>,
+    distinct: bool,
+) -> Result<(), NoMemory>
+    requires declared { declared.now ≡ map symbol_of raw.now.symbols }
+    requires distinct { distinct ≡ is_empty (wrong (doubled_checks raw.now.symbols)) }
+    ensures { OnOk result (faults.new ≡ after_checks faults.old
+        (if_none (wrong (doubled_checks raw.now.symbols))
+        (missing_checks (map symbol_of raw.now.symbols) raw.now.productions))) }
+{
+    if distinct {
+        push_missing(alloc, faults, declared, raw.productions.as_slice())?;
+    }
+    Ok(())
+}
+
+/// Appends the faults N7 to N9.
 #[tactic(auto, using(crate::proofs::Listing::after_both))]
-fn push_rule_kinds(
+fn push_later_kinds(
     alloc: Global,
     faults: &mut FaultList,
     declared: &Declared<'_>,
     productions: &[RawProduction],
 ) -> Result<(), NoMemory>
     ensures { OnOk result (faults.new ≡ after_checks faults.old
-        (rule_kinds declared.now productions.now)) }
+        (later_kinds declared.now productions.now)) }
 {
-    push_missing(alloc, faults, declared, productions)?;
     push_doubled_rules(alloc, faults, declared, productions)?;
     push_not_defined(alloc, faults, declared, productions)?;
     push_not_normal(alloc, faults, declared, productions)?;
     Ok(())
 }
 
-/// Appends the faults N6 to N10.
+/// Appends the faults N6 to N10. N6 is looked for only if the grammar has no N2 (`distinct`).
 #[tactic(auto, using(crate::proofs::Listing::after_both))]
 fn push_further(
     alloc: Global,
     faults: &mut FaultList,
     raw: &RawGrammar,
     declared: &Declared<'_>,
+    distinct: bool,
 ) -> Result<(), NoMemory>
-    requires { declared.now ≡ map symbol_of raw.now.symbols }
-    ensures { OnOk result (faults.new ≡ after_checks faults.old (further_checks raw.now)) }
+    requires declared { declared.now ≡ map symbol_of raw.now.symbols }
+    requires distinct { distinct ≡ is_empty (wrong (doubled_checks raw.now.symbols)) }
+    ensures { OnOk result (faults.new ≡ after_checks faults.old (checks_of_rules raw.now)) }
 {
     let symbols = raw.symbols.as_slice();
     let productions = raw.productions.as_slice();
-    push_rule_kinds(alloc, faults, declared, productions)?;
+    push_missing_if(alloc, faults, raw, declared, distinct)?;
+    push_later_kinds(alloc, faults, declared, productions)?;
     push_limits(alloc, faults, declared, symbols, productions)?;
     Ok(())
 }
@@ -122,18 +182,23 @@ fn found_faults(alloc: Global, raw: &RawGrammar, only_first: bool) -> Result<Fau
 {
     let declared = Declared::new(alloc, raw.symbols.as_slice())?;
     let mut faults = FaultList::new(alloc, only_first);
-    push_naming(alloc, &mut faults, raw, &declared)?;
-    if !faults.is_empty() {
+    let distinct = push_naming(alloc, &mut faults, raw, &declared)?;
+    if faults.is_full() {
         return Ok(faults);
     }
     push_structure(alloc, &mut faults, raw, &declared)?;
-    push_further(alloc, &mut faults, raw, &declared)?;
+    push_further(alloc, &mut faults, raw, &declared, distinct)?;
     Ok(faults)
 }
 
 /// Returns all faults of a raw grammar: exactly the checks that fail, in their order, which is that
-/// of the kinds of `NormalFault`. If names are wrong (N1 to N3), these are all, since faults of
-/// other kinds may only follow from them. Fails with `NoMemory` only if memory was refused.
+/// of the kinds of `NormalFault`. A fault is left out where it only follows from another one:
+///
+/// - of an occurrence at a symbol that is not declared nothing is said;
+/// - of an occurrence that has N1, neither N7, N8 nor N9 is listed;
+/// - N4 and N5 are listed only if there is none of N1 to N3, and N6 only if there is no N2.
+///
+/// Fails with `NoMemory` only if memory was refused.
 pub fn faults_of(alloc: Global, raw: &RawGrammar) -> Result<FaultList, NoMemory>
     ensures exact { IfOk result (λ faults. AreFaults raw.now faults.items) }
 {

@@ -1,12 +1,14 @@
 -- Names are known and distinct exactly if the numbered grammar's are. The names of an item or a rule are *known* if the checks of
 -- N1 hold. Its numbered form is *named* if its numbers are in range (`IsNamedItem`, `IsNamedRule` of `ag_grammar`).
 use Rattle.normalform.proofs.Common
-use Common.{ℕ, ◌≡◌, ◌<◌, true, List, [], ◌∷◌, ◌++◌, length, map, flat_map, None, bytes_eq, refl, sym, subst, length-map}
-use Common.{map-append, map-id, list_any, Each, DifferIn, Differ, AreRelated, Symbol, Target, Occ, attribute_names, RefersTo}
+use Common.{ℕ, zero, suc, ◌≡◌, ◌<◌, ◌∙◌, ◌||◌, Bool, true, false, false≢true, arith, nat_tests, slice_get, Some, List, [], ◌∷◌, ◌++◌, length, map, flat_map, None, bytes_eq, refl, sym, subst, length-map}
+use Common.{map-append, map-id, Each, DifferIn, Differ, AreRelated, Symbol, Target, Occ, attribute_names, RefersTo}
 use Common.{is_below, Named, RawGrammar, RawItem, RawProduction, RawRule, RawSymbol, NormalFault, Check, first_wrong, name_check}
 use Common.{item_checks, occurrence_check, rule_checks, unknown_in, unknown_checks, doubled_names, doubled_checks, number_in}
 use Common.{symbol_of, declared_names, item_of, names_at, target_of, rule_of, literals_of, numbered, placed, at_mapped, mapped_at}
+use Common.{exists, is_hidden, stored_of}
 use Common.raw_item
+use Common.item
 use Common.fault
 use Rattle.ag_grammar.specs.grammars.Accepted.{IsNamed, IsNamedItem, IsNamedRule}
 use Rattle.normalform.proofs.found.Apart.{Apart, none_apart, apart_along, more_along, along_apart, apart_differ, differ_apart}
@@ -65,10 +67,39 @@ differ_doubled ss differ each =
     (differ_texts (attribute_names (symbol_of s)) (mapped_each symbol_of (λ t. Differ (attribute_names t)) ss each i s e)))
     (λ j x f. refl))
 
+-- no symbol at a place is hidden, if the names of a production's symbols are declared
+shown : (ss : List Symbol) (n : ℕ) → n < length ss → is_hidden ss (Some (item.Symbol n)) ≡ false
+shown ss n lt = grind (arith, nat_tests)
+
+items_shown : (ss : List Symbol) (xs : List RawItem) → first_wrong (flat_map (item_checks (declared_names ss)) xs) ≡ None
+    → (i : ℕ) → is_hidden ss (slice_get (stored_of (declared_names ss) xs) i) ≡ false
+items_shown ss [] h i = refl
+items_shown ss (raw_item.Name name ∷ xs) h zero =
+    let w = both_right (name_check (declared_names ss) name ∷ []) (flat_map (item_checks (declared_names ss)) xs) h in
+    shown ss (number_in (declared_names ss) name.name) (name_known ss name w.0)
+items_shown ss (raw_item.Name name ∷ xs) h (suc i) =
+    items_shown ss xs (both_right (name_check (declared_names ss) name ∷ []) (flat_map (item_checks (declared_names ss)) xs) h).1 i
+items_shown ss (raw_item.Literal text ∷ xs) h i = items_shown ss xs h i
+items_shown ss (raw_item.Class c ∷ xs) h zero = refl
+items_shown ss (raw_item.Class c ∷ xs) h (suc i) = items_shown ss xs h i
+
+pub places_shown : (ss : List Symbol) (q : RawProduction) → first_wrong (unknown_in ss q) ≡ None → (place : ℕ)
+    → is_hidden ss (slice_get (placed ss q) place) ≡ false
+places_shown ss q h zero =
+    shown ss (number_in (declared_names ss) q.left.name) (name_known ss q.left (unknown_parts ss q h).0)
+places_shown ss q h (suc i) = items_shown ss q.items (unknown_parts ss q h).1 i
+
+there_if_shown : (a b : Bool) → b ≡ false → (a || b) ≡ true → a ≡ true
+there_if_shown true b e h = refl
+there_if_shown false b e h = absurd (false≢true (sym e ∙ h))
+
+known_if : (a b : Bool) → a ≡ true → (a || b) ≡ true
+known_if a b h = rw h refl
+
 module _ (raw : RawGrammar) (q : RawProduction) where
   -- the attribute that an occurrence names exists
   abbrev IsKnown : Occ → Type 0
-  IsKnown o = list_any (bytes_eq o.attr) (names_at (symbols raw) (places raw q) o.place) ≡ true
+  IsKnown o = exists (symbols raw) (places raw q) o ≡ true
 
   abbrev target : Occ → Target
   target o = target_of (symbols raw) (places raw q) o
@@ -86,14 +117,37 @@ module _ (raw : RawGrammar) (q : RawProduction) where
         subst (RefersTo (numbered raw) (produces raw q) o) here (stands_for raw q o (h i o e));
   }
 
+  -- an occurrence without N1 is known, if all symbols are declared
+  passes_known : first_wrong (unknown_in (symbols raw) q) ≡ None → (o : Occ) → (check o).1 ≡ true → IsKnown o
+  passes_known h o passes =
+      there_if_shown (exists (symbols raw) (places raw q) o) (is_hidden (symbols raw) (slice_get (places raw q) o.place))
+      (places_shown (symbols raw) q h o.place) passes
+
+  -- the targets and arguments of rules are known
+  rule_checked : first_wrong (unknown_in (symbols raw) q) ≡ None → (i : ℕ) (r : RawRule) → slice_get q.rules i ≡ Some r
+      → first_wrong (rule_checks (symbols raw) (places raw q) r) ≡ None
+  rule_checked h i r e = flat_each (rule_checks (symbols raw) (placed (symbols raw) q)) q.rules (unknown_parts (symbols raw) q h).2 i r e
+
+  pub target_known : first_wrong (unknown_in (symbols raw) q) ≡ None → (i : ℕ) (r : RawRule) → slice_get q.rules i ≡ Some r
+      → IsKnown r.target
+  target_known h i r e =
+      passes_known h r.target
+      (is_right (check r.target) (both_right (check r.target ∷ []) (map check r.expr.occurrences) (rule_checked h i r e)).0)
+
+  pub arguments_known : first_wrong (unknown_in (symbols raw) q) ≡ None → (i : ℕ) (r : RawRule) → slice_get q.rules i ≡ Some r
+      → Each IsKnown r.expr.occurrences
+  arguments_known h i r e j o f =
+      passes_known h o
+      (map_each check r.expr.occurrences (both_right (check r.target ∷ []) (map check r.expr.occurrences) (rule_checked h i r e)).1 j o f)
+
   -- a rule whose names are known is named
-  rule_named : (r : RawRule) → first_wrong (rule_checks (symbols raw) (places raw q) r) ≡ None
+  rule_named : (r : RawRule) → IsKnown r.target → Each IsKnown r.expr.occurrences
       → is_below (length r.expr.occurrences) r.expr.tree ≡ true
       → IsNamedRule (numbered raw) (produces raw q) (rule_of (symbols raw) (places raw q) r)
-  rule_named r h listed = let w = both_right (check r.target ∷ []) (map check r.expr.occurrences) h in record {
-    target = some_kind raw q r.target (is_right (check r.target) w.0);
+  rule_named r target_is arguments_are listed = record {
+    target = some_kind raw q r.target target_is;
     listed = listed;
-    arguments = related r.expr.occurrences (map_each check r.expr.occurrences w.1);
+    arguments = related r.expr.occurrences arguments_are;
   }
 
   found_there : (o : Occ) → RefersTo (numbered raw) (produces raw q) o (target o) → IsKnown o
@@ -106,9 +160,12 @@ module _ (raw : RawGrammar) (q : RawProduction) where
       → first_wrong (rule_checks (symbols raw) (places raw q) r) ≡ None
   named_rule r named =
       together (check r.target ∷ []) (map check r.expr.occurrences)
-      (right_is (check r.target) (named_there raw q r.target named.target.0 named.target.1))
+      (right_is (check r.target)
+      (known_if (exists (symbols raw) (places raw q) r.target) (is_hidden (symbols raw) (slice_get (places raw q) r.target.place))
+      (named_there raw q r.target named.target.0 named.target.1)))
       (each_map check r.expr.occurrences
-      (λ i o e. found_there o (named.arguments.each i o (target o) e (at_mapped target r.expr.occurrences i o e))))
+      (λ i o e. known_if (exists (symbols raw) (places raw q) o) (is_hidden (symbols raw) (slice_get (places raw q) o.place))
+      (found_there o (named.arguments.each i o (target o) e (at_mapped target r.expr.occurrences i o e)))))
 
 name_right : (ss : List Symbol) (name : Named) → number_in (declared_names ss) name.name < length ss
     → first_wrong (name_check (declared_names ss) name ∷ []) ≡ None
@@ -128,9 +185,9 @@ pub rules_named : (raw : RawGrammar) → first_wrong (unknown_checks (symbols ra
     → Each (λ q. Each (λ r. is_below (length r.expr.occurrences) r.expr.tree ≡ true) q.rules) (numbered raw).productions
     → Each (λ q. Each (IsNamedRule (numbered raw) q) q.rules) (numbered raw).productions
 rules_named raw h listed = each_mapped (produces raw) (λ q. Each (IsNamedRule (numbered raw) q) q.rules) raw.productions (λ p q e.
-    let parts = unknown_parts (symbols raw) q (flat_each (unknown_in (symbols raw)) raw.productions h p q e) in
+    let known = flat_each (unknown_in (symbols raw)) raw.productions h p q e in
     each_mapped (rule_of (symbols raw) (placed (symbols raw) q)) (IsNamedRule (numbered raw) (produces raw q)) q.rules (λ i r f.
-    rule_named raw q r (flat_each (rule_checks (symbols raw) (placed (symbols raw) q)) q.rules parts.2 i r f)
+    rule_named raw q r (target_known raw q known i r f) (arguments_known raw q known i r f)
     (mapped_each (rule_of (symbols raw) (placed (symbols raw) q)) (λ s. is_below (length s.expr.occurrences) s.expr.tree ≡ true)
     q.rules (mapped_each (produces raw) (λ s. Each (λ r. is_below (length r.expr.occurrences) r.expr.tree ≡ true) s.rules)
     raw.productions listed p q e) i r f)))

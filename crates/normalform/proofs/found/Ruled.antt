@@ -1,7 +1,7 @@
 -- The rules of a production: none is missing or duplicate, each target is one that they define, and each
 -- argument one that they use.
 use Rattle.normalform.proofs.Common
-use Common.{ℕ, zero, suc, ◌≡◌, ◌+◌, ◌-◌, ◌<◌, ◌≤◌, ◌⊎◌, inl, inr, true, nat_lt, nat_le, List, [], ◌∷◌, length, map, fold, Some}
+use Common.{ℕ, zero, suc, ◌≡◌, ◌+◌, ◌-◌, ◌<◌, ◌≤◌, ◌⊎◌, ◌||◌, inl, inr, Bool, false, false≢true, not, Kind, Occ, exists, new_target, checks_along, true, nat_lt, nat_le, List, [], ◌∷◌, length, map, fold, Some}
 use Common.{None, Option, slice_get, refl, ap, sym, ◌∙◌, arith, subst, and_parts, ltb-true, lt-ltb, leb-true, le-leb, eqb-true}
 use Common.{eq-eqb, cases_eq, list_any-append, list_any, range_with_len, Has, Each, DifferIn, Item, Symbol, Target, Literal}
 use Common.{Class, Synthesized, Inherited, item_kinds, symbol_kinds, defined_kind, used_kind, HasKind, IsRule, RawGrammar}
@@ -12,11 +12,11 @@ use Common.item
 use Common.fault
 use Rattle.ag_grammar.specs.declared.grammar.Rule.{Rule}
 use Rattle.ag_grammar.specs.grammars.Accepted.{IsNormal}
-use Rattle.normalform.proofs.found.Apart.{DecidesBy, none_apart, apart_along, along_apart, apart_differ, differ_apart}
+use Rattle.normalform.proofs.found.Apart.{DecidesBy, none_apart, checks_of_keys, apart_along, along_apart, apart_differ, differ_apart}
 use Rattle.normalform.proofs.numbered.KindAt.{synthesized_at, inherited_at}
-use Rattle.normalform.proofs.numbered.Placing.{kinds_at, kind_has, has_its_kind, is_its_kind}
+use Rattle.normalform.proofs.numbered.Placing.{kinds_at, kind_has, has_its_kind, is_its_kind, some_kind}
 use Rattle.normalform.proofs.found.Reduced.{symbols, produces, places}
-use Rattle.normalform.proofs.found.Right.{flat_each, each_flat, map_each, each_map, along_each, each_along}
+use Rattle.normalform.proofs.found.Right.{both_right, together, is_right, right_is, flat_each, each_flat, map_each, each_map, along_each, each_along}
 
 same_parts : (a b : Target) → a.place ≡ b.place → a.attr ≡ b.attr → record { place = a.place; attr = a.attr } ≡ b
 same_parts a b e f = rw (e, f)
@@ -195,6 +195,33 @@ pub mapped_each : {X Y : Type 0} (g : X → Y) (P : Y → Type 0) (xs : List X) 
     → slice_get xs i ≡ Some x → P (g x)
 mapped_each g P xs h i x e = h i (g x) (at_mapped g xs i x e)
 
+-- the two kinds at a place
+kind_case : (place : ℕ) (k : Kind) → (k ≡ defined_kind place) ⊎ (k ≡ used_kind place)
+kind_case zero Synthesized = inl refl
+kind_case zero Inherited = inr refl
+kind_case (suc i) Synthesized = inr refl
+kind_case (suc i) Inherited = inl refl
+
+kinds_differ : (place : ℕ) → Some (defined_kind place) ≡ Some (used_kind place) → ⊥
+kinds_differ zero e = absurd (cc)
+kinds_differ (suc i) e = absurd (cc)
+
+not_if : (b : Bool) → (b ≡ true → ⊥) → not b ≡ true
+not_if false h = refl
+not_if true h = absurd (h refl)
+
+if_not : (b : Bool) → not b ≡ true → b ≡ true → ⊥
+if_not false h e = absurd (false≢true e)
+if_not true h e = absurd (cc)
+
+-- in a test that passes if an attribute does not exist
+if_there : (a b : Bool) → b ≡ true → (a || not b) ≡ true → a ≡ true
+if_there true b e h = refl
+if_there false b e h = absurd (if_not b h e)
+
+in_test : (a b : Bool) → a ≡ true → (a || not b) ≡ true
+in_test a b h = rw h refl
+
 -- the rules of a production
 module _ (raw : RawGrammar) (q : RawProduction) where
   abbrev made : RawRule → Rule
@@ -206,28 +233,103 @@ module _ (raw : RawGrammar) (q : RawProduction) where
   abbrev fault_of : RawRule → NormalFault
   fault_of r = fault.RuleDoubled r.target.at
 
+  -- the attribute that an occurrence names exists
+  abbrev IsThere : Occ → Type 0
+  IsThere o = exists (symbols raw) (places raw q) o ≡ true
+
+  abbrev targets_from : List Target → List RawRule → List Check
+  targets_from ts rules =
+      checks_along (new_target (symbols raw) (places raw q)) (with_rule (symbols raw) (places raw q)) ts rules
+
+  abbrev keys_from : List Target → List RawRule → List Check
+  keys_from ts rules = checks_of_keys same_target fault_of target (λ r. []) ts rules
+
+  abbrev new_check_of : List Target → RawRule → Check
+  new_check_of ts r =
+      (fault_of r, not (list_any (same_target (target r)) ts) || not (exists (symbols raw) (places raw q) r.target))
+
+  abbrev key_check_of : List Target → RawRule → Check
+  key_check_of ts r = (fault_of r, not (list_any (same_target (target r)) ts))
+
+  -- the checks of targets that exist are those of keys
+  keys_pass : (rules : List RawRule) (ts : List Target) → ((i : ℕ) (r : RawRule) → slice_get rules i ≡ Some r → IsThere r.target)
+      → first_wrong (targets_from ts rules) ≡ None → first_wrong (keys_from ts rules) ≡ None
+  keys_pass [] ts there h = refl
+  keys_pass (r ∷ rs) ts there h =
+      let w = both_right (new_check_of ts r ∷ []) (targets_from (with_target ts (target r)) rs) h in
+      together (key_check_of ts r ∷ []) (keys_from (with_target ts (target r)) rs)
+      (right_is (key_check_of ts r)
+      (if_there (not (list_any (same_target (target r)) ts)) (exists (symbols raw) (places raw q) r.target) (there zero r refl)
+      (is_right (new_check_of ts r) w.0)))
+      (keys_pass rs (with_target ts (target r)) (λ i. there (suc i)) w.1)
+
+  pass_keys : (rules : List RawRule) (ts : List Target) → first_wrong (keys_from ts rules) ≡ None
+      → first_wrong (targets_from ts rules) ≡ None
+  pass_keys [] ts h = refl
+  pass_keys (r ∷ rs) ts h =
+      let w = both_right (key_check_of ts r ∷ []) (keys_from (with_target ts (target r)) rs) h in
+      together (new_check_of ts r ∷ []) (targets_from (with_target ts (target r)) rs)
+      (right_is (new_check_of ts r)
+      (in_test (not (list_any (same_target (target r)) ts)) (exists (symbols raw) (places raw q) r.target)
+      (is_right (key_check_of ts r) w.0)))
+      (pass_keys rs (with_target ts (target r)) w.1)
+
+  abbrev TargetsThere : Type 0
+  TargetsThere = (i : ℕ) (r : RawRule) → slice_get q.rules i ≡ Some r → IsThere r.target
+
   -- no rule is duplicate
-  pub rules_single : first_wrong (doubled_in (symbols raw) q) ≡ None → DifferIn (λ r. r.target) (produces raw q).rules
-  rules_single h =
+  pub rules_single : TargetsThere → first_wrong (doubled_in (symbols raw) q) ≡ None → DifferIn (λ r. r.target) (produces raw q).rules
+  rules_single there h =
       differ_mapped made (λ (r : Rule). r.target) q.rules (apart_differ target q.rules
-      (apart_along same_target fault_of target (λ r. []) decides_targets [] q.rules none_apart h))
+      (apart_along same_target fault_of target (λ r. []) decides_targets [] q.rules none_apart (keys_pass q.rules [] there h)))
 
   pub single_rules : DifferIn (λ r. r.target) (produces raw q).rules → first_wrong (doubled_in (symbols raw) q) ≡ None
   single_rules h =
-      along_apart same_target fault_of target (λ r. []) decides_targets [] q.rules
-      (differ_apart target q.rules (mapped_differ made (λ (r : Rule). r.target) q.rules h)) (λ i x e. refl)
+      pass_keys q.rules []
+      (along_apart same_target fault_of target (λ r. []) decides_targets [] q.rules
+      (differ_apart target q.rules (mapped_differ made (λ (r : Rule). r.target) q.rules h)) (λ i x e. refl))
+
+  -- an attribute that exists and is not used is defined, and likewise the other way round
+  abbrev number : Occ → Target
+  number o = target_of (symbols raw) (places raw q) o
+
+  is_defined : (o : Occ) → IsThere o → not (has_kind (symbols raw) (places raw q) (number o) (used_kind o.place)) ≡ true
+      → HasKind (numbered raw) (produces raw q) (number o) (defined_kind o.place)
+  is_defined o there h = let w = some_kind raw q o there in elim (kind_case o.place w.0) [
+    | inl is ↦ subst (HasKind (numbered raw) (produces raw q) (number o)) is w.1
+    | inr is ↦ absurd (if_not (has_kind (symbols raw) (places raw q) (number o) (used_kind o.place)) h
+        (has_its_kind raw q (number o) (used_kind o.place) (subst (HasKind (numbered raw) (produces raw q) (number o)) is w.1)))
+  ]
+
+  is_used : (o : Occ) → IsThere o → not (has_kind (symbols raw) (places raw q) (number o) (defined_kind o.place)) ≡ true
+      → HasKind (numbered raw) (produces raw q) (number o) (used_kind o.place)
+  is_used o there h = let w = some_kind raw q o there in elim (kind_case o.place w.0) [
+    | inl is ↦ absurd (if_not (has_kind (symbols raw) (places raw q) (number o) (defined_kind o.place)) h
+        (has_its_kind raw q (number o) (defined_kind o.place) (subst (HasKind (numbered raw) (produces raw q) (number o)) is w.1)))
+    | inr is ↦ subst (HasKind (numbered raw) (produces raw q) (number o)) is w.1
+  ]
+
+  not_used : (o : Occ) → HasKind (numbered raw) (produces raw q) (number o) (defined_kind o.place)
+      → not (has_kind (symbols raw) (places raw q) (number o) (used_kind o.place)) ≡ true
+  not_used o h = not_if (has_kind (symbols raw) (places raw q) (number o) (used_kind o.place)) (λ used.
+      kinds_differ o.place (sym h ∙ kind_has raw q (number o) (used_kind o.place) used))
+
+  not_defined : (o : Occ) → HasKind (numbered raw) (produces raw q) (number o) (used_kind o.place)
+      → not (has_kind (symbols raw) (places raw q) (number o) (defined_kind o.place)) ≡ true
+  not_defined o h = not_if (has_kind (symbols raw) (places raw q) (number o) (defined_kind o.place)) (λ defined.
+      kinds_differ o.place (sym (kind_has raw q (number o) (defined_kind o.place) defined) ∙ h))
 
   -- the rules define each target
   abbrev IsDefined : Rule → Type 0
   IsDefined r = HasKind (numbered raw) (produces raw q) r.target (defined_kind r.target.place)
 
-  pub targets_given : first_wrong (not_defined_in (symbols raw) q) ≡ None → Each IsDefined (produces raw q).rules
-  targets_given h = each_mapped _ _ _ (λ i r e.
-      kind_has raw q _ _ (map_each (defined_check (symbols raw) (places raw q)) q.rules h i r e))
+  pub targets_given : TargetsThere → first_wrong (not_defined_in (symbols raw) q) ≡ None → Each IsDefined (produces raw q).rules
+  targets_given there h = each_mapped made IsDefined q.rules (λ i r e.
+      is_defined r.target (there i r e) (map_each (defined_check (symbols raw) (places raw q)) q.rules h i r e))
 
   pub given_targets : Each IsDefined (produces raw q).rules → first_wrong (not_defined_in (symbols raw) q) ≡ None
   given_targets h = each_map (defined_check (symbols raw) (places raw q)) q.rules (λ i r e.
-      has_its_kind raw q (target r) (defined_kind (target r).place) (mapped_each made IsDefined q.rules h i r e))
+      not_used r.target (mapped_each made IsDefined q.rules h i r e))
 
   -- the rules use each argument
   abbrev IsUsed : Target → Type 0
@@ -236,14 +338,15 @@ module _ (raw : RawGrammar) (q : RawProduction) where
   abbrev used_checks : RawRule → List Check
   used_checks r = map (used_check (symbols raw) (places raw q)) r.expr.occurrences
 
-  pub arguments_found : first_wrong (not_normal_in (symbols raw) q) ≡ None → IsNormal (numbered raw) (produces raw q)
-  arguments_found h = each_mapped made (λ r. Each IsUsed r.args) q.rules (λ i r e. each_mapped _ _ _ (λ j o f.
-      kind_has raw q _ _ (map_each (used_check (symbols raw) (places raw q)) r.expr.occurrences
+  pub arguments_found : ((i : ℕ) (r : RawRule) → slice_get q.rules i ≡ Some r → Each IsThere r.expr.occurrences)
+      → first_wrong (not_normal_in (symbols raw) q) ≡ None → IsNormal (numbered raw) (produces raw q)
+  arguments_found there h = each_mapped made (λ r. Each IsUsed r.args) q.rules (λ i r e.
+      each_mapped number IsUsed r.expr.occurrences (λ j o f.
+      is_used o (there i r e j o f) (map_each (used_check (symbols raw) (places raw q)) r.expr.occurrences
       (flat_each used_checks q.rules h i r e) j o f)))
 
   pub found_arguments : IsNormal (numbered raw) (produces raw q) → first_wrong (not_normal_in (symbols raw) q) ≡ None
   found_arguments h =
       each_flat used_checks q.rules (λ i r e. each_map (used_check (symbols raw) (places raw q)) r.expr.occurrences (λ j o f.
-      let t = target_of (symbols raw) (places raw q) o in
-      has_its_kind raw q t (used_kind t.place)
+      not_defined o
       (mapped_each _ IsUsed _ (mapped_each made (λ s. Each IsUsed s.args) q.rules h i r e) j o f)))

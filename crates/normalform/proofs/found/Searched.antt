@@ -1,78 +1,93 @@
 -- The faults that the search finds are all, and the head of their list is the first fault.
 use Rattle.normalform.proofs.Common
-use Common.{◌≡◌, ◌∙◌, Bool, true, false, List, [], ◌∷◌, ◌++◌, Option, Some, None, refl, sym, ap, subst, append-nil, take, slice_get}
+use Common.{◌≡◌, ◌∙◌, Bool, true, false, List, [], ◌∷◌, ◌++◌, Option, Some, None, refl, sym, ap, subst, append_assoc, take, slice_get}
 use Common.{RawGrammar, NormalFault, Check, first_wrong, naming_checks, AreAll, HasNoFault, IsFirstFault, in_names}
-use Common.{in_productive, in_reached, in_rules, numbered, option_or}
+use Common.{in_productive, in_reached, in_rules, numbered, option_or, doubled_checks, missing_checks, later_kinds, limit_checks}
 use Rattle.ag_grammar.specs.grammars.Accepted.{IsProductive, IsReached}
 use Rattle.normalform.specs.declared.faults.structure.SymbolCheck.TheVariants as symbol_check
 use Rattle.normalform.specs.faults.Faults.{further_checks}
-use Rattle.normalform.specs.faults.FaultList.{Found, wrong, kept, is_empty, after_checks}
-use Rattle.normalform.specs.faults.AllFaults.{AreChecks, AreFaults, AreMarked, IsSearched, IsHead, nothing}
+use Rattle.normalform.specs.faults.FaultList.{Found, wrong, kept, is_empty, is_full, after_checks}
+use Rattle.normalform.specs.faults.AllFaults.{AreChecks, AreFaults, AreMarked, IsSearched, IsHead, nothing, checks_of_rules}
 use Rattle.normalform.specs.faults.AllFaults.{all_checks, structure_checks, marked_checks, if_none}
-use Rattle.normalform.proofs.Listing.{two_parts, first_is_head, none_wrong, wrong_none}
+use Rattle.normalform.proofs.Listing.{two_parts, after_full, after_none, first_is_head, none_wrong, wrong_none}
+use Rattle.normalform.proofs.found.Founds.{naming_parts}
+use Rattle.normalform.proofs.found.Reduced.{symbols}
 use Rattle.normalform.proofs.found.Marks.{first_not, are_all, all_are, all_true, marked_all, true_at, same_marked, same_marks}
 use Rattle.normalform.proofs.found.Wrong.{wrong-append}
 
--- whether the list of what is kept is empty tells whether there was a fault
-none_kept : (b : Bool) (fs : List NormalFault) → is_empty (kept b [] fs) ≡ true → fs ≡ []
-none_kept b [] h = refl
-none_kept false (f ∷ fs) h = absurd (cc)
-none_kept true (f ∷ fs) h = absurd (cc)
+-- a list with a fault is not empty
+full_some : (b : Bool) (fs : List NormalFault) → is_full (record { only_first = b; items = kept b [] fs }) ≡ true → fs ≡ [] → ⊥
+full_some false fs h e = absurd (cc)
+full_some true [] h e = absurd (cc)
+full_some true (f ∷ fs) h e = absurd (cc)
 
-some_kept : (b : Bool) (fs : List NormalFault) → is_empty (kept b [] fs) ≡ false → fs ≡ [] → ⊥
-some_kept false [] h e = absurd (cc)
-some_kept true [] h e = absurd (cc)
-some_kept b (f ∷ fs) h e = absurd (cc)
+same_empty : (b : Bool) (fs : List NormalFault) → is_empty (kept b [] fs) ≡ is_empty fs
+same_empty false fs = refl
+same_empty true [] = refl
+same_empty true (f ∷ fs) = refl
 
-not_asked : (b : Bool) (fs : List NormalFault) (cs : List Check) → is_empty (kept b [] fs) ≡ false → if_none fs cs ≡ []
-not_asked false [] cs h = absurd (cc)
-not_asked true [] cs h = absurd (cc)
-not_asked b (f ∷ fs) cs h = refl
+-- what is found is empty exactly if no name is wrong
+pub names_empty : (raw : RawGrammar) (b : Bool) (found : Found) → found ≡ after_checks (nothing b) (naming_checks raw)
+    → is_empty found.items ≡ is_empty (wrong (naming_checks raw))
+names_empty raw b found e = rw e (same_empty b (wrong (naming_checks raw)))
 
-pub none_named : (raw : RawGrammar) (b : Bool) (found : Found) → found ≡ after_checks (nothing b) (naming_checks raw)
-    → is_empty found.items ≡ true → wrong (naming_checks raw) ≡ []
-none_named raw b found e h = none_kept b (wrong (naming_checks raw)) (rw e at h)
+pub none_if_empty : (fs : List NormalFault) → is_empty fs ≡ true → fs ≡ []
+none_if_empty [] h = refl
+none_if_empty (f ∷ fs) h = absurd (cc)
 
--- the search ends after the checks of names
+some_if : (fs : List NormalFault) → is_empty fs ≡ false → fs ≡ [] → ⊥
+some_if [] h e = absurd (cc)
+some_if (f ∷ fs) h e = absurd (cc)
+
+not_asked : (fs : List NormalFault) (cs : List Check) → is_empty fs ≡ false → if_none fs cs ≡ []
+not_asked [] cs h = absurd (cc)
+not_asked (f ∷ fs) cs h = refl
+
+-- if a name is wrong, no symbol is checked by its mark
+pub unmarked : (raw : RawGrammar) (found : Found) → is_empty (wrong (naming_checks raw)) ≡ false → AreMarked raw found found
+unmarked raw found h = record {
+  productive = [];
+  reached = [];
+  marks_productive = λ none. absurd (some_if (wrong (naming_checks raw)) h none);
+  marks_reached = λ none. absurd (some_if (wrong (naming_checks raw)) h none);
+  list = sym (ap (after_checks found) (not_asked (wrong (naming_checks raw)) (structure_checks [] [] raw.symbols) h)
+      ∙ after_none found);
+}
+
+-- the search ends after the checks of names, if the list is full
 pub searched_names : (raw : RawGrammar) (b : Bool) (found : Found) → found ≡ after_checks (nothing b) (naming_checks raw)
-    → is_empty found.items ≡ false → IsSearched raw b found
+    → is_full found ≡ true → IsSearched raw b found
 searched_names raw b found e h =
     let names = naming_checks raw in
-    let some : is_empty (kept b [] (wrong names)) ≡ false = rw e at h in
-    let further = structure_checks [] [] raw.symbols ++ further_checks raw in
-    let same : names ++ if_none (wrong names) further ≡ names =
-    ap (λ cs. names ++ cs) (not_asked b (wrong names) further some) ∙ append-nil names in (
+    let full : is_full (after_checks (nothing b) names) ≡ true = rw e at h in
+    let others = if_none (wrong names) (structure_checks [] [] raw.symbols) ++ checks_of_rules raw in (
       all_checks [] [] raw,
       record {
         productive = [];
         reached = [];
-        marks_productive = λ none. absurd (some_kept b (wrong names) some none);
-        marks_reached = λ none. absurd (some_kept b (wrong names) some none);
+        marks_productive = λ none. absurd (full_some b (wrong names) full none);
+        marks_reached = λ none. absurd (full_some b (wrong names) full none);
         list = refl;
       },
-      e ∙ ap (after_checks (nothing b)) (sym same),
+      two_parts names others (nothing b) found found e (after_full found others h),
     )
 
 -- the search makes all checks
 pub searched_all : (raw : RawGrammar) (b : Bool) (names mid found : Found) → names ≡ after_checks (nothing b) (naming_checks raw)
-    → is_empty names.items ≡ true → AreMarked raw names mid → found ≡ after_checks mid (further_checks raw)
-    → IsSearched raw b found
-searched_all raw b names mid found e h marked f =
-    let structure = structure_checks marked.productive marked.reached raw.symbols in
-    let none = none_named raw b names e h in (
+    → AreMarked raw names mid → found ≡ after_checks mid (checks_of_rules raw) → IsSearched raw b found
+searched_all raw b names mid found e marked f =
+    let structure =
+    if_none (wrong (naming_checks raw)) (structure_checks marked.productive marked.reached raw.symbols) in (
       all_checks marked.productive marked.reached raw,
       record {
         productive = marked.productive;
         reached = marked.reached;
-        marks_productive = λ none. marked.marks_productive;
-        marks_reached = λ none. marked.marks_reached;
+        marks_productive = marked.marks_productive;
+        marks_reached = marked.marks_reached;
         list = refl;
       },
-      subst
-          (λ (fs : List NormalFault). found ≡ after_checks (nothing b) (naming_checks raw ++ if_none fs (structure ++ further_checks raw)))
-          (sym none)
-          (two_parts (naming_checks raw) (structure ++ further_checks raw) (nothing b) names found e
-          (two_parts structure (further_checks raw) names mid found marked.list f)),
+      two_parts (naming_checks raw) (structure ++ checks_of_rules raw) (nothing b) names found e
+          (two_parts structure (checks_of_rules raw) names mid found marked.list f),
     )
 
 pub all_found : (raw : RawGrammar) (found : Found) → IsSearched raw false found → AreFaults raw found.items
@@ -106,16 +121,26 @@ module _ (raw : RawGrammar) (cs : List Check) (checks : AreChecks raw cs) where
   -- if a name is wrong, it is that of the names
   of_names : (g : NormalFault) → first_wrong (naming_checks raw) ≡ Some g → first_wrong cs ≡ Some g
   of_names g e =
-      ap first_wrong checks.list
-      ∙ wrong-append (naming_checks raw) (if_none (wrong (naming_checks raw)) ((productive ++ reached) ++ further))
-      ∙ ap (λ o. option_or o (first_wrong (if_none (wrong (naming_checks raw)) ((productive ++ reached) ++ further)))) e
+      let others = if_none (wrong (naming_checks raw)) (productive ++ reached) ++ checks_of_rules raw in
+      ap first_wrong checks.list ∙ wrong-append (naming_checks raw) others ∙ ap (λ o. option_or o (first_wrong others)) e
+
+  none_doubled : wrong (naming_checks raw) ≡ [] → wrong (doubled_checks raw.symbols) ≡ []
+  none_doubled none = wrong_none (doubled_checks raw.symbols) (naming_parts raw (none_wrong (naming_checks raw) none)).1
 
   -- otherwise it is that of the other checks
   of_others : wrong (naming_checks raw) ≡ []
       → first_wrong cs ≡ option_or (option_or (first_wrong productive) (first_wrong reached)) (first_wrong further)
   of_others none =
+      let ss = symbols raw in
+      let qs = raw.productions in
+      let missing = missing_checks ss qs in
+      let later = later_kinds ss qs in
+      let limits = limit_checks ss qs in
       ap first_wrong checks.list
-      ∙ ap (λ fs. first_wrong (naming_checks raw ++ if_none fs ((productive ++ reached) ++ further))) none
+      ∙ ap (λ fs. first_wrong (naming_checks raw ++ (if_none fs (productive ++ reached) ++ checks_of_rules raw))) none
+      ∙ ap (λ fs. first_wrong (naming_checks raw ++ ((productive ++ reached) ++ (if_none fs missing ++ (later ++ limits)))))
+      (none_doubled none)
+      ∙ ap (λ rest. first_wrong (naming_checks raw ++ ((productive ++ reached) ++ rest))) (sym (append_assoc missing later limits))
       ∙ wrong-append (naming_checks raw) ((productive ++ reached) ++ further)
       ∙ ap (λ o. option_or o (first_wrong ((productive ++ reached) ++ further))) (none_wrong (naming_checks raw) none)
       ∙ wrong-append (productive ++ reached) further
@@ -219,15 +244,15 @@ same_checks raw xs ys a b = a.list ∙ go (wrong (naming_checks raw)) refl ∙ s
         (same_marks (IsProductive (numbered raw)) raw a.productive b.productive (a.marks_productive e) (b.marks_productive e)) in
         let r = same_marked symbol_check.Reached a.reached b.reached raw.symbols
         (same_marks (IsReached (numbered raw)) raw a.reached b.reached (a.marks_reached e) (b.marks_reached e)) in
-        ap (λ cs. naming_checks raw ++ if_none (wrong (naming_checks raw)) ((cs
-        ++ marked_checks symbol_check.Reached a.reached raw.symbols) ++ further_checks raw)) p
-        ∙ ap (λ cs. naming_checks raw ++ if_none (wrong (naming_checks raw)) ((marked_checks symbol_check.Productive
-        b.productive raw.symbols ++ cs) ++ further_checks raw)) r
+        let reached = marked_checks symbol_check.Reached a.reached raw.symbols in
+        let productive = marked_checks symbol_check.Productive b.productive raw.symbols in
+        ap (λ cs. naming_checks raw ++ (if_none (wrong (naming_checks raw)) (cs ++ reached) ++ checks_of_rules raw)) p
+        ∙ ap (λ cs. naming_checks raw ++ (if_none (wrong (naming_checks raw)) (productive ++ cs) ++ checks_of_rules raw)) r
     go (f ∷ fs) e =
-        let few = structure_checks a.productive a.reached raw.symbols ++ further_checks raw in
-        let others = structure_checks b.productive b.reached raw.symbols ++ further_checks raw in
+        let few = structure_checks a.productive a.reached raw.symbols in
+        let others = structure_checks b.productive b.reached raw.symbols in
         let empty : if_none (wrong (naming_checks raw)) few ≡ if_none (wrong (naming_checks raw)) others = rw e refl in
-        ap (λ cs. naming_checks raw ++ cs) empty
+        ap (λ cs. naming_checks raw ++ (cs ++ checks_of_rules raw)) empty
 
 pub one_list : (raw : RawGrammar) (xs ys : List NormalFault) → AreFaults raw xs → AreFaults raw ys → xs ≡ ys
 one_list raw xs ys a b = a.2 ∙ ap wrong (same_checks raw a.0 b.0 a.1 b.1) ∙ sym b.2

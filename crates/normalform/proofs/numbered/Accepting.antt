@@ -6,7 +6,7 @@ use Common.{slice_get_within, get_or_from_slice_get, list_any, list_all, Has, Ea
 use Common.{Class, stored_items, is_below, RawGrammar, RawItem, RawProduction, NormalFault, first_wrong, unknown_in, item_checks}
 use Common.{unknown_checks, is_start, start_checks, missing_in, missing_checks, doubled_in, doubled_rules, not_defined_in}
 use Common.{not_defined_here, not_normal_in, not_normal, few_attributes, few_items, few_children, is_short, limit_checks}
-use Common.{rule_kinds, naming_checks, HasNoFault, IsReadable, IsReadableItem, IsSmall, IsListed, AreListedIn, IsFirstFault}
+use Common.{rule_kinds, later_kinds, naming_checks, HasNoFault, IsReadable, IsReadableItem, IsSmall, IsListed, AreListedIn, IsFirstFault}
 use Common.{in_names, in_productive, in_reached, in_rules, IsTrueOf, number_in, symbol_of, declared_names, item_of, placed}
 use Common.{is_class, classes_of, literals_of, numbered, at_mapped}
 use Common.raw_item
@@ -18,7 +18,7 @@ use Rattle.ag_grammar.specs.grammars.Accepted.{max_productions, max_items, max_c
 use Rattle.normalform.proofs.found.Apart.{Apart}
 use Rattle.normalform.proofs.found.Founds.{naming_parts}
 use Rattle.normalform.proofs.found.Known.{symbols_differ, attributes_differ, differ_doubled, texts_differ, lefts_known}
-use Rattle.normalform.proofs.found.Known.{rules_named, named_known}
+use Rattle.normalform.proofs.found.Known.{rules_named, named_known, target_known, arguments_known}
 use Rattle.normalform.proofs.numbered.Listed.{any_has, has_any, literals_apart, literal_occurs, literal_listed, apart_same}
 use Rattle.normalform.proofs.numbered.Listed.{number_at, filter_has, has_filter, class_occurs, occurs_class}
 use Rattle.normalform.proofs.numbered.Placing.{stored_same}
@@ -162,9 +162,9 @@ rule_parts : (raw : RawGrammar) → first_wrong (rule_kinds (symbols raw) raw.pr
 rule_parts raw h =
     let ss = symbols raw in
     let qs = raw.productions in
-    let a = both_right ((missing_checks ss qs ++ doubled_rules ss qs) ++ not_defined_here ss qs) _ h in
-    let b = both_right (missing_checks ss qs ++ doubled_rules ss qs) _ a.0 in
-    let c = both_right (missing_checks ss qs) _ b.0 in (c.0, c.1, b.1, a.1)
+    let a = both_right (missing_checks ss qs) (later_kinds ss qs) h in
+    let b = both_right (doubled_rules ss qs ++ not_defined_here ss qs) (not_normal ss qs) a.1 in
+    let c = both_right (doubled_rules ss qs) (not_defined_here ss qs) b.0 in (a.0, c.0, c.1, b.1)
 
 parts_rule : (raw : RawGrammar) → Rules raw → first_wrong (rule_kinds (symbols raw) raw.productions) ≡ None
 parts_rule raw (missing, doubled, defined, used) = search (together)
@@ -175,16 +175,20 @@ missing_at_index raw h p q e = let there : 0 + p ≡ p = omega arith in
     subst (λ n. first_wrong (missing_in (symbols raw) n q) ≡ None) there
     (along_each (missing_in (symbols raw)) 0 raw.productions h p q e)
 
-complete : (raw : RawGrammar) → Rules raw → Each (IsComplete (numbered raw)) (numbered raw).productions
-complete raw r = each_mapped _ _ _ (λ p q e. record {
-  all = all_ruled raw p q (missing_at_index raw r.0 p q e);
-  single = rules_single raw q (flat_each (doubled_in (symbols raw)) raw.productions r.1 p q e);
-  no_other = targets_given raw q (flat_each (not_defined_in (symbols raw)) raw.productions r.2 p q e);
-})
+complete : (raw : RawGrammar) → first_wrong (unknown_checks (symbols raw) raw.productions) ≡ None → Rules raw
+    → Each (IsComplete (numbered raw)) (numbered raw).productions
+complete raw h r = each_mapped _ _ _ (λ p q e.
+    let there = target_known raw q (flat_each (unknown_in (symbols raw)) raw.productions h p q e) in record {
+      all = all_ruled raw p q (missing_at_index raw r.0 p q e);
+      single = rules_single raw q there (flat_each (doubled_in (symbols raw)) raw.productions r.1 p q e);
+      no_other = targets_given raw q there (flat_each (not_defined_in (symbols raw)) raw.productions r.2 p q e);
+    })
 
-normal : (raw : RawGrammar) → Rules raw → Each (IsNormal (numbered raw)) (numbered raw).productions
-normal raw r =
-    each_mapped _ _ _ (λ p q e. arguments_found raw q (flat_each (not_normal_in (symbols raw)) raw.productions r.3 p q e))
+normal : (raw : RawGrammar) → first_wrong (unknown_checks (symbols raw) raw.productions) ≡ None → Rules raw
+    → Each (IsNormal (numbered raw)) (numbered raw).productions
+normal raw h r = each_mapped _ _ _ (λ p q e.
+    arguments_found raw q (arguments_known raw q (flat_each (unknown_in (symbols raw)) raw.productions h p q e))
+    (flat_each (not_normal_in (symbols raw)) raw.productions r.3 p q e))
 
 rules_of : (raw : RawGrammar) → Each (IsComplete (numbered raw)) (numbered raw).productions
     → Each (IsNormal (numbered raw)) (numbered raw).productions → Rules raw
@@ -255,8 +259,8 @@ accepted raw readable listed none =
     record {
       named = named raw readable listed none.names;
       start = starts raw parts.2;
-      complete = complete raw rules;
-      normal = normal raw rules;
+      complete = complete raw parts.0 rules;
+      normal = normal raw parts.0 rules;
       productive = λ s lt. none.productive s (rw (← length-map raw.symbols symbol_of) lt);
       reachable = λ s lt. none.reached s (rw (← length-map raw.symbols symbol_of) lt);
       limits = limits raw readable further.1;

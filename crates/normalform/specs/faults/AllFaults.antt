@@ -1,7 +1,8 @@
--- All faults of a raw grammar (this project's). N4 to N10 are looked for only in a grammar without N1 to N3: a wrong name would
--- make further faults that only follow from it. N4 and N5 are checked by marks, one for each symbol, which tell whether it is
+-- All faults of a raw grammar (this project's). A fault is left out where it only follows from another one. So N4 and N5 are
+-- looked for only in a grammar without N1 to N3, and N6 only in one without N2: of two attributes of one name only the first has
+-- a number, so the second would seem to lack its rule. N4 and N5 are checked by marks, one for each symbol, which tell whether it is
 -- productive, or reached. In this file `ss` are symbols, `n` is the number of one, and `marks` has a mark for each number.
-use Rattle.std.specs.Prelude.{ℕ, ◌≡◌, ◌<◌, ◌↔◌, ◌⊎◌, Bool, true, List, [], ◌∷◌, ◌++◌, length, Option, Some, slice_get}
+use Rattle.std.specs.Prelude.{ℕ, ◌≡◌, ◌<◌, ◌↔◌, ◌⊎◌, Bool, true, List, [], ◌∷◌, ◌++◌, length, map, Option, Some, slice_get}
 use Rattle.ag_grammar.specs.declared.raw.Named.{Named}
 use Rattle.ag_grammar.specs.declared.raw.RawGrammar.{RawGrammar}
 use Rattle.ag_grammar.specs.declared.raw.RawSymbol.{RawSymbol}
@@ -12,8 +13,9 @@ use Rattle.normalform.specs.declared.fault.NormalFault.TheVariants as fault
 use Rattle.normalform.specs.declared.faults.structure.SymbolCheck.{SymbolCheck}
 use Rattle.normalform.specs.declared.faults.structure.SymbolCheck.TheVariants as symbol_check
 use Rattle.normalform.specs.faults.FaultList.{Found, wrong, after_checks}
-use Rattle.normalform.specs.faults.Faults.{Check, checks_along, next_index, naming_checks, further_checks}
-use Rattle.normalform.specs.numbers.Numbers.{numbered}
+use Rattle.normalform.specs.faults.Faults.{Check, checks_along, next_index, naming_checks, doubled_checks, missing_checks}
+use Rattle.normalform.specs.faults.Faults.{later_kinds, limit_checks}
+use Rattle.normalform.specs.numbers.Numbers.{numbered, symbol_of}
 
 -- the fault N4 or N5 of the symbol with this name
 abbrev pub fault_of : SymbolCheck → Named → NormalFault
@@ -38,11 +40,17 @@ abbrev pub if_none : List NormalFault → List Check → List Check
 if_none [] checks = checks
 if_none (f ∷ fs) checks = []
 
+-- the checks of N6 to N10
+abbrev pub checks_of_rules : RawGrammar → List Check
+checks_of_rules raw = let ss = map symbol_of raw.symbols in
+    if_none (wrong (doubled_checks raw.symbols)) (missing_checks ss raw.productions)
+    ++ (later_kinds ss raw.productions ++ limit_checks ss raw.productions)
+
 -- all checks of a raw grammar, in their order
 abbrev pub all_checks : List Bool → List Bool → RawGrammar → List Check
 all_checks productive reached raw =
-    naming_checks raw ++ if_none (wrong (naming_checks raw))
-    (structure_checks productive reached raw.symbols ++ further_checks raw)
+    naming_checks raw ++ (if_none (wrong (naming_checks raw)) (structure_checks productive reached raw.symbols)
+    ++ checks_of_rules raw)
 
 -- the marks tell which symbols have the property P
 abbrev pub AreMarksOf : (ℕ → Type 0) → RawGrammar → List Bool → Type 0
@@ -60,13 +68,15 @@ pub record AreChecks (raw : RawGrammar) (checks : List Check) : Type 0 where
 abbrev pub AreFaults : RawGrammar → List NormalFault → Type 0
 AreFaults raw faults = (checks : List Check) × AreChecks raw checks × (faults ≡ wrong checks)
 
--- the checks of N4 and N5 of a raw grammar are made, by marks that tell which symbols are productive and reached
+-- The checks of N4 and N5 of a raw grammar are made, by marks that tell which symbols are productive and reached. If names are
+-- wrong, none is made.
 pub record AreMarked (raw : RawGrammar) (old : Found) (new : Found) : Type 0 where
   pub productive : List Bool
   pub reached : List Bool
-  pub marks_productive : AreMarksOf (IsProductive (numbered raw)) raw productive
-  pub marks_reached : AreMarksOf (IsReached (numbered raw)) raw reached
-  pub list : new ≡ after_checks old (structure_checks productive reached raw.symbols)
+  pub marks_productive : wrong (naming_checks raw) ≡ [] → AreMarksOf (IsProductive (numbered raw)) raw productive
+  pub marks_reached : wrong (naming_checks raw) ≡ [] → AreMarksOf (IsReached (numbered raw)) raw reached
+  pub list : new
+      ≡ after_checks old (if_none (wrong (naming_checks raw)) (structure_checks productive reached raw.symbols))
 
 -- nothing is found yet
 abbrev pub nothing : Bool → Found

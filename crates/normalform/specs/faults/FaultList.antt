@@ -1,5 +1,5 @@
 -- Lists of faults, and what a search has found: all faults, or the first one only.
-use Rattle.std.specs.Prelude.{Bool, true, false, cond, not, ◌&&◌, List, [], ◌∷◌, ◌++◌, take}
+use Rattle.std.specs.Prelude.{◌≡◌, ◌⊎◌, Bool, true, false, cond, not, ◌&&◌, List, [], ◌∷◌, ◌++◌, take}
 use Rattle.normalform.specs.declared.fault.NormalFault.{NormalFault}
 use Rattle.normalform.specs.faults.Faults.{Check}
 
@@ -34,3 +34,7 @@ after_checks found checks = record {
   only_first = found.only_first;
   items = kept found.only_first found.items (wrong checks);
 }
+
+-- `none` tells whether none of some checks has failed, unless the list is full
+abbrev pub TellsIfNone : Found → List Check → Bool → Type 0
+TellsIfNone found checks none = (is_full found ≡ true) ⊎ (none ≡ is_empty (wrong checks))

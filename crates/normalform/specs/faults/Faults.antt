@@ -6,7 +6,7 @@
 -- productions, `q` one of them and `p` its number, `items` the items at its places, `r` a rule, `o` an occurrence, and `ts`
 -- targets of rules.
 use Rattle.std.specs.Prelude.{All, ℕ, zero, suc, cond, fold, ◌⊎◌, ◌+◌, ◌≡◌, ◌<◌, ◌≤◌, nat_eq, nat_le, not, Bool, true, false}
-use Rattle.std.specs.Prelude.{◌&&◌, List, [], ◌∷◌, ◌++◌, length, map, flat_map, find, Option, Some, None, bytes_eq, slice_get}
+use Rattle.std.specs.Prelude.{◌&&◌, ◌||◌, List, [], ◌∷◌, ◌++◌, length, map, flat_map, find, Option, Some, None, bytes_eq, slice_get}
 use Rattle.std.specs.List.{list_any, list_all, range_with_len}
 use Rattle.std.specs.Option.{option_map}
 use Rattle.ag_grammar.specs.Lists.{Each}
@@ -60,9 +60,19 @@ item_checks names (raw_item.Name name) = name_check names name ∷ []
 item_checks names (raw_item.Literal text) = []
 item_checks names (raw_item.Class c) = []
 
--- N1. The check of an occurrence: the item at its place has an attribute of its name.
+-- whether the item at an occurrence's place has an attribute of its name
+abbrev pub exists : List Symbol → List Item → Occ → Bool
+exists ss items o = list_any (bytes_eq o.attr) (names_at ss items o.place)
+
+-- whether an item is a symbol that is not declared; of its attributes nothing is said, since the symbol's name has N1
+abbrev pub is_hidden : List Symbol → Option Item → Bool
+is_hidden ss None = false
+is_hidden ss (Some (item.Symbol s)) = nat_le (length ss) s
+is_hidden ss (Some (item.Terminal a)) = false
+
+-- N1. The check of an occurrence: the attribute exists. It is not checked at a symbol that is not declared.
 abbrev pub occurrence_check : List Symbol → List Item → Occ → Check
-occurrence_check ss items o = (fault.UnknownName o.at, list_any (bytes_eq o.attr) (names_at ss items o.place))
+occurrence_check ss items o = (fault.UnknownName o.at, exists ss items o || is_hidden ss (slice_get items o.place))
 
 -- N1. The checks of a rule: of its target, then of the occurrences in its expression.
 abbrev pub rule_checks : List Symbol → List Item → RawRule → List Check
@@ -167,9 +177,12 @@ missing_in ss p q = checks_along (missing_at ss (targets_of ss (placed ss q) q.r
 abbrev pub missing_checks : List Symbol → List RawProduction → List Check
 missing_checks ss qs = checks_along (missing_in ss) next_index 0 qs
 
--- N7. The check of a rule's target: no earlier rule of the production has the same target.
+-- N7. The check of a rule's target: no earlier rule of the production has the same target, or the target does not exist.
 abbrev pub new_target : List Symbol → List Item → List Target → RawRule → List Check
-new_target ss items ts r = (fault.RuleDoubled r.target.at, not (list_any (same_target (target_of ss items r.target)) ts)) ∷ []
+new_target ss items ts r = (
+  fault.RuleDoubled r.target.at,
+  not (list_any (same_target (target_of ss items r.target)) ts) || not (exists ss items r.target),
+) ∷ []
 
 -- N7. The checks of the rules of a production.
 abbrev pub doubled_in : List Symbol → RawProduction → List Check
@@ -191,10 +204,10 @@ is_kind Inherited (Some Inherited) = true
 abbrev pub has_kind : List Symbol → List Item → Target → Kind → Bool
 has_kind ss items t k = is_kind k (slice_get (item_kinds (declared ss) (slice_get items t.place)) t.attr)
 
--- N8. The check of a rule's target: it exists, and is synthesized at place 0, or inherited at a later place.
+-- N8. The check of a rule's target: it is not an attribute that the rules of the production may only use.
 abbrev pub defined_check : List Symbol → List Item → RawRule → Check
 defined_check ss items r = let t = target_of ss items r.target in
-    (fault.NotDefinedHere r.target.at, has_kind ss items t (defined_kind t.place))
+    (fault.NotDefinedHere r.target.at, not (has_kind ss items t (used_kind t.place)))
 
 -- N8. The checks of the rules of a production.
 abbrev pub not_defined_in : List Symbol → RawProduction → List Check
@@ -204,9 +217,9 @@ not_defined_in ss q = map (defined_check ss (placed ss q)) q.rules
 abbrev pub not_defined_here : List Symbol → List RawProduction → List Check
 not_defined_here ss qs = flat_map (not_defined_in ss) qs
 
--- N9. The check of an occurrence in an expression: it exists, and is inherited at place 0, or synthesized at a later place.
+-- N9. The check of an occurrence in an expression: it is not an attribute that the rules of the production define.
 abbrev pub used_check : List Symbol → List Item → Occ → Check
-used_check ss items o = let t = target_of ss items o in (fault.NotNormal o.at, has_kind ss items t (used_kind t.place))
+used_check ss items o = let t = target_of ss items o in (fault.NotNormal o.at, not (has_kind ss items t (defined_kind t.place)))
 
 -- N9. The checks of the rules of a production.
 abbrev pub not_normal_in : List Symbol → RawProduction → List Check
@@ -258,9 +271,13 @@ abbrev pub naming_checks : RawGrammar → List Check
 naming_checks raw = let ss = map symbol_of raw.symbols in
     unknown_checks ss raw.productions ++ doubled_checks raw.symbols ++ start_checks ss raw.start
 
+-- the checks of N7 to N9
+abbrev pub later_kinds : List Symbol → List RawProduction → List Check
+later_kinds ss qs = doubled_rules ss qs ++ not_defined_here ss qs ++ not_normal ss qs
+
 -- the checks of N6 to N9: rules
 abbrev pub rule_kinds : List Symbol → List RawProduction → List Check
-rule_kinds ss qs = missing_checks ss qs ++ doubled_rules ss qs ++ not_defined_here ss qs ++ not_normal ss qs
+rule_kinds ss qs = missing_checks ss qs ++ later_kinds ss qs
 
 -- the checks of N6 to N10
 abbrev pub further_checks : RawGrammar → List Check

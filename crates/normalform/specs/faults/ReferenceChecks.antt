@@ -1,13 +1,13 @@
 -- The checks of the attributes that the rules of productions name: in each rule its target, and then its arguments (N1), the
 -- target alone (N8), or the arguments alone (N9). The first argument of each definition says which of the three is checked. The
 -- other names are those of `Faults`.
-use Rattle.std.specs.Prelude.{List, [], ◌∷◌, map, flat_map}
+use Rattle.std.specs.Prelude.{List, [], ◌∷◌, map, flat_map, not}
 use Rattle.ag_grammar.specs.declared.grammar.Item.{Item}
 use Rattle.ag_grammar.specs.declared.grammar.Symbol.{Symbol}
 use Rattle.ag_grammar.specs.declared.syntax.occurrence.Occ.{Occ}
 use Rattle.ag_grammar.specs.declared.raw.RawProduction.{RawProduction}
 use Rattle.ag_grammar.specs.declared.raw.RawRule.{RawRule}
-use Rattle.ag_grammar.specs.grammars.AttributeGrammar.{defined_kind}
+use Rattle.ag_grammar.specs.grammars.AttributeGrammar.{used_kind}
 use Rattle.normalform.specs.declared.fault.NormalFault.TheVariants as fault
 use Rattle.normalform.specs.declared.faults.reference_checks.RuleCheck.{RuleCheck}
 use Rattle.normalform.specs.declared.faults.reference_checks.RuleCheck.TheVariants as rule_check
@@ -18,7 +18,7 @@ use Rattle.normalform.specs.numbers.Numbers.{placed, target_of}
 abbrev pub check_of_occurrence : RuleCheck → List Symbol → List Item → Occ → Check
 check_of_occurrence rule_check.Known ss items o = occurrence_check ss items o
 check_of_occurrence rule_check.Defined ss items o = let t = target_of ss items o in
-    (fault.NotDefinedHere o.at, has_kind ss items t (defined_kind t.place))
+    (fault.NotDefinedHere o.at, not (has_kind ss items t (used_kind t.place)))
 check_of_occurrence rule_check.Used ss items o = used_check ss items o
 
 -- the checks of a rule

@@ -1,5 +1,5 @@
 //! The list of faults that a search fills.
-ghost use Rattle.std.specs.Prelude.{◌≡◌, ◌∷◌, [], false, OnOk, slice_get};
+ghost use Rattle.std.specs.Prelude.{◌≡◌, ◌∷◌, [], false, length, OnOk, slice_get};
 ghost use Rattle.normalform.specs.faults.FaultList.{after_checks, is_empty, is_full};
 
 use crate::fault::NormalFault;
@@ -45,6 +45,13 @@ impl FaultList {
         ensures { result ≡ is_empty self.now.items }
     {
         self.items.is_empty()
+    }
+
+    /// Returns the number of faults.
+    pub fn len(&self) -> usize
+        ensures { result ≡ length self.now.items }
+    {
+        self.items.len()
     }
 
     /// Lends the faults.

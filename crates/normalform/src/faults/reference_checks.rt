@@ -18,11 +18,11 @@ use std::alloc::Global;
 /// has to hold, and which fault is listed otherwise.
 #[derive(Clone, Copy, PartialEq, Eq)]
 pub enum RuleCheck {
-    /// N1: targets and arguments exist.
+    /// N1: targets and arguments exist, or are at a symbol that is not declared.
     Known,
-    /// N8: targets are synthesized at place 0, or inherited at a later place.
+    /// N8: targets are not inherited at place 0, nor synthesized at a later place.
     Defined,
-    /// N9: arguments are inherited at place 0, or synthesized at a later place.
+    /// N9: arguments are not synthesized at place 0, nor inherited at a later place.
     Used,
 }
 
@@ -41,15 +41,15 @@ fn push_of(
     let at = occurrence.at;
     match rule_check {
         RuleCheck::Known => faults.push_unless(
-            declared.has_attribute(items, occurrence),
+            declared.is_known(items, occurrence),
             NormalFault::UnknownName(at),
         ),
         RuleCheck::Defined => faults.push_unless(
-            declared.is_defined_here(items, occurrence),
+            !declared.is_used_here(items, occurrence),
             NormalFault::NotDefinedHere(at),
         ),
         RuleCheck::Used => faults.push_unless(
-            declared.is_used_here(items, occurrence),
+            !declared.is_defined_here(items, occurrence),
             NormalFault::NotNormal(at),
         ),
     }

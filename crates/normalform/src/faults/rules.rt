@@ -144,8 +144,8 @@ pub fn push_missing(
     Ok(())
 }
 
-/// Appends N7 if the target of a rule is in `targets`, which has the targets of the earlier rules
-/// of the production. Otherwise adds the target to `targets`.
+/// Appends N7 if the target of a rule exists and is in `targets`, which has the targets of the
+/// earlier rules of the production. Adds the target to `targets`, unless it is there already.
 fn push_doubled_rule(
     faults: &mut FaultList,
     targets: &mut Targets,
@@ -159,7 +159,8 @@ fn push_doubled_rule(
         targets.old rule.now) }
 {
     let is_new = add_target(targets, declared, items, rule)?;
-    faults.push_unless(is_new, NormalFault::RuleDoubled(rule.target.at))
+    let holds = is_new || !declared.has_attribute(items, &rule.target);
+    faults.push_unless(holds, NormalFault::RuleDoubled(rule.target.at))
 }
 
 /// Appends N7 for each rule with the same target as an earlier rule.
@@ -223,8 +224,7 @@ pub fn push_doubled_rules(
     Ok(())
 }
 
-/// Appends each fault N8: a target that is neither synthesized at place 0 nor inherited at a later
-/// place.
+/// Appends each fault N8: a target that is inherited at place 0, or synthesized at a later place.
 pub fn push_not_defined(
     alloc: Global,
     faults: &mut FaultList,
@@ -237,8 +237,8 @@ pub fn push_not_defined(
     push_in_productions(alloc, RuleCheck::Defined, faults, declared, productions)
 }
 
-/// Appends each fault N9: an argument that is neither inherited at place 0 nor synthesized at a
-/// later place.
+/// Appends each fault N9: an argument that is synthesized at place 0, or inherited at a later
+/// place.
 pub fn push_not_normal(
     alloc: Global,
     faults: &mut FaultList,

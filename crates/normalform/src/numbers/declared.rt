@@ -1,7 +1,7 @@
 //! The declared symbols. Their names, and the names of their attributes, are looked up by hash.
 ghost use Rattle.std.specs.Prelude.{◌≡◌, ◌++◌, map, bytes_eq, IfOk, OnOk, IfSome};
 ghost use Rattle.std.specs.Prelude.{List, Some, None};
-ghost use Rattle.std.specs.Prelude.{slice_get, [], ◌∷◌, ◌≤◌, ◌-◌};
+ghost use Rattle.std.specs.Prelude.{slice_get, [], ◌∷◌, ◌≤◌, ◌-◌, ◌||◌};
 ghost use Rattle.std.specs.List.{list_any, range_with_len};
 ghost use Rattle.ag_grammar.specs.declared.grammar.Item.TheVariants as Item;
 ghost use Rattle.ag_grammar.specs.declared.grammar.Symbol.{Symbol};
@@ -12,9 +12,9 @@ ghost use Rattle.ag_grammar.specs.grammars.AttributeGrammar.{symbol_kinds, item_
 ghost use Rattle.ag_grammar.specs.grammars.AttributeGrammar.{defined_kind, used_kind};
 ghost use Rattle.ag_grammar.specs.grammars.Raw.{texts_of};
 ghost use Rattle.normalform.specs.faults.Faults as spec;
-ghost use Rattle.normalform.specs.faults.Faults.{has_kind, is_kind, defined_at};
+ghost use Rattle.normalform.specs.faults.Faults.{has_kind, is_kind, defined_at, exists, is_hidden};
 ghost use Rattle.normalform.specs.numbers.Numbers.{declared};
-ghost use Rattle.normalform.specs.numbers.Numbers.{number_in, symbol_of, declared_names, names_at};
+ghost use Rattle.normalform.specs.numbers.Numbers.{number_in, symbol_of, declared_names};
 ghost use Rattle.normalform.specs.numbers.Numbers.{target_of};
 ghost use Rattle.normalform.specs.faults.PlacedItem.{item_placed};
 
@@ -165,8 +165,7 @@ impl<'t> Declared<'t> {
 
     /// Returns whether the attribute that an occurrence names exists.
     pub fn has_attribute(&self, items: &[PlacedItem], occurrence: &Occ) -> bool
-        ensures { result ≡ list_any (bytes_eq occurrence.now.attr)
-            (names_at self.now (map item_placed items.now) occurrence.now.place) }
+        ensures { result ≡ exists self.now (map item_placed items.now) occurrence.now }
     {
         let name = occurrence.attr.as_str();
         match items.get(occurrence.place as usize) {
@@ -174,6 +173,25 @@ impl<'t> Declared<'t> {
             Some(PlacedItem::Class(_)) => name == "lex",
             None => false,
         }
+    }
+
+    /// Returns whether the item at a place is a symbol that is not declared.
+    fn is_hidden(&self, items: &[PlacedItem], place: usize) -> bool
+        ensures { result ≡ is_hidden self.now (slice_get (map item_placed items.now) place) }
+    {
+        match items.get(place) {
+            Some(PlacedItem::Symbol(symbol)) => *symbol >= self.symbols.len(),
+            _ => false,
+        }
+    }
+
+    /// Returns whether the attribute that an occurrence names exists, or belongs to a symbol that is
+    /// not declared.
+    pub fn is_known(&self, items: &[PlacedItem], occurrence: &Occ) -> bool
+        ensures { result ≡ (exists self.now (map item_placed items.now) occurrence.now
+            || is_hidden self.now (slice_get (map item_placed items.now) occurrence.now.place)) }
+    {
+        self.has_attribute(items, occurrence) || self.is_hidden(items, occurrence.place as usize)
     }
 
     /// Returns the symbol with this number, if there is one.

@@ -1,12 +1,21 @@
 -- The search ends after N3, or makes all checks.
-use Rattle.normalform.proofs.found.Searched.{searched_names, searched_all}
+use Rattle.normalform.proofs.Common.{doubled_checks}
+use Rattle.normalform.proofs.Listing.{told}
+use Rattle.normalform.proofs.found.Searched.{searched_names, searched_all, names_empty}
 use Rattle.normalform.proofs.checking.found_faults.Goals as goal
 
-pub returns-then-not-is_empty : goal.returns-then-not-is_empty
-returns-then-not-is_empty c =
-    searched_names c.args.raw.now c.args.only_first _ (rw c.new-faults.ensures at c.in_ok-push_naming.ensures) (cc)
+pub push_structure-requires-clause-names : goal.push_structure-requires-clause-names
+push_structure-requires-clause-names c =
+    names_empty c.args.raw.now c.args.only_first _ (rw c.new-faults.ensures at c.in_ok-distinct.ensures.faults)
+
+pub push_further-requires-clause-distinct : goal.push_further-requires-clause-distinct
+push_further-requires-clause-distinct c = told _ (doubled_checks c.args.raw.now.symbols) _ c.in_ok-distinct.ensures.distinct (cc)
+
+pub returns-then-is_full : goal.returns-then-is_full
+returns-then-is_full c =
+    searched_names c.args.raw.now c.args.only_first _ (rw c.new-faults.ensures at c.in_ok-distinct.ensures.faults) (cc)
 
 pub returns : goal.returns
 returns c =
-    searched_all c.args.raw.now c.args.only_first _ _ _ (rw c.new-faults.ensures at c.in_ok-push_naming.ensures) (cc)
+    searched_all c.args.raw.now c.args.only_first _ _ _ (rw c.new-faults.ensures at c.in_ok-distinct.ensures.faults)
     c.in_ok-push_structure.ensures c.in_ok-push_further.ensures

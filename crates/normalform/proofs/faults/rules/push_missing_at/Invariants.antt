@@ -1,5 +1,5 @@
 -- The invariant of the loop of `push_missing_at`.
-use Rattle.normalform.proofs.Common.{◌≡◌, drop, ◌-◌, ◌≤◌, map, range_with_len, missing_check}
+use Rattle.normalform.proofs.Common.{◌≡◌, ◌-◌, ◌≤◌, map, range_with_len, missing_check}
 use Rattle.normalform.specs.faults.FaultList.{after_checks}
 use Rattle.normalform.proofs.faults.rules.push_missing_at.Given as goal
 

@@ -1,6 +1,6 @@
 -- The marks are those of the reached symbols.
 use Rattle.normalform.proofs.Common
-use Common.{◌≡◌, ◌<◌, [], ◌∷◌, All, ap, ◌∙◌, subst, sym, length, map, Clauses, clause_of_edge, naming_checks}
+use Common.{◌<◌, [], ◌∷◌, All, ap, ◌∙◌, subst, sym, length, map, Clauses, clause_of_edge, naming_checks}
 use Rattle.normalform.proofs.Listing.{none_wrong}
 use Rattle.normalform.proofs.found.Founds.{edges_bounded, start_bounded}
 use Rattle.normalform.proofs.found.Marks.{as_many, marks_reached, ok_map}
