@@ -1,5 +1,5 @@
 -- What several files of these proofs use.
-pub use Rattle.std.proofs.Common.{All, AllPairs, Bool, Err, IfOk, IfSome, List, None, Ok, Option, Result, Some, [], ap}
+pub use Rattle.std.proofs.Common.{All, AllPairs, Bool, Err, IfOk, List, None, Ok, Option, Result, Some, [], ap}
 pub use Rattle.std.proofs.Common.{append-nil, append_assoc, arith, bytes_eq, cond, drop, false, filter, flat_map, fold, get_or}
 pub use Rattle.std.proofs.Common.{if◌then◌else◌, inl, inr, is_some, length, length-append, map, nat_eq, nat_le, nat_lt, not}
 pub use Rattle.std.proofs.Common.{position, refl, slice_get, subst, suc, sym, take, true, unwrap_or, zero, ℕ, ◌&&◌, ◌++◌, ◌+◌}
@@ -56,7 +56,7 @@ pub use Rattle.normalform.specs.faults.Faults.{rule_kinds, same_target, start_ch
 pub use Rattle.normalform.specs.faults.Faults.{unknown_in, used_check, with_name, with_rule, with_symbol, with_target}
 pub use Rattle.normalform.specs.faults.PlacedItem.{item_placed}
 pub use Rattle.normalform.specs.faults.Readable.{is_separator, readable_in, readable_item}
-pub use Rattle.normalform.specs.faults.ReferenceChecks.{check_of_occurrence, checks_of, checks_of_production, checks_of_rule}
+pub use Rattle.normalform.specs.faults.ReferenceChecks.{check_of_occurrence, checks_of_production, checks_of_rule}
 pub use Rattle.normalform.specs.numbers.Numbers.{classes_of, declared, declared_names, is_class, item_of, literals_of, names_at}
 pub use Rattle.normalform.specs.numbers.Numbers.{number_in, numbered, placed, production_of, rule_of, stored_of, symbol_of}
 pub use Rattle.normalform.specs.numbers.Numbers.{target_of, with_item, with_production, with_text}

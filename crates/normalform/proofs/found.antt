@@ -9,4 +9,3 @@ pub mod Right
 pub mod Ruled
 pub mod Searched
 pub mod Tested
-pub mod Wrong

@@ -2,7 +2,11 @@
 use Rattle.normalform.proofs.Common
 use Common.{ℕ, zero, suc, ◌≡◌, ◌+◌, true, List, [], ◌∷◌, ◌++◌, map, flat_map, Some, None, Option, slice_get, refl, sym, ◌∙◌}
 use Common.{arith, option_or, Has, NormalFault, Check, first_wrong, checks_along, next_index}
-use Rattle.normalform.proofs.found.Wrong.{wrong-append}
+
+-- the first failing check of a concatenated list
+pub wrong-append : (xs ys : List Check) → first_wrong (xs ++ ys) ≡ option_or (first_wrong xs) (first_wrong ys)
+wrong-append [] ys = refl
+wrong-append (x ∷ xs) ys = let rest = wrong-append xs ys in grind arith
 
 pub both_right : (xs ys : List Check) → first_wrong (xs ++ ys) ≡ None → (first_wrong xs ≡ None) × (first_wrong ys ≡ None)
 both_right xs ys h = go (first_wrong xs) (first_wrong ys) (sym (wrong-append xs ys) ∙ h)

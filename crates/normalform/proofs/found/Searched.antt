@@ -13,7 +13,7 @@ use Rattle.normalform.proofs.Listing.{two_parts, after_full, after_none, first_i
 use Rattle.normalform.proofs.found.Founds.{naming_parts}
 use Rattle.normalform.proofs.found.Reduced.{symbols}
 use Rattle.normalform.proofs.found.Marks.{first_not, are_all, all_are, all_true, marked_all, true_at, same_marked, same_marks}
-use Rattle.normalform.proofs.found.Wrong.{wrong-append}
+use Rattle.normalform.proofs.found.Right.{wrong-append}
 
 -- a list with a fault is not empty
 full_some : (b : Bool) (fs : List NormalFault) → is_full (record { only_first = b; items = kept b [] fs }) ≡ true → fs ≡ [] → ⊥
