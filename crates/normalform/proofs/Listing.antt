@@ -5,7 +5,7 @@ use Common.{arith, append_assoc, append-nil, length, get_or, drop, map, flat_map
 use Common.{NormalFault, Check, first_wrong, checks_along, get_or-map, length-map}
 use Common.{◌⊎◌, inl, inr, eq-eqb, nat_eq, nat_tests, length-append, false≢true}
 use Rattle.std.proofs.lemmas.List.{drop_more}
-use Rattle.normalform.specs.faults.FaultList.{Found, TellsIfNone, wrong, kept, is_empty, is_full, after_checks}
+use Rattle.normalform.specs.faults.FaultList.{Found, SaysIfNone, wrong, kept, is_empty, is_full, after_checks}
 
 -- the faults of the failing checks of a concatenated list
 pub wrong_append : (xs ys : List Check) → wrong (xs ++ ys) ≡ wrong xs ++ wrong ys
@@ -19,7 +19,7 @@ first_is_head [] = refl
 first_is_head ((f, true) ∷ cs) = first_is_head cs
 first_is_head ((f, false) ∷ cs) = refl
 
--- no check fails exactly if there is no first fault
+-- no check fails exactly if no check is the first that fails
 pub none_wrong : (cs : List Check) → wrong cs ≡ [] → first_wrong cs ≡ None
 none_wrong cs h = first_is_head cs ∙ ap (λ fs. slice_get fs 0) h
 
@@ -41,7 +41,8 @@ kept_more true [] [] ys = refl
 kept_more true [] (x ∷ xs) ys = refl
 kept_more true (f ∷ fs) xs ys = refl
 
-kept_full : (b : Bool) (old new : List NormalFault) → is_full (record { only_first = b; items = old }) ≡ true → kept b old new ≡ old
+kept_full : (b : Bool) (old new : List NormalFault) → is_full (record { only_first = b; items = old }) ≡ true
+    → kept b old new ≡ old
 kept_full false old new h = absurd (cc)
 kept_full true [] new h = absurd (cc)
 kept_full true (f ∷ fs) new h = refl
@@ -127,7 +128,7 @@ pub along_append : {S X : Type 0} (f : S → X → List Check) (g : S → X → 
 along_append f g s [] ys = refl
 along_append f g s (x ∷ xs) ys = simp (along_append f g (g s x) xs ys, append_assoc)
 
--- whether the length of the list has stayed tells whether no check has failed, unless the list is full
+-- whether the length of the list has stayed says whether no check has failed, unless the list is full
 kept_length : (b : Bool) (old ws : List NormalFault)
     → (is_full (record { only_first = b; items = kept b old ws }) ≡ true)
     ⊎ (nat_eq (length (kept b old ws)) (length old) ≡ is_empty ws)
@@ -137,16 +138,16 @@ kept_length true [] [] = inr refl
 kept_length true [] (w ∷ ws) = inl refl
 kept_length true (f ∷ fs) ws = inl refl
 
-pub tells : (old new : Found) (cs : List Check) → new ≡ after_checks old cs
-    → TellsIfNone new cs (nat_eq (length new.items) (length old.items))
-tells old new cs e = rw e (kept_length old.only_first old.items (wrong cs))
+pub says : (old new : Found) (cs : List Check) → new ≡ after_checks old cs
+    → SaysIfNone new cs (nat_eq (length new.items) (length old.items))
+says old new cs e = rw e (kept_length old.only_first old.items (wrong cs))
 
 -- a list that is full stays full
-pub tells_later : (old new : Found) (cs ds : List Check) (b : Bool) → new ≡ after_checks old ds → TellsIfNone old cs b
-    → TellsIfNone new cs b
-tells_later old new cs ds b e (inl full) = inl (let same = e ∙ sym (after_full old ds full) in rw same full)
-tells_later old new cs ds b e (inr is) = inr is
+pub says_later : (old new : Found) (cs ds : List Check) (b : Bool) → new ≡ after_checks old ds → SaysIfNone old cs b
+    → SaysIfNone new cs b
+says_later old new cs ds b e (inl full) = inl (let same = e ∙ sym (after_full old ds full) in rw same full)
+says_later old new cs ds b e (inr is) = inr is
 
-pub told : (found : Found) (cs : List Check) (b : Bool) → TellsIfNone found cs b → is_full found ≡ false → b ≡ is_empty (wrong cs)
-told found cs b (inl full) not_full = absurd (false≢true (sym not_full ∙ full))
-told found cs b (inr is) not_full = is
+pub said : (found : Found) (cs : List Check) (b : Bool) → SaysIfNone found cs b → is_full found ≡ false → b ≡ is_empty (wrong cs)
+said found cs b (inl full) not_full = absurd (false≢true (sym not_full ∙ full))
+said found cs b (inr is) not_full = is

@@ -5,7 +5,7 @@ ghost use Rattle.ag_grammar.specs.grammars.Accepted.{IsAccepted};
 ghost use Rattle.ag_grammar.specs.grammars.Order.{IsInOrder};
 ghost use Rattle.normalform.specs.faults.AllFaults.{AreMarked, IsSearched, AreFaults, IsHead};
 ghost use Rattle.normalform.specs.faults.AllFaults.{IsHeadOrNoMemory, checks_of_rules, if_none};
-ghost use Rattle.normalform.specs.faults.FaultList.{wrong, after_checks, is_empty, TellsIfNone};
+ghost use Rattle.normalform.specs.faults.FaultList.{wrong, after_checks, is_empty, SaysIfNone};
 ghost use Rattle.normalform.specs.faults.Faults.{naming_checks, doubled_checks, missing_checks};
 ghost use Rattle.normalform.specs.faults.Faults.{later_kinds};
 ghost use Rattle.normalform.specs.faults.Faults.{IsReadable, HasNoFault, IsTrueOf};
@@ -29,7 +29,7 @@ use ag_grammar::{Grammar, Named, Production, RawGrammar, RawProduction, RawSymbo
 use ag_value::{Items, NoMemory, Text};
 use std::alloc::Global;
 
-/// Appends each fault N2. Returns whether there is none; if the list is full, the answer has no
+/// Appends each fault N2. Returns whether there was none; if the list is full, the answer has no
 /// meaning.
 fn push_doubled_noting(
     alloc: Global,
@@ -39,15 +39,15 @@ fn push_doubled_noting(
     ensures faults { OnOk result (faults.new ≡ after_checks faults.old
         (doubled_checks symbols.now)) }
     ensures distinct { IfOk result (λ distinct.
-        TellsIfNone faults.new (doubled_checks symbols.now) distinct) }
+        SaysIfNone faults.new (doubled_checks symbols.now) distinct) }
 {
     let before = faults.len();
     push_doubled(alloc, faults, symbols)?;
     Ok(faults.len() == before)
 }
 
-/// Appends the faults N1 to N3. Returns whether there is no N2; if the list is full, the answer has
-/// no meaning.
+/// Appends the faults N1 to N3. Returns whether N2 does not occur; if the list is full, the answer
+/// has no meaning.
 fn push_naming(
     alloc: Global,
     faults: &mut FaultList,
@@ -57,7 +57,7 @@ fn push_naming(
     requires { declared.now ≡ map symbol_of raw.now.symbols }
     ensures faults { OnOk result (faults.new ≡ after_checks faults.old (naming_checks raw.now)) }
     ensures distinct { IfOk result (λ distinct.
-        TellsIfNone faults.new (doubled_checks raw.now.symbols) distinct) }
+        SaysIfNone faults.new (doubled_checks raw.now.symbols) distinct) }
 {
     push_unknown(alloc, faults, declared, raw.productions.as_slice())?;
     let distinct = push_doubled_noting(alloc, faults, raw.symbols.as_slice())?;
@@ -194,9 +194,9 @@ fn found_faults(alloc: Global, raw: &RawGrammar, only_first: bool) -> Result<Fau
 /// Returns all faults of a raw grammar: exactly the checks that fail, in their order, which is that
 /// of the kinds of `NormalFault`. A fault is left out where it only follows from another one:
 ///
-/// - of an occurrence at a symbol that is not declared nothing is said;
-/// - of an occurrence that has N1, neither N7, N8 nor N9 is listed;
-/// - N4 and N5 are listed only if there is none of N1 to N3, and N6 only if there is no N2.
+/// - an attribute of a symbol that is not declared has no fault, since the symbol's name has N1;
+/// - an occurrence that has N1 has neither N7, N8 nor N9;
+/// - N4 and N5 are listed only without N1 to N3, and N6 only without N2.
 ///
 /// Fails with `NoMemory` only if memory was refused.
 pub fn faults_of(alloc: Global, raw: &RawGrammar) -> Result<FaultList, NoMemory>
@@ -271,7 +271,7 @@ fn number(alloc: Global, raw: RawGrammar) -> Result<Grammar, NoMemory>
 /// first kind that occurs, in the order of `NormalFault`, which says which fault of a kind is the
 /// first. The numbered grammar is then not accepted, and the raw grammar is dropped. Fails with
 /// `NoMemory` only if memory was refused.
-#[tactic(auto, using(crate::proofs::numbered::Accepting::refused, crate::proofs::found::Searched::head_first, crate::proofs::found::Searched::head_none))]
+#[tactic(auto, using(crate::proofs::numbered::Accepting::head_refused, crate::proofs::found::Searched::head_none))]
 pub fn check(alloc: Global, raw: RawGrammar) -> Result<Grammar, NormalFault>
     requires { IsReadable raw }
     ensures numbered { IfOk result (λ g. g ≡ numbered raw) }

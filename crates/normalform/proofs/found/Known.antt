@@ -1,7 +1,8 @@
 -- Names are known and distinct exactly if the numbered grammar's are. The names of an item or a rule are *known* if the checks of
 -- N1 hold. Its numbered form is *named* if its numbers are in range (`IsNamedItem`, `IsNamedRule` of `ag_grammar`).
 use Rattle.normalform.proofs.Common
-use Common.{ℕ, zero, suc, ◌≡◌, ◌<◌, ◌∙◌, ◌||◌, Bool, true, false, false≢true, arith, nat_tests, slice_get, Some, List, [], ◌∷◌, ◌++◌, length, map, flat_map, None, bytes_eq, refl, sym, subst, length-map}
+use Common.{ℕ, zero, suc, ◌≡◌, ◌<◌, ◌∙◌, ◌||◌, Bool, true, false, false≢true, arith, nat_tests, slice_get, Some, List, [], ◌∷◌}
+use Common.{◌++◌, length, map, flat_map, None, bytes_eq, refl, sym, subst, length-map}
 use Common.{map-append, map-id, Each, DifferIn, Differ, AreRelated, Symbol, Target, Occ, attribute_names, RefersTo}
 use Common.{is_below, Named, RawGrammar, RawItem, RawProduction, RawRule, RawSymbol, NormalFault, Check, first_wrong, name_check}
 use Common.{item_checks, occurrence_check, rule_checks, unknown_in, unknown_checks, doubled_names, doubled_checks, number_in}
@@ -78,7 +79,8 @@ items_shown ss (raw_item.Name name ∷ xs) h zero =
     let w = both_right (name_check (declared_names ss) name ∷ []) (flat_map (item_checks (declared_names ss)) xs) h in
     shown ss (number_in (declared_names ss) name.name) (name_known ss name w.0)
 items_shown ss (raw_item.Name name ∷ xs) h (suc i) =
-    items_shown ss xs (both_right (name_check (declared_names ss) name ∷ []) (flat_map (item_checks (declared_names ss)) xs) h).1 i
+    items_shown ss xs
+    (both_right (name_check (declared_names ss) name ∷ []) (flat_map (item_checks (declared_names ss)) xs) h).1 i
 items_shown ss (raw_item.Literal text ∷ xs) h i = items_shown ss xs h i
 items_shown ss (raw_item.Class c ∷ xs) h zero = refl
 items_shown ss (raw_item.Class c ∷ xs) h (suc i) = items_shown ss xs h i
@@ -126,7 +128,8 @@ module _ (raw : RawGrammar) (q : RawProduction) where
   -- the targets and arguments of rules are known
   rule_checked : first_wrong (unknown_in (symbols raw) q) ≡ None → (i : ℕ) (r : RawRule) → slice_get q.rules i ≡ Some r
       → first_wrong (rule_checks (symbols raw) (places raw q) r) ≡ None
-  rule_checked h i r e = flat_each (rule_checks (symbols raw) (placed (symbols raw) q)) q.rules (unknown_parts (symbols raw) q h).2 i r e
+  rule_checked h i r e =
+      flat_each (rule_checks (symbols raw) (placed (symbols raw) q)) q.rules (unknown_parts (symbols raw) q h).2 i r e
 
   pub target_known : first_wrong (unknown_in (symbols raw) q) ≡ None → (i : ℕ) (r : RawRule) → slice_get q.rules i ≡ Some r
       → IsKnown r.target
@@ -138,7 +141,8 @@ module _ (raw : RawGrammar) (q : RawProduction) where
       → Each IsKnown r.expr.occurrences
   arguments_known h i r e j o f =
       passes_known h o
-      (map_each check r.expr.occurrences (both_right (check r.target ∷ []) (map check r.expr.occurrences) (rule_checked h i r e)).1 j o f)
+      (map_each check r.expr.occurrences
+      (both_right (check r.target ∷ []) (map check r.expr.occurrences) (rule_checked h i r e)).1 j o f)
 
   -- a rule whose names are known is named
   rule_named : (r : RawRule) → IsKnown r.target → Each IsKnown r.expr.occurrences

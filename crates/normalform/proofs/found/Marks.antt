@@ -42,11 +42,13 @@ all_from : (x : SymbolCheck) (marks : List Bool) (n : ℕ) (ss : List RawSymbol)
 all_from x marks n [] h i lt = absurd (omega (arith, lt))
 all_from x marks n (s ∷ ss) h zero lt =
     let here : n + 0 ≡ n = omega arith in
-    rw here (is_right (fault_of x s.name, is_marked marks n) (both_right (marked_check x marks n s) (checks_from x marks (n + 1) ss) h).0)
+    rw here
+    (is_right (fault_of x s.name, is_marked marks n) (both_right (marked_check x marks n s) (checks_from x marks (n + 1) ss) h).0)
 all_from x marks n (s ∷ ss) h (suc i) lt =
     let there : n + suc i ≡ (n + 1) + i = omega arith in
     rw there
-    (all_from x marks (n + 1) ss (both_right (marked_check x marks n s) (checks_from x marks (n + 1) ss) h).1 i (omega (arith, lt)))
+    (all_from x marks (n + 1) ss (both_right (marked_check x marks n s) (checks_from x marks (n + 1) ss) h).1 i
+    (omega (arith, lt)))
 
 pub all_marked : (x : SymbolCheck) (marks : List Bool) (ss : List RawSymbol) → first_wrong (marked_checks x marks ss) ≡ None
     → (i : ℕ) → i < length ss → is_marked marks i ≡ true
@@ -151,7 +153,7 @@ first_from : (x : SymbolCheck) (marks : List Bool) (n : ℕ) (ss : List RawSymbo
 first_from x marks n [] f h = absurd (cc)
 first_from x marks n (s ∷ ss) f h = by_mark x marks n s ss f (is_marked marks n) refl h (first_from x marks (n + 1) ss f)
 
--- the first fault of some marks is that of the first symbol without the property that the marks tell
+-- the first fault of some marks is that of the first symbol without the property that the marks show
 pub first_not : (x : SymbolCheck) (P : ℕ → Type 0) (raw : RawGrammar) (marks : List Bool) (f : NormalFault)
     → AreMarksOf P raw marks → first_wrong (marked_checks x marks raw.symbols) ≡ Some f
     → (name : Named) × (fault_of x name ≡ f) × IsFirstNot P raw.symbols name

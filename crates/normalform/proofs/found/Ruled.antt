@@ -1,7 +1,8 @@
 -- The rules of a production: none is missing or duplicate, each target is one that they define, and each
 -- argument one that they use.
 use Rattle.normalform.proofs.Common
-use Common.{ℕ, zero, suc, ◌≡◌, ◌+◌, ◌-◌, ◌<◌, ◌≤◌, ◌⊎◌, ◌||◌, inl, inr, Bool, false, false≢true, not, Kind, Occ, exists, new_target, checks_along, true, nat_lt, nat_le, List, [], ◌∷◌, length, map, fold, Some}
+use Common.{ℕ, zero, suc, ◌≡◌, ◌+◌, ◌-◌, ◌<◌, ◌≤◌, ◌⊎◌, ◌||◌, inl, inr, Bool, false, false≢true, not, Kind, Occ, exists}
+use Common.{new_target, checks_along, true, nat_lt, nat_le, List, [], ◌∷◌, length, map, fold, Some}
 use Common.{None, Option, slice_get, refl, ap, sym, ◌∙◌, arith, subst, and_parts, ltb-true, lt-ltb, leb-true, le-leb, eqb-true}
 use Common.{eq-eqb, cases_eq, list_any-append, list_any, range_with_len, Has, Each, DifferIn, Item, Symbol, Target, Literal}
 use Common.{Class, Synthesized, Inherited, item_kinds, symbol_kinds, defined_kind, used_kind, HasKind, IsRule, RawGrammar}
@@ -12,11 +13,13 @@ use Common.item
 use Common.fault
 use Rattle.ag_grammar.specs.declared.grammar.Rule.{Rule}
 use Rattle.ag_grammar.specs.grammars.Accepted.{IsNormal}
-use Rattle.normalform.proofs.found.Apart.{DecidesBy, none_apart, checks_of_keys, apart_along, along_apart, apart_differ, differ_apart}
+use Rattle.normalform.proofs.found.Apart.{DecidesBy, none_apart, checks_of_keys, apart_along, along_apart, apart_differ}
+use Rattle.normalform.proofs.found.Apart.{differ_apart}
 use Rattle.normalform.proofs.numbered.KindAt.{synthesized_at, inherited_at}
 use Rattle.normalform.proofs.numbered.Placing.{kinds_at, kind_has, has_its_kind, is_its_kind, some_kind}
 use Rattle.normalform.proofs.found.Reduced.{symbols, produces, places}
-use Rattle.normalform.proofs.found.Right.{both_right, together, is_right, right_is, flat_each, each_flat, map_each, each_map, along_each, each_along}
+use Rattle.normalform.proofs.found.Right.{both_right, together, is_right, right_is, flat_each, each_flat, map_each, each_map}
+use Rattle.normalform.proofs.found.Right.{along_each, each_along}
 
 same_parts : (a b : Target) → a.place ≡ b.place → a.attr ≡ b.attr → record { place = a.place; attr = a.attr } ≡ b
 same_parts a b e f = rw (e, f)
@@ -278,7 +281,8 @@ module _ (raw : RawGrammar) (q : RawProduction) where
   TargetsThere = (i : ℕ) (r : RawRule) → slice_get q.rules i ≡ Some r → IsThere r.target
 
   -- no rule is duplicate
-  pub rules_single : TargetsThere → first_wrong (doubled_in (symbols raw) q) ≡ None → DifferIn (λ r. r.target) (produces raw q).rules
+  pub rules_single : TargetsThere → first_wrong (doubled_in (symbols raw) q) ≡ None
+      → DifferIn (λ r. r.target) (produces raw q).rules
   rules_single there h =
       differ_mapped made (λ (r : Rule). r.target) q.rules (apart_differ target q.rules
       (apart_along same_target fault_of target (λ r. []) decides_targets [] q.rules none_apart (keys_pass q.rules [] there h)))
@@ -305,7 +309,8 @@ module _ (raw : RawGrammar) (q : RawProduction) where
       → HasKind (numbered raw) (produces raw q) (number o) (used_kind o.place)
   is_used o there h = let w = some_kind raw q o there in elim (kind_case o.place w.0) [
     | inl is ↦ absurd (if_not (has_kind (symbols raw) (places raw q) (number o) (defined_kind o.place)) h
-        (has_its_kind raw q (number o) (defined_kind o.place) (subst (HasKind (numbered raw) (produces raw q) (number o)) is w.1)))
+        (has_its_kind raw q (number o) (defined_kind o.place)
+        (subst (HasKind (numbered raw) (produces raw q) (number o)) is w.1)))
     | inr is ↦ subst (HasKind (numbered raw) (produces raw q) (number o)) is w.1
   ]
 

@@ -1,6 +1,7 @@
 -- The faults that the search finds are all, and the head of their list is the first fault.
 use Rattle.normalform.proofs.Common
-use Common.{◌≡◌, ◌∙◌, Bool, true, false, List, [], ◌∷◌, ◌++◌, Option, Some, None, refl, sym, ap, subst, append_assoc, take, slice_get}
+use Common.{◌≡◌, ◌∙◌, Bool, true, false, List, [], ◌∷◌, ◌++◌, Option, Some, None, refl, sym, ap, subst, append_assoc, take}
+use Common.{slice_get}
 use Common.{RawGrammar, NormalFault, Check, first_wrong, naming_checks, AreAll, HasNoFault, IsFirstFault, in_names}
 use Common.{in_productive, in_reached, in_rules, numbered, option_or, doubled_checks, missing_checks, later_kinds, limit_checks}
 use Rattle.ag_grammar.specs.grammars.Accepted.{IsProductive, IsReached}
@@ -39,9 +40,9 @@ some_if : (fs : List NormalFault) → is_empty fs ≡ false → fs ≡ [] → �
 some_if [] h e = absurd (cc)
 some_if (f ∷ fs) h e = absurd (cc)
 
-not_asked : (fs : List NormalFault) (cs : List Check) → is_empty fs ≡ false → if_none fs cs ≡ []
-not_asked [] cs h = absurd (cc)
-not_asked (f ∷ fs) cs h = refl
+not_made : (fs : List NormalFault) (cs : List Check) → is_empty fs ≡ false → if_none fs cs ≡ []
+not_made [] cs h = absurd (cc)
+not_made (f ∷ fs) cs h = refl
 
 -- if a name is wrong, no symbol is checked by its mark
 pub unmarked : (raw : RawGrammar) (found : Found) → is_empty (wrong (naming_checks raw)) ≡ false → AreMarked raw found found
@@ -50,7 +51,7 @@ unmarked raw found h = record {
   reached = [];
   marks_productive = λ none. absurd (some_if (wrong (naming_checks raw)) h none);
   marks_reached = λ none. absurd (some_if (wrong (naming_checks raw)) h none);
-  list = sym (ap (after_checks found) (not_asked (wrong (naming_checks raw)) (structure_checks [] [] raw.symbols) h)
+  list = sym (ap (after_checks found) (not_made (wrong (naming_checks raw)) (structure_checks [] [] raw.symbols) h)
       ∙ after_none found);
 }
 
@@ -140,7 +141,8 @@ module _ (raw : RawGrammar) (cs : List Check) (checks : AreChecks raw cs) where
       ∙ ap (λ fs. first_wrong (naming_checks raw ++ (if_none fs (productive ++ reached) ++ checks_of_rules raw))) none
       ∙ ap (λ fs. first_wrong (naming_checks raw ++ ((productive ++ reached) ++ (if_none fs missing ++ (later ++ limits)))))
       (none_doubled none)
-      ∙ ap (λ rest. first_wrong (naming_checks raw ++ ((productive ++ reached) ++ rest))) (sym (append_assoc missing later limits))
+      ∙ ap (λ rest. first_wrong (naming_checks raw ++ ((productive ++ reached) ++ rest)))
+      (sym (append_assoc missing later limits))
       ∙ wrong-append (naming_checks raw) ((productive ++ reached) ++ further)
       ∙ ap (λ o. option_or o (first_wrong ((productive ++ reached) ++ further))) (none_wrong (naming_checks raw) none)
       ∙ wrong-append (productive ++ reached) further

@@ -1,12 +1,14 @@
 -- A raw grammar has no fault exactly if the numbered one is accepted.
 use Rattle.normalform.proofs.Common
-use Common.{All, ◌↔◌, inr, ℕ, zero, suc, ◌≡◌, ◌+◌, ◌<◌, ◌≤◌, ◌≢◌, Bool, true, List, [], ◌∷◌, ◌++◌, length, map, Some, None, Option}
+use Common.{All, ◌↔◌, inr, ℕ, zero, suc, ◌≡◌, ◌+◌, ◌<◌, ◌≤◌, ◌≢◌, Bool, true, List, [], ◌∷◌, ◌++◌, length, map, Some, None}
+use Common.{Option}
 use Common.{slice_get, get_or, refl, ap, arith, subst, and_parts, eqb-true, leb-true, le-leb, length-map, slice_get-get_or}
 use Common.{slice_get_within, get_or_from_slice_get, list_any, list_all, Has, Each, Differ, Item, Production, Symbol, Literal}
 use Common.{Class, stored_items, is_below, RawGrammar, RawItem, RawProduction, NormalFault, first_wrong, unknown_in, item_checks}
 use Common.{unknown_checks, is_start, start_checks, missing_in, missing_checks, doubled_in, doubled_rules, not_defined_in}
 use Common.{not_defined_here, not_normal_in, not_normal, few_attributes, few_items, few_children, is_short, limit_checks}
-use Common.{rule_kinds, later_kinds, naming_checks, HasNoFault, IsReadable, IsReadableItem, IsSmall, IsListed, AreListedIn, IsFirstFault}
+use Common.{rule_kinds, later_kinds, naming_checks, HasNoFault, IsReadable, IsReadableItem, IsSmall, IsListed, AreListedIn}
+use Common.{IsFirstFault}
 use Common.{in_names, in_productive, in_reached, in_rules, IsTrueOf, number_in, symbol_of, declared_names, item_of, placed}
 use Common.{is_class, classes_of, literals_of, numbered, at_mapped}
 use Common.raw_item
@@ -25,8 +27,8 @@ use Rattle.normalform.proofs.numbered.Placing.{stored_same}
 use Rattle.normalform.proofs.found.Reduced.{symbols, produces, name_known, known, unknown_parts}
 use Rattle.normalform.proofs.found.Right.{all_right, both_right, together, is_right, right_is, flat_each, each_flat, along_each}
 use Rattle.normalform.proofs.found.Right.{each_along}
-use Rattle.normalform.proofs.found.Searched.{none_listed, listed_none}
-use Rattle.normalform.specs.faults.AllFaults.{AreFaults}
+use Rattle.normalform.proofs.found.Searched.{none_listed, listed_none, head_first}
+use Rattle.normalform.specs.faults.AllFaults.{AreFaults, IsHead}
 use Rattle.normalform.proofs.found.Ruled.{all_ruled, ruled_all, rules_single, single_rules, targets_given, given_targets}
 use Rattle.normalform.proofs.found.Ruled.{arguments_found, found_arguments, each_mapped, mapped_each}
 use Rattle.normalform.proofs.numbered.Small.{passes_at}
@@ -315,8 +317,11 @@ first_excludes raw f (in_reached n all first) none =
     first.wrong (none.reached first.number (slice_get_within _ _ _ first.declared))
 first_excludes raw f (in_rules n all reached e) none = absurd (cc (e, none.rules))
 
-pub refused : (raw : RawGrammar) (f : NormalFault) → IsFirstFault raw f → IsTrueOf raw f
+refused : (raw : RawGrammar) (f : NormalFault) → IsFirstFault raw f → IsTrueOf raw f
 refused raw f first = inr (first, λ accepted. first_excludes raw f first (no_fault raw accepted))
+
+pub head_refused : (raw : RawGrammar) (f : NormalFault) → IsHead raw (Some f) → IsTrueOf raw f
+head_refused raw f h = refused raw f (head_first raw f h)
 
 pub accepted_without_fault : (raw : RawGrammar) → IsReadable raw → All AreListedIn (numbered raw).productions → HasNoFault raw
     → IsAccepted (numbered raw)

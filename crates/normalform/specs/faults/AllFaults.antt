@@ -1,7 +1,7 @@
 -- All faults of a raw grammar (this project's). A fault is left out where it only follows from another one. So N4 and N5 are
 -- looked for only in a grammar without N1 to N3, and N6 only in one without N2: of two attributes of one name only the first has
--- a number, so the second would seem to lack its rule. N4 and N5 are checked by marks, one for each symbol, which tell whether it is
--- productive, or reached. In this file `ss` are symbols, `n` is the number of one, and `marks` has a mark for each number.
+-- a number, so the second would seem to lack its rule. N4 and N5 are checked by marks, one for each symbol, which say whether it
+-- is productive, or reached. In this file `ss` are symbols, `n` is the number of one, and `marks` has a mark for each number.
 use Rattle.std.specs.Prelude.{ℕ, ◌≡◌, ◌<◌, ◌↔◌, ◌⊎◌, Bool, true, List, [], ◌∷◌, ◌++◌, length, map, Option, Some, slice_get}
 use Rattle.ag_grammar.specs.declared.raw.Named.{Named}
 use Rattle.ag_grammar.specs.declared.raw.RawGrammar.{RawGrammar}
@@ -35,7 +35,7 @@ abbrev pub structure_checks : List Bool → List Bool → List RawSymbol → Lis
 structure_checks productive reached ss =
     marked_checks symbol_check.Productive productive ss ++ marked_checks symbol_check.Reached reached ss
 
--- some checks, which are made only if there is no fault yet
+-- some checks, which are made only if no fault was found
 abbrev pub if_none : List NormalFault → List Check → List Check
 if_none [] checks = checks
 if_none (f ∷ fs) checks = []
@@ -52,7 +52,7 @@ all_checks productive reached raw =
     naming_checks raw ++ (if_none (wrong (naming_checks raw)) (structure_checks productive reached raw.symbols)
     ++ checks_of_rules raw)
 
--- the marks tell which symbols have the property P
+-- the marks say which symbols have the property P
 abbrev pub AreMarksOf : (ℕ → Type 0) → RawGrammar → List Bool → Type 0
 AreMarksOf P raw marks = (s : ℕ) → s < length raw.symbols → is_marked marks s ≡ true ↔ P s
 
@@ -68,7 +68,7 @@ pub record AreChecks (raw : RawGrammar) (checks : List Check) : Type 0 where
 abbrev pub AreFaults : RawGrammar → List NormalFault → Type 0
 AreFaults raw faults = (checks : List Check) × AreChecks raw checks × (faults ≡ wrong checks)
 
--- The checks of N4 and N5 of a raw grammar are made, by marks that tell which symbols are productive and reached. If names are
+-- The checks of N4 and N5 of a raw grammar are made, by marks that say which symbols are productive and reached. If names are
 -- wrong, none is made.
 pub record AreMarked (raw : RawGrammar) (old : Found) (new : Found) : Type 0 where
   pub productive : List Bool

@@ -35,6 +35,6 @@ after_checks found checks = record {
   items = kept found.only_first found.items (wrong checks);
 }
 
--- `none` tells whether none of some checks has failed, unless the list is full
-abbrev pub TellsIfNone : Found → List Check → Bool → Type 0
-TellsIfNone found checks none = (is_full found ≡ true) ⊎ (none ≡ is_empty (wrong checks))
+-- `none` says whether none of some checks has failed, unless the list is full
+abbrev pub SaysIfNone : Found → List Check → Bool → Type 0
+SaysIfNone found checks none = (is_full found ≡ true) ⊎ (none ≡ is_empty (wrong checks))

@@ -1,12 +1,14 @@
 -- The faults of a raw grammar, kind by kind, and their order (this project's). In a grammar without N4 and N5 each symbol is
--- productive and reached (the textbook). A grammar without N6 to N8 is complete (Knuth, 1968), and one without N9 is normal
--- (Bochmann, 1976). Each kind but N4 and N5 is a list of checks. The checks of N6 are ordered by production, place and attribute,
--- those of N10 as in `LimitKind`, and other checks as the raw grammar's lists. N4 and N5 name the first wrong symbol.
+-- productive and reached (the textbook). A grammar without N1 and without N6 to N8 is complete (Knuth, 1968), and one without N1
+-- and N9 is normal (Bochmann, 1976). Each kind but N4 and N5 is a list of checks. The checks of N6 are ordered by production,
+-- place and attribute, those of N10 as in `LimitKind`, and other checks as the raw grammar's lists. N4 and N5 name the first wrong
+-- symbol.
 -- In this file, `ss` are the declared symbols, `names` the names of symbols (in `doubled_names` also those of attributes), `qs`
 -- productions, `q` one of them and `p` its number, `items` the items at its places, `r` a rule, `o` an occurrence, and `ts`
 -- targets of rules.
 use Rattle.std.specs.Prelude.{All, ℕ, zero, suc, cond, fold, ◌⊎◌, ◌+◌, ◌≡◌, ◌<◌, ◌≤◌, nat_eq, nat_le, not, Bool, true, false}
-use Rattle.std.specs.Prelude.{◌&&◌, ◌||◌, List, [], ◌∷◌, ◌++◌, length, map, flat_map, find, Option, Some, None, bytes_eq, slice_get}
+use Rattle.std.specs.Prelude.{◌&&◌, ◌||◌, List, [], ◌∷◌, ◌++◌, length, map, flat_map, find, Option, Some, None, bytes_eq}
+use Rattle.std.specs.Prelude.{slice_get}
 use Rattle.std.specs.List.{list_any, list_all, range_with_len}
 use Rattle.std.specs.Option.{option_map}
 use Rattle.ag_grammar.specs.Lists.{Each}

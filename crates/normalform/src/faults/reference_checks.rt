@@ -1,6 +1,7 @@
 //! Checks the attributes that the rules of productions name.
 ghost use Rattle.std.specs.Prelude.{◌≡◌, ◌∷◌, [], map, flat_map, OnOk};
-ghost use Rattle.normalform.specs.faults.ReferenceChecks.{check_of_occurrence, checks_of_rule, checks_of_production, checks_of};
+ghost use Rattle.normalform.specs.faults.ReferenceChecks.{check_of_occurrence, checks_of_rule};
+ghost use Rattle.normalform.specs.faults.ReferenceChecks.{checks_of_production, checks_of};
 ghost use Rattle.normalform.specs.faults.FaultList.{after_checks};
 ghost use Rattle.normalform.specs.faults.PlacedItem.{item_placed};
 

@@ -17,7 +17,7 @@ use ag_value::{NoMemory, Text};
 use closure::{Clause, Clauses, Edge};
 use std::alloc::Global;
 
-/// A check of symbols by marks. Each variant says what a mark tells, and which fault a symbol has
+/// A check of symbols by marks. Each variant says what a mark means, and which fault a symbol has
 /// that is not marked.
 #[derive(Clone, Copy, PartialEq, Eq)]
 pub enum SymbolCheck {

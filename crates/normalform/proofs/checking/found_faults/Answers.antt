@@ -1,6 +1,6 @@
 -- The search ends after N3, or makes all checks.
 use Rattle.normalform.proofs.Common.{doubled_checks}
-use Rattle.normalform.proofs.Listing.{told}
+use Rattle.normalform.proofs.Listing.{said}
 use Rattle.normalform.proofs.found.Searched.{searched_names, searched_all, names_empty}
 use Rattle.normalform.proofs.checking.found_faults.Goals as goal
 
@@ -9,7 +9,7 @@ push_structure-requires-clause-names c =
     names_empty c.args.raw.now c.args.only_first _ (rw c.new-faults.ensures at c.in_ok-distinct.ensures.faults)
 
 pub push_further-requires-clause-distinct : goal.push_further-requires-clause-distinct
-push_further-requires-clause-distinct c = told _ (doubled_checks c.args.raw.now.symbols) _ c.in_ok-distinct.ensures.distinct (cc)
+push_further-requires-clause-distinct c = said _ (doubled_checks c.args.raw.now.symbols) _ c.in_ok-distinct.ensures.distinct (cc)
 
 pub returns-then-is_full : goal.returns-then-is_full
 returns-then-is_full c =

@@ -10,7 +10,8 @@ returns c =
     let raw = c.args.raw.now in
     let ss = map symbol_of raw.symbols in
     let qs = raw.productions in
-    two_parts (if_none (wrong (doubled_checks raw.symbols)) (missing_checks ss qs)) (later_kinds ss qs ++ limit_checks ss qs) _ _ _
+    two_parts (if_none (wrong (doubled_checks raw.symbols)) (missing_checks ss qs)) (later_kinds ss qs ++ limit_checks ss qs) _
+    _ _
     c.in_ok-push_missing_if.ensures
     (two_parts (later_kinds ss qs) (limit_checks ss qs) _ _ _
     (rw (c.requires.declared, c.as_slice-productions.ensures) at c.in_ok-push_later_kinds.ensures)

@@ -1,6 +1,6 @@
 -- N1, then N2, then N3.
 use Rattle.normalform.proofs.Common.{map, ◌++◌, symbol_of, unknown_checks, doubled_checks, start_checks}
-use Rattle.normalform.proofs.Listing.{two_parts, tells_later}
+use Rattle.normalform.proofs.Listing.{two_parts, says_later}
 use Rattle.normalform.proofs.checking.push_naming.Goals as goal
 
 pub returns-clause-faults : goal.returns-clause-faults
@@ -17,5 +17,5 @@ returns-clause-faults c =
 pub returns-clause-distinct : goal.returns-clause-distinct
 returns-clause-distinct c =
     let raw = c.args.raw.now in
-    tells_later _ _ (doubled_checks raw.symbols) (start_checks c.args.declared.now raw.start) _ c.in_ok-push_bad_start.ensures
+    says_later _ _ (doubled_checks raw.symbols) (start_checks c.args.declared.now raw.start) _ c.in_ok-push_bad_start.ensures
     (rw c.as_slice-2.ensures at c.in_ok-distinct.ensures.distinct)

@@ -5,5 +5,6 @@ use Rattle.normalform.proofs.faults.naming.push_unknown.Goals as goal
 
 pub loop-production-preserved : goal.loop-production-preserved
 loop-production-preserved c =
-    flat_past (unknown_in c.args.declared.now) _ _ _ _ _ _ c.loop-production-test.true c.production-item.is c.in_ok-push_unknown_in.ensures
+    flat_past (unknown_in c.args.declared.now) _ _ _ _ _ _ c.loop-production-test.true c.production-item.is
+    c.in_ok-push_unknown_in.ensures
     c.loop-production.invariant

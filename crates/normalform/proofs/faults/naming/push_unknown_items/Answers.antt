@@ -5,5 +5,6 @@ use Rattle.normalform.proofs.faults.naming.push_unknown_items.Goals as goal
 
 pub loop-item-preserved : goal.loop-item-preserved
 loop-item-preserved c =
-    flat_past (item_checks (declared_names c.args.declared.now)) _ _ _ _ _ _ c.loop-item-test.true c.item-item.is c.in_ok-push_unknown_item.ensures
+    flat_past (item_checks (declared_names c.args.declared.now)) _ _ _ _ _ _ c.loop-item-test.true c.item-item.is
+    c.in_ok-push_unknown_item.ensures
     c.loop-item.invariant

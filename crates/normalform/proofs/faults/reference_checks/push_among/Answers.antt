@@ -5,5 +5,6 @@ use Rattle.normalform.proofs.faults.reference_checks.push_among.Goals as goal
 
 pub loop-occurrence-preserved : goal.loop-occurrence-preserved
 loop-occurrence-preserved c =
-    map_past (check_of_occurrence c.args.rule_check c.args.declared.now (map item_placed c.args.items.now)) _ _ _ _ _ _ c.loop-occurrence-test.true c.occurrence-item.is c.in_ok-push_of.ensures
+    map_past (check_of_occurrence c.args.rule_check c.args.declared.now (map item_placed c.args.items.now)) _ _ _ _ _ _
+    c.loop-occurrence-test.true c.occurrence-item.is c.in_ok-push_of.ensures
     c.loop-occurrence.invariant

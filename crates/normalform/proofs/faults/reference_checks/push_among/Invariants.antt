@@ -5,5 +5,6 @@ use Rattle.normalform.proofs.faults.reference_checks.push_among.Given as goal
 
 abbrev pub invariant-loop-occurrence : goal.invariant-loop-occurrence
 invariant-loop-occurrence l =
-    after_checks l.faults (map (check_of_occurrence l.rule_check l.declared (map item_placed l.items)) (drop l.occurrence-index l.occurrences))
+    after_checks l.faults
+    (map (check_of_occurrence l.rule_check l.declared (map item_placed l.items)) (drop l.occurrence-index l.occurrences))
     ≡ after_checks l.initial.faults (map (check_of_occurrence l.rule_check l.declared (map item_placed l.items)) l.occurrences)

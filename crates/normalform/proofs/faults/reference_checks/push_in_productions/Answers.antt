@@ -5,5 +5,6 @@ use Rattle.normalform.proofs.faults.reference_checks.push_in_productions.Goals a
 
 pub loop-production-preserved : goal.loop-production-preserved
 loop-production-preserved c =
-    flat_past (checks_of_production c.args.rule_check c.args.declared.now) _ _ _ _ _ _ c.loop-production-test.true c.production-item.is c.in_ok-push_in_production.ensures
+    flat_past (checks_of_production c.args.rule_check c.args.declared.now) _ _ _ _ _ _ c.loop-production-test.true
+    c.production-item.is c.in_ok-push_in_production.ensures
     c.loop-production.invariant

@@ -5,5 +5,6 @@ use Rattle.normalform.proofs.faults.reference_checks.push_in_rules.Goals as goal
 
 pub loop-rule-preserved : goal.loop-rule-preserved
 loop-rule-preserved c =
-    flat_past (checks_of_rule c.args.rule_check c.args.declared.now (map item_placed c.args.items.now)) _ _ _ _ _ _ c.loop-rule-test.true c.rule-item.is c.in_ok-push_in_rule.ensures
+    flat_past (checks_of_rule c.args.rule_check c.args.declared.now (map item_placed c.args.items.now)) _ _ _ _ _ _
+    c.loop-rule-test.true c.rule-item.is c.in_ok-push_in_rule.ensures
     c.loop-rule.invariant

@@ -8,7 +8,8 @@ use Rattle.normalform.proofs.faults.structure.productive_marks.Goals as goal
 pub new-requires : goal.new-requires
 new-requires c =
     let raw = c.args.raw.now in
-    rw (as_many raw.symbols _ (ap length c.as_slice.ensures), c.requires.clauses) (bounded raw (none_wrong (naming_checks raw) c.requires.names))
+    rw (as_many raw.symbols _ (ap length c.as_slice.ensures), c.requires.clauses)
+    (bounded raw (none_wrong (naming_checks raw) c.requires.names))
 
 pub returns : goal.returns
 returns c =

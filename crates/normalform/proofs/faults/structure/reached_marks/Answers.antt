@@ -9,7 +9,8 @@ use Rattle.normalform.proofs.faults.structure.reached_marks.Goals as goal
 pub of_edges-requires : goal.of_edges-requires
 of_edges-requires c =
     let raw = c.args.raw.now in
-    rw (as_many raw.symbols _ (ap length c.as_slice.ensures), c.requires.edges) (edges_bounded raw (none_wrong (naming_checks raw) c.requires.names))
+    rw (as_many raw.symbols _ (ap length c.as_slice.ensures), c.requires.edges)
+    (edges_bounded raw (none_wrong (naming_checks raw) c.requires.names))
 
 pub closure-requires : goal.closure-requires
 closure-requires c =
