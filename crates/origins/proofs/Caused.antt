@@ -12,17 +12,17 @@ use Rattle.origins.specs.Causes.{place_path, tree_at, values_at}
 use Rattle.origins.specs.Origins as origins
 use Rattle.origins.proofs.Induction.{Closed, ClosedIn, attribute_induction}
 
-pub number_clean : fault_of (Num (pos 0)) ≡ None
+number_clean : fault_of (Num (pos 0)) ≡ None
 number_clean = cc (outs-Num (pos 0))
 
 text_clean : (x : List ℕ) → fault_of (Text x) ≡ None
 text_clean x = cc (outs-Text x)
 
 -- a value that is not an error stays the same
-pub stays_clean : (v : Value) → fault_of v ≡ None → exchanged v ≡ v
+stays_clean : (v : Value) → fault_of v ≡ None → exchanged v ≡ v
 stays_clean v clean = cc
 
-pub same_itself : (c : ErrorCode) → is_same_error (Some c) (Some c) ≡ true
+same_itself : (c : ErrorCode) → is_same_error (Some c) (Some c) ≡ true
 same_itself c = eq-eqb (number_of c) (number_of c) refl
 
 -- if a test is true of 0 and false of n, it turns from true to false at some k

@@ -2,7 +2,6 @@ pub mod Common
 pub mod Arguments
 pub mod Caused
 pub mod Induction
-pub mod Knowing
 pub mod Origin
 pub mod Quiet
 pub mod Same

@@ -1,11 +1,14 @@
 -- No error arises in a rule that only copies an occurrence.
 use Rattle.origins.proofs.Common
-use Common.{[], ◌≡◌, ℕ, Bool, true, false, cond, Option, Some, None, refl, nat_eq, eqb-true, number_of, ErrorCode, Divide}
-use Common.{Overflow, Value, outs-Fault, Node, value_of, fault_of, exchanged, is_same_error}
+use Common.{List, [], ◌≡◌, ℕ, Bool, true, false, cond, Option, Some, None, refl, nat_eq, eqb-true, number_of, ErrorCode, Divide}
+use Common.{Overflow, Value, outs-Fault, Node, value_in, value_of, fault_of, exchanged, is_same_error}
 use Common.value
 use Common.node_of
-use Rattle.origins.proofs.Knowing.{value-Occurrence}
+use Rattle.ag_grammar.specs.declared.syntax.node.Node.TheFolds.{fold-roll-Node}
 use Rattle.origins.specs.Arising.{arises, exchanged_to}
+
+value-Occurrence : (k : ℕ) (env : ℕ → Value) (bound : List Value) → value_in (node_of.Occurrence k) env bound ≡ env k
+value-Occurrence k env bound = rw (← node_of.rolls-Occurrence k, fold-roll-Node)
 
 -- the error that is put in place of an error is not the same one
 another_error : (c : ErrorCode) (v : Value) (b : Bool) → nat_eq (number_of c) 1 ≡ b

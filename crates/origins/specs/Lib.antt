@@ -1,7 +1,6 @@
 pub mod Arising
 pub mod Causes
 pub mod Faults
-pub mod Forms
 pub mod Laws
 pub mod Origins
 pub mod Records

@@ -5,10 +5,8 @@ ghost use Rattle.ag_grammar.specs.expressions.Evaluation.{value_of};
 ghost use Rattle.ag_value.specs.operations.Arguments.{fault_of, has_fault};
 ghost use Rattle.origins.specs.Arising.{environment, exchanged, is_arising};
 ghost use Rattle.origins.specs.Causes.{AnswersSource, exchanged_below, is_still};
-ghost use Rattle.origins.specs.Forms.{IsKnown};
 ghost use Rattle.origins.specs.Rows.{table_of};
 
-use crate::forms::Known;
 use crate::lending::{Arguments, ExchangedErrors, FirstExchanged, error_of, is_same_error};
 use crate::row::Row;
 use ag_eval::{Env, Meter, eval};
@@ -171,57 +169,14 @@ impl<'a> Row<'a> {
         Ok(is_same_error(Some(code), error_of(&other)))
     }
 
-    /// Returns what is known of the value of a rule without an evaluation. `Known` lists what can
-    /// be known.
-    fn known(&self, rule: &Rule) -> Known
-        ensures { IsKnown (environment rule.now (table_of self.now.grammar.now
-            self.now.production.now self.now.values.now)) rule.now.expr.tree result }
-    {
-        self.known_of(rule, rule.expr.tree())
-    }
-
-    /// Returns the argument with this number, from 0, whose error is known to be the value of the
-    /// rule. `None` is never returned: a number without an argument stands for the value 0, which
-    /// is not an error.
-    fn known_source(&self, rule: &Rule, number: usize) -> Option<Target>
-        requires { IsKnown (environment rule.now (table_of self.now.grammar.now
-            self.now.production.now self.now.values.now)) rule.now.expr.tree (Known.ErrorOf number) }
-        ensures { AnswersSource rule.now
-            (table_of self.now.grammar.now self.now.production.now self.now.values.now) result }
-    {
-        let args = rule.args.as_slice();
-        if args.len() <= number {
-            return None;
-        }
-        Some(args[number])
-    }
-
     /// Returns the argument that passes its error on to a rule. Returns `None` if the rule's value
     /// is not an error, or the error arises in the rule. Requires an argument for each different
     /// occurrence of the rule's expression. Fails with NoMemory if memory is refused.
     ///
-    /// Evaluates nothing if the result is known without an evaluation: for example if the rule
-    /// copies an argument, or adds an argument that is an error to a number. Otherwise evaluates
-    /// the rule and, if its value is an error, once more for each argument that is an error, up to
-    /// the one that passes its error on.
-    #[tactic(auto, using(crate::proofs::Sources::known_values))]
-    pub fn source_of(&self, alloc: Global, rule: &Rule) -> Result<Option<Target>, NoMemory>
-        requires arguments { length rule.now.args ≡ length rule.now.expr.occurrences }
-        ensures { IfOk result (AnswersSource rule.now
-            (table_of self.now.grammar.now self.now.production.now self.now.values.now)) }
-    {
-        match self.known(rule) {
-            Known::ErrorOf(number) => Ok(self.known_source(rule, number)),
-            Known::Number(_) => Ok(None),
-            Known::Clean => Ok(None),
-            Known::Nothing => self.evaluated_source(alloc, rule),
-        }
-    }
-
-    /// Returns the argument that passes its error on to a rule, as `source_of` does, but always by
-    /// evaluations. Fails as `source_of` does.
+    /// Evaluates the rule and, if its value is an error, once more for each argument that is an
+    /// error, up to the one that passes its error on.
     #[tactic(auto, using(crate::proofs::Caused::still_none, crate::proofs::Caused::arises_here))]
-    fn evaluated_source(&self, alloc: Global, rule: &Rule) -> Result<Option<Target>, NoMemory>
+    pub fn source_of(&self, alloc: Global, rule: &Rule) -> Result<Option<Target>, NoMemory>
         requires arguments { length rule.now.args ≡ length rule.now.expr.occurrences }
         ensures { IfOk result (AnswersSource rule.now
             (table_of self.now.grammar.now self.now.production.now self.now.values.now)) }

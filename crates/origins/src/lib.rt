@@ -4,7 +4,6 @@
 
 mod arising;
 mod fault;
-mod forms;
 pub mod laws;
 mod lending;
 mod record;
