@@ -23,7 +23,7 @@ ends_there : (content ends : List ℕ) (bodies : List (List ℕ)) (n : ℕ) (bod
 ends_there content ends [] n body a is none_there = cc
 ends_there content [] (b ∷ bodies) n body a is none_there = elim a [ ]
 ends_there content (e ∷ ends) (b ∷ bodies) zero body a is none_there = cc
-ends_there content (e ∷ ends) (b ∷ bodies) (suc n) body a is none_there = ends_there content ends bodies n body a.1 is none_there
+ends_there content (e ∷ ends) (b ∷ bodies) (suc n) body a is none_there = ends_there content ends bodies n body a.2 is none_there
 
 -- each child of a tree is one of the `kids`, from which the index is defined
 kid_there : (ts : Forest) (vs : ℕ → Valuation) (i : ℕ) {s : Tree} → child ts i ≡ Some s → slice_get (kids ts vs) i ≡ None → ⊥

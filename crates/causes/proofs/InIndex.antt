@@ -148,22 +148,25 @@ does_same q e f target (rule_does.Passes argument) same d = record {
 does_same q e f target (rule_does.Arises number) same d =
     record { rule = d.rule; there = d.there; gives = d.gives; arises = cc (same number d.rule d.there) }
 
+-- the body that is read before an offset, if there is one
+pub body_there : (content : List ℕ) (end : ℕ) {body : List ℕ} → next_before version_two content end ≡ Ok (Some body)
+    → body_before version_two content end ≡ Ok body
+unfolding next_before
+body_there content end found = by_header (nat_eq end header_bytes) (body_before version_two content end) found
+  where
+    by_header : (b : Bool) (read : Result (List ℕ) FrameFault) {body : List ℕ}
+        → cond b (Ok None) (some_body read) ≡ Ok (Some body) → read ≡ Ok body
+    by_header true read e = cc
+    by_header false (Ok z) e = cc
+    by_header false (Err fault) e = cc
+
 -- the body that ends where the index says is the record of the node
 pub body_is : {g : Grammar} {m : Passes} {k : ℕ} {t : Tree} {v : Valuation} {content : List ℕ} {index : TreeIndex}
     {number : ℕ} {tree : Tree} {w : Valuation} {body : List ℕ} (end : ℕ) → IsIndexOf g m k t v content index
     → IsSubtreeAt (back_from k) (nodes_of (back_from k) t v) number tree w → end_of index number ≡ Some end
     → body_before version_two content end ≡ Ok body → body ≡ record_of g m k tree w
-unfolding next_before
 body_is {g} {m} {k} {t} {v} {content} {index} {number} {tree} {w} {body} end indexed stands ends before =
-    by_header (nat_eq end header_bytes) (body_before version_two content end)
-    (record_there g m k t v content index number end tree w indexed stands ends) before
-  where
-    by_header : (b : Bool) (found : Result (List ℕ) FrameFault)
-        → cond b (Ok None) (some_body found) ≡ Ok (Some (record_of g m k tree w)) → found ≡ Ok body
-        → body ≡ record_of g m k tree w
-    by_header true found e h = cc
-    by_header false (Ok z) e h = cc
-    by_header false (Err fault) e h = cc
+    cc (body_there content end (record_there g m k t v content index number end tree w indexed stands ends).1)
 
 -- The values of a record are those of a node of a tree: the arguments of each rule have the same values in both.
 pub record IsRowAt (g : Grammar) (p : ℕ) (vs : List Value) (r : ℕ) (w : Valuation) : Type 0 where

@@ -1,6 +1,7 @@
 pub mod Common
 pub mod ChainSteps
 pub mod Complete
+pub mod Damaged
 pub mod Dependence
 pub mod Errors
 pub mod Found

@@ -6,6 +6,7 @@ use Rattle.ag_value.specs.declared.value.Value.{Value}
 use Rattle.ag_grammar.specs.declared.direction.Direction.{Direction}
 use Rattle.ag_grammar.specs.declared.grammar.Target.{Target}
 use Rattle.ag_grammar.specs.declared.grammar.Production.{Production}
+use Rattle.ag_grammar.specs.grammars.Accepted.{IsAccepted}
 use Rattle.ag_grammar.specs.grammars.AttributeGrammar.{Grammar, IsProduction}
 use Rattle.ag_grammar.specs.grammars.Passes.{IsLegal, Passes}
 use Rattle.ag_grammar.specs.grammars.Running.{IsLastPass}
@@ -14,7 +15,9 @@ use Rattle.ag_grammar.specs.grammars.Tree.{IsTreeOf, Tree}
 use Rattle.treefile.specs.records.Records.{IsFileOfTree}
 use Rattle.treefile.specs.records.TreeFile.{version_two}
 use Rattle.treefile.specs.framing.Ending.{body_before}
-use Rattle.tree_index.specs.Nodes.{HasNoChild, HasNodes, IsIndexIn, IsSubtreeAt, back_from, end_of, kind_in, nodes_of}
+use Rattle.tree_index.specs.Nodes.{HasNoChild, HasNodes, IsIndexIn, IsSubtreeAt, OfEach, back_from, end_of, kind_in, nodes_of}
+use Rattle.tree_index.specs.declared.fault.TreeFault.{TreeFault}
+use Rattle.tree_index.specs.declared.fault.TreeFault.TheVariants as fault
 use Rattle.tree_index.specs.declared.index.NodeKind.TheVariants as kind
 use Rattle.tree_index.specs.declared.index.TreeIndex.{TreeIndex}
 use Rattle.origins.specs.Causes.{HasCause, place_path, tree_at, values_at}
@@ -82,6 +85,33 @@ pub record IsCauseOf (g : Grammar) (places : List ℕ) (target : Target) (there 
 abbrev pub IsCauseIn : Grammar → TreeIndex → List ℕ → List ℕ → Target → List ℕ → ℕ → ℕ → Type 0
 IsCauseIn g index content places target there number n = IsIndexIn g content index
     → OfEachLast (IsCauseOf g places target there number n) g content
+
+-- The node with this number is, by the index, one of a production of an accepted grammar with this left side.
+pub record IsNodeOf (g : Grammar) (index : TreeIndex) (number left : ℕ) : Type 0 where
+  pub accepted : IsAccepted g
+  pub production : ℕ
+  pub of : Production
+  pub is_node : kind_in index number ≡ Some (kind.Node production)
+  pub there : IsProduction g production of
+  pub left_is : of.left ≡ left
+
+-- An offset is the end of the record, in the index, of the node at the end of some places, and the node is one of this symbol.
+pub record IsSymbolAt (g : Grammar) (index : TreeIndex) (places : List ℕ) (end symbol : ℕ) : Type 0 where
+  pub at : IsEndAt g index places end
+  pub node : IsNodeOf g index at.number symbol
+
+-- If the index is that of the content, the content is the file of no tree.
+abbrev pub IsOfNoTree : Grammar → TreeIndex → List ℕ → Type 0
+IsOfNoTree g index content = IsIndexIn g content index → OfEach (λ m k t v. ⊥) g content
+
+-- A fault of reading records along a chain. R1 has the offset at which the record of a node ends by the index, and comes only if
+-- the content is the file of no tree. P2 and P3 don't come.
+abbrev pub IsChainFault : Grammar → TreeIndex → List ℕ → TreeFault → Type 0
+IsChainFault g index content (fault.Damaged at) = (places : List ℕ) × IsEndAt g index places at × IsOfNoTree g index content
+IsChainFault g index content fault.TooDeep = ⊥
+IsChainFault g index content fault.TooManyNodes = ⊥
+IsChainFault g index content fault.Device = Unit {0}
+IsChainFault g index content fault.NoMemory = Unit {0}
 
 -- The index has no node of this number that is one of a production of the grammar, or has no end of the node's record.
 abbrev pub HasNoRecord : Grammar → TreeIndex → ℕ → Type 0

@@ -1,21 +1,22 @@
 //! The chain of rules that passed an error on.
 
-ghost use Rattle.std.specs.Prelude.{◌≡◌, ◌*◌, ◌++◌, ◌∷◌, ◌⊎◌, [], IfNone, IfOk, IfSome, IsErrOf, IsTrue, OnOk, false};
+ghost use Rattle.std.specs.Prelude.{◌≡◌, ◌*◌, ◌++◌, ◌∷◌, ◌⊎◌, [], IfErr, IfNone, IfOk, IfSome, IsErrOf, IsTrue, OnOk, false};
 ghost use Rattle.ag_grammar.specs.declared.limits.TheConstants.{MAX_NODES};
 ghost use Rattle.causes.specs.Chains.{Follows, GoesTo, IsCause, in_content, places_of};
-ghost use Rattle.causes.specs.Indexed.{GoesNowhere, HasNoChildAt, HasNoRecord, IsCauseIn, IsEndAt, IsNumberAt};
-ghost use Rattle.causes.specs.Indexed.{IsWithoutError, IsWithoutRecord, Leads, LeadsNowhere, Stops, StopsAfter, in_file};
+ghost use Rattle.causes.specs.Indexed.{GoesNowhere, HasNoChildAt, HasNoRecord, IsCauseIn, IsChainFault};
+ghost use Rattle.causes.specs.Indexed.{IsNodeOf, IsNumberAt, IsSymbolAt, IsWithoutError, IsWithoutRecord};
+ghost use Rattle.causes.specs.Indexed.{Leads, LeadsNowhere, Stops, StopsAfter, in_file};
 ghost use Rattle.causes.specs.Rules.{ComputesNoErrorIn};
 ghost use Rattle.causes.specs.declared.chain.Step.TheVariants as to;
 ghost use Rattle.treefile.specs.devices.Device.{LeavesContent, Persists, WhenHonest};
 
-use crate::bodies::body_before;
 use crate::next_rule::{Next, next_at};
 use ag_grammar::limits::MAX_NODES;
 use ag_grammar::{Grammar, Item, Target};
+use ag_value::NoMemory;
 use origins::{DecodeFault, LastRecord, record_of};
 use std::alloc::Global;
-use tree_index::{NodeKind, TreeFault, TreeIndex};
+use tree_index::{NodeKind, TreeFault, TreeIndex, body_before};
 use treefile::Device;
 
 /// The greatest number of rules of a chain that are followed: 16 for each of `MAX_NODES` nodes,
@@ -97,16 +98,18 @@ impl<'a> Chain<'a> {
             (IsWithoutRecord self.now.grammar.now self.now.index.now (places_of self.now.nodes.items)
             ⊎ IsWithoutError self.now.grammar.now self.now.index.now (D.content device.old)
             (places_of self.now.nodes.items) target))) }
+        ensures fault { IfErr result (λ fault. WhenHonest (D.is_honest device.new) (IsChainFault
+            self.now.grammar.now self.now.index.now (D.content device.old) fault)) }
         ensures content { LeavesContent (D.is_honest device.new)
             (D.content device.old) (D.content device.new) }
         ensures persists { Persists (D.is_honest device.old) (D.is_honest device.new)
             (D.failures device.old) (D.failures device.new) (IsErrOf result TreeFault.Device) }
     {
-        let Some((end, item)) = self.record() else {
+        let Some((end, symbol)) = self.record() else {
             return Ok(None);
         };
         let body = body_before(alloc, device, end)?;
-        match record_of(alloc, self.grammar, item, body.as_slice()) {
+        match record_of(alloc, self.grammar, Item::Symbol(symbol), body.as_slice()) {
             Ok(LastRecord::Node(number, values)) => {
                 Ok(next_at(alloc, self.grammar, number, values.as_slice(), target)?)
             }
@@ -131,10 +134,10 @@ impl<'a> Chain<'a> {
     /// Returns the offset at which the record of the chain's node ends, and the node's symbol.
     /// Returns `None` if the node is a token, if its production is not one of the grammar, or if
     /// the index lacks the node or the end of its record.
-    fn record(&self) -> Option<(u64, Item)>
+    fn record(&self) -> Option<(u64, u16)>
         requires leads { Leads self.now.grammar.now self.now.index.now self.now.nodes.items }
-        ensures end { IfSome result (λ parts. IsEndAt self.now.grammar.now self.now.index.now
-            (places_of self.now.nodes.items) parts.0) }
+        ensures end { IfSome result (λ parts. IsSymbolAt self.now.grammar.now self.now.index.now
+            (places_of self.now.nodes.items) parts.0 parts.1) }
         ensures none { IfNone result (IsWithoutRecord self.now.grammar.now self.now.index.now
             (places_of self.now.nodes.items)) }
     {
@@ -143,7 +146,7 @@ impl<'a> Chain<'a> {
             return None;
         };
         match self.index.end(node) {
-            Some(end) => Some((end, Item::Symbol(left))),
+            Some(end) => Some((end, left)),
             None => None,
         }
     }
@@ -151,7 +154,8 @@ impl<'a> Chain<'a> {
     /// Returns the left side of the production of a node. Returns `None` for a token, for a node
     /// that the index does not have, and for a production that the grammar does not have.
     fn left_of(&self, node: u32) -> Option<u16>
-        ensures { IfNone result (HasNoRecord self.now.grammar.now self.now.index.now node) }
+        ensures left { IfSome result (IsNodeOf self.now.grammar.now self.now.index.now node) }
+        ensures none { IfNone result (HasNoRecord self.now.grammar.now self.now.index.now node) }
     {
         let Some(NodeKind::Node(number)) = self.index.kind(node) else {
             return None;
@@ -164,8 +168,8 @@ impl<'a> Chain<'a> {
     }
 
     /// Goes to the child at a place. Returns whether there is one; if not, stays at the node. Fails
-    /// with NoMemory if memory is refused.
-    fn go_to_child(&mut self, place: u16) -> Result<bool, TreeFault>
+    /// if memory is refused.
+    fn go_to_child(&mut self, place: u16) -> Result<bool, NoMemory>
         requires leads { Leads self.old.grammar.now self.old.index.now self.old.nodes.items }
         ensures places { IfOk result (λ found. IsTrue found → places_of self.new.nodes.items
             ≡ places_of self.old.nodes.items ++ place ∷ []) }
@@ -174,20 +178,17 @@ impl<'a> Chain<'a> {
         ensures leads { OnOk result (Leads self.new.grammar.now self.new.index.now self.new.nodes.items) }
         ensures index { self.new.index ≡ self.old.index }
         ensures grammar { self.new.grammar ≡ self.old.grammar }
-        ensures device { IsErrOf result TreeFault.Device → ⊥ }
     {
         let Some(node) = self.index.child(self.grammar, self.node(), place) else {
             return Ok(false);
         };
-        let Ok(()) = self.nodes.push(PathNode { node, place }) else {
-            return Err(TreeFault::NoMemory);
-        };
+        self.nodes.push(PathNode { node, place })?;
         Ok(true)
     }
 
     /// Goes from the root to the node at the end of some places. Returns whether there is such a
-    /// node; if not, stops at the last node on the way. Fails with NoMemory if memory is refused.
-    fn go_down(&mut self, places: &[u16]) -> Result<bool, TreeFault>
+    /// node; if not, stops at the last node on the way. Fails if memory is refused.
+    fn go_down(&mut self, places: &[u16]) -> Result<bool, NoMemory>
         requires root { self.old.nodes.items ≡ [] }
         ensures places { IfOk result (λ found. IsTrue found
             → places_of self.new.nodes.items ≡ places.now) }
@@ -196,7 +197,6 @@ impl<'a> Chain<'a> {
         ensures leads { OnOk result (Leads self.new.grammar.now self.new.index.now self.new.nodes.items) }
         ensures index { self.new.index ≡ self.old.index }
         ensures grammar { self.new.grammar ≡ self.old.grammar }
-        ensures device { IsErrOf result TreeFault.Device → ⊥ }
     {
         for place in places {
             if !self.go_to_child(*place)? {
@@ -208,8 +208,8 @@ impl<'a> Chain<'a> {
 
     /// Goes to the node of the rule for an argument, and returns the target of that rule. Returns
     /// `None` if the argument is an attribute of the root itself, or of a child that the index does
-    /// not have. Fails with NoMemory if memory is refused.
-    fn go_to(&mut self, argument: Target) -> Result<Option<Target>, TreeFault>
+    /// not have. Fails if memory is refused.
+    fn go_to(&mut self, argument: Target) -> Result<Option<Target>, NoMemory>
         requires leads { Leads self.old.grammar.now self.old.index.now self.old.nodes.items }
         ensures goes { IfOk result (λ target. IfSome target (GoesTo
             (places_of self.old.nodes.items) argument (places_of self.new.nodes.items))) }
@@ -218,7 +218,6 @@ impl<'a> Chain<'a> {
         ensures leads { OnOk result (Leads self.new.grammar.now self.new.index.now self.new.nodes.items) }
         ensures index { self.new.index ≡ self.old.index }
         ensures grammar { self.new.grammar ≡ self.old.grammar }
-        ensures device { IsErrOf result TreeFault.Device → ⊥ }
     {
         let attr = argument.attr;
         if argument.place == 0 {
@@ -260,6 +259,8 @@ impl<'a> Chain<'a> {
         ensures step { IfOk result (λ step. WhenHonest (D.is_honest device.new) (Follows
             (in_file self.old.grammar.now self.old.index.now (D.content device.old))
             (places_of self.old.nodes.items) target (places_of self.new.nodes.items) step)) }
+        ensures fault { IfErr result (λ fault. WhenHonest (D.is_honest device.new) (IsChainFault
+            self.old.grammar.now self.old.index.now (D.content device.old) fault)) }
         ensures stops { IfOk result (λ step. step ≡ to.Nothing → WhenHonest (D.is_honest device.new) (Stops
             self.old.grammar.now self.old.index.now (D.content device.old)
             (places_of self.old.nodes.items) target)) }
@@ -281,17 +282,14 @@ impl<'a> Chain<'a> {
         }
     }
 
-    /// Returns the places from the root to the node at which the chain is. Fails with NoMemory if
-    /// memory is refused.
-    fn places(&self, alloc: Global) -> Result<Vec<u16>, TreeFault>
+    /// Returns the places from the root to the node at which the chain is. Fails if memory is
+    /// refused.
+    fn places(&self, alloc: Global) -> Result<Vec<u16>, NoMemory>
         ensures places { IfOk result (λ places. places.items ≡ places_of self.now.nodes.items) }
-        ensures device { IsErrOf result TreeFault.Device → ⊥ }
     {
         let mut places = Vec::new(alloc);
         for node in self.nodes.as_slice() {
-            let Ok(()) = places.push(node.place) else {
-                return Err(TreeFault::NoMemory);
-            };
+            places.push(node.place)?;
         }
         Ok(places)
     }
@@ -307,8 +305,10 @@ impl<'a> Chain<'a> {
 /// is that of the file, the grammar is accepted, and the file is that of a tree of at most
 /// `MAX_NODES` nodes whose values are a solution.
 ///
-/// Fails with R1 if the record of a node of the chain is damaged, with D1 if a call of the device
-/// fails, and with NoMemory if memory is refused. Reads a record for each rule in the chain.
+/// Fails with R1 if the record of a node of the chain is damaged: if no frame ends where the index
+/// says, or its body is not a record of the node's symbol. The offset in bytes is the one at which
+/// this record should end. Fails with D1 if a call of the device fails, and with NoMemory if memory
+/// is refused. Reads a record for each rule in the chain.
 pub fn find_cause<D: Device>(
     alloc: Global,
     grammar: &Grammar,
@@ -339,6 +339,10 @@ pub fn find_cause<D: Device>(
     ensures complete { IfOk result (λ cause. IfNone cause (WhenHonest (D.is_honest device.new)
         (ComputesNoErrorIn grammar.now index.now (D.content device.old) start.now.places.now
         start.now.target))) }
+    // R1 is at the end of the record of a node. If the index is that of the content, it comes only if
+    // the content is the file of no tree
+    ensures fault { IfErr result (λ fault. WhenHonest (D.is_honest device.new)
+        (IsChainFault grammar.now index.now (D.content device.old) fault)) }
     ensures content { LeavesContent (D.is_honest device.new)
         (D.content device.old) (D.content device.new) }
     ensures persists { Persists (D.is_honest device.old) (D.is_honest device.new)

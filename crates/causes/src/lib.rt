@@ -5,7 +5,6 @@
 //! the records on it.
 #![tactic(auto)]
 
-mod bodies;
 mod chain;
 pub mod laws;
 mod next_rule;

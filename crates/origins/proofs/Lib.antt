@@ -4,5 +4,6 @@ pub mod Caused
 pub mod Induction
 pub mod Origin
 pub mod Quiet
+pub mod Reading
 pub mod Same
 pub mod Sources

@@ -3,6 +3,7 @@ use Rattle.origins.proofs.Common
 use Common.{◌≡◌, ℕ, ◌^◌, ◌<◌, List, [], ◌∷◌, ◌++◌, All, refl, ap, sym, ◌∙◌, flat_map, none-some, Value, spelling_of, IsWell}
 use Common.{body_from, body_of}
 use Rattle.std.specs.Int.{w16, to_be_bytes}
+use Rattle.std.proofs.Common.{append_assoc}
 use Rattle.std.proofs.lemmas.List.{drop_at, take_at}
 use Rattle.std.proofs.lemmas.List.Elements.{All-head, All-tail}
 use Rattle.std.proofs.lemmas.Nat.{from_be_bytes-to_be_bytes_2}
@@ -36,6 +37,19 @@ spelled_once (v ∷ vs) [] a b e = absurd (not_empty v (flat_map spelling_of vs)
 spelled_once (v ∷ vs) (w ∷ ws) a b e =
     let apart = spelled_apart v w _ _ (All-head IsWell v vs a) (All-head IsWell w ws b) e in
     cc (spelled_once vs ws (All-tail IsWell v vs a) (All-tail IsWell w ws b) apart.1)
+
+-- if well values begin with the spellings of others, they are the others and some more
+pub rest_of : (xs vs : List Value) (rest : List ℕ) → All IsWell xs → All IsWell vs
+    → flat_map spelling_of xs ++ rest ≡ flat_map spelling_of vs
+    → (ws : List Value) × (vs ≡ xs ++ ws) × All IsWell ws × (rest ≡ flat_map spelling_of ws)
+rest_of [] vs rest a b e = (vs, refl, b, e)
+rest_of (x ∷ xs) [] rest a b e = absurd (not_empty x (flat_map spelling_of xs ++ rest) (All-head IsWell x xs a)
+    (cc (append_assoc (spelling_of x) (flat_map spelling_of xs) rest)))
+rest_of (x ∷ xs) (v ∷ vs) rest a b e =
+    let apart = spelled_apart x v (flat_map spelling_of xs ++ rest) (flat_map spelling_of vs) (All-head IsWell x xs a)
+    (All-head IsWell v vs b) (cc (append_assoc (spelling_of x) (flat_map spelling_of xs) rest)) in
+    let further = rest_of xs vs rest (All-tail IsWell x xs a) (All-tail IsWell v vs b) apart.1 in
+    (further.0, cc (apart.0, further.1), further.2, further.3)
 
 pub one_body : (p r : ℕ) (vs ws : List Value) → p < 2 ^ 16 → r < 2 ^ 16 → All IsWell vs → All IsWell ws
     → body_of Node p vs ≡ body_of Node r ws → (p ≡ r) × (vs ≡ ws)

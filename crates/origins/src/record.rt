@@ -1,10 +1,10 @@
 //! Reads the body of a record of the file of the last pass: a token, or a node with all its values.
 
-ghost use Rattle.std.specs.Prelude.{◌≡◌, All, IfOk};
+ghost use Rattle.std.specs.Prelude.{◌≡◌, All, IfOk, IsErrOf};
 ghost use Rattle.std.specs.List.{flat_map};
 ghost use Rattle.ag_value.specs.Spelling.{spelling_of};
 ghost use Rattle.ag_value.specs.Well.{IsWell};
-ghost use Rattle.origins.specs.Records.{IsRecord};
+ghost use Rattle.origins.specs.Records.{AreNoValues, IsNoRecord, IsRecord};
 
 use crate::fault::DecodeFault;
 use ag_grammar::{Grammar, Item, Terminal};
@@ -28,6 +28,7 @@ pub enum LastRecord {
 fn values_in(alloc: Global, bytes: &[u8]) -> Result<Items<Value>, DecodeFault>
     ensures well { IfOk result (λ values. All IsWell values) }
     ensures spelled { IfOk result (λ values. bytes.now ≡ flat_map spelling_of values) }
+    ensures damaged { IsErrOf result DecodeFault.Damaged → AreNoValues bytes.now }
 {
     let mut values = Vec::new(alloc);
     let mut rest = bytes;
@@ -52,7 +53,7 @@ fn values_in(alloc: Global, bytes: &[u8]) -> Result<Items<Value>, DecodeFault>
 /// class. It is not checked that the number of values is the one that the production needs, or that
 /// the text of a token is valid.
 ///
-/// Fails with Damaged if the body is not such a record, or the item is a literal. Fails with
+/// Fails with Damaged exactly if the body is not such a record, or the item is a literal. Fails with
 /// NoMemory if memory is refused.
 pub fn record_of(
     alloc: Global,
@@ -60,7 +61,8 @@ pub fn record_of(
     item: Item,
     body: &[u8],
 ) -> Result<LastRecord, DecodeFault>
-    ensures { IfOk result (λ found. IsRecord grammar.now body.now found) }
+    ensures found { IfOk result (λ found. IsRecord grammar.now item body.now found) }
+    ensures damaged { IsErrOf result DecodeFault.Damaged → IsNoRecord grammar.now item body.now }
 {
     let Some((kind, number, spellings)) = split_body(body) else {
         return Err(DecodeFault::Damaged);

@@ -147,18 +147,20 @@ child_is g index number count place before child counted less turn from_one late
       occurs = first_occurs (rw found.2 at (later k t v p ts w has (omega arith) s));
     }
 
--- the record that ends at the offset of a node
+-- the record that ends at the offset of a node, which is within the content
 end_at : (content : List ℕ) (ends : List ℕ) (bodies : List (List ℕ)) (n end : ℕ) (body : List ℕ) → AreEnds content ends bodies
-    → slice_get ends n ≡ Some end → slice_get bodies n ≡ Some body → next_before version_two content end ≡ Ok (Some body)
+    → slice_get ends n ≡ Some end → slice_get bodies n ≡ Some body
+    → (end ≤ length content) × (next_before version_two content end ≡ Ok (Some body))
 end_at content [] bodies n end body a is there = cc
 end_at content (e ∷ ends) [] n end body a is there = elim a [ ]
-end_at content (e ∷ ends) (b ∷ bodies) zero end body a is there = cc a.0
-end_at content (e ∷ ends) (b ∷ bodies) (suc n) end body a is there = end_at content ends bodies n end body a.1 is there
+end_at content (e ∷ ends) (b ∷ bodies) zero end body a is there =
+    let same : e ≡ end = cc in (omega (arith, a.0), cc a.1)
+end_at content (e ∷ ends) (b ∷ bodies) (suc n) end body a is there = end_at content ends bodies n end body a.2 is there
 
 pub record_there : (g : Grammar) (m : Passes) (k : ℕ) (t : Tree) (v : Valuation) (content : List ℕ) (index : TreeIndex)
     (n end : ℕ) (tree : Tree) (w : Valuation) → IsIndexOf g m k t v content index
     → IsSubtreeAt (back_from k) (nodes_of (back_from k) t v) n tree w → end_of index n ≡ Some end
-    → next_before version_two content end ≡ Ok (Some (record_of g m k tree w))
+    → (end ≤ length content) × (next_before version_two content end ≡ Ok (Some (record_of g m k tree w)))
 record_there g m k t v content index n end tree w indexed s is =
     let nodes = nodes_of (back_from k) t v in
     end_at content index.ends.items (map (record_at g m k) nodes) n end (record_of g m k tree w) indexed.ends is

@@ -50,15 +50,17 @@ moved o = record o { visited = o.visited + 1 }
 
 -- one more record ends at an offset
 ends_more : (content : List ℕ) (ends : List ℕ) (bodies : List (List ℕ)) (end : ℕ) (body : List ℕ) → AreEnds content ends bodies
-    → next_before version_two content end ≡ Ok (Some body) → AreEnds content (ends ++ end ∷ []) (bodies ++ body ∷ [])
-ends_more content [] [] end body a e = (e, tt)
-ends_more content (x ∷ ends) (b ∷ bodies) end body a e = (a.0, ends_more content ends bodies end body a.1 e)
-ends_more content _ _ end body a e = elim a [ ]
+    → end ≤ length content → next_before version_two content end ≡ Ok (Some body)
+    → AreEnds content (ends ++ end ∷ []) (bodies ++ body ∷ [])
+ends_more content [] [] end body a within e = (within, e, tt)
+ends_more content (x ∷ ends) (b ∷ bodies) end body a within e =
+    (a.0, a.1, ends_more content ends bodies end body a.2 within e)
+ends_more content _ _ end body a within e = elim a [ ]
 
 ends_length : (content : List ℕ) (ends : List ℕ) (bodies : List (List ℕ)) → AreEnds content ends bodies
     → length ends ≡ length bodies
 ends_length content [] [] a = refl
-ends_length content (x ∷ ends) (b ∷ bodies) a = ap suc (ends_length content ends bodies a.1)
+ends_length content (x ∷ ends) (b ∷ bodies) a = ap suc (ends_length content ends bodies a.2)
 ends_length content _ _ a = elim a [ ]
 
 -- the sizes with one more: it is that of the node that comes next, or any number if this node is open
@@ -121,15 +123,16 @@ module _ (g : Grammar) (m : Passes) (k : ℕ) (t : Tree) (v : Valuation) (conten
   -- a node more is in the index
   begun_more : {records : ℕ} {os now : List OpenRecord} {index new : TreeIndex} {s : Subtree} {pending : List Subtree} {end : ℕ}
       → IsBegun g m k t v content records os index (s ∷ pending) → HasAdded end (kind_at s) index new
-      → next_before version_two content end ≡ Ok (Some (R s)) → records < MAX_NODES
+      → end ≤ length content → next_before version_two content end ≡ Ok (Some (R s)) → records < MAX_NODES
       → AreSizes sizes_of (index.sizes.items ++ 1 ∷ []) now → IsBegun g m k t v content (records + 1) now new pending
-  begun_more {index = index} {s = s} {pending = pending} {end = end} b added found less sizes =
+  begun_more {index = index} {s = s} {pending = pending} {end = end} b added within found less sizes =
       let in_read = length-append b.read (s ∷ []) in
       record {
         read = b.read ++ s ∷ [];
         all = cc (append_assoc b.read (s ∷ []) pending);
         pass = cc;
-        ends = rw (added.ends, map-append) (ends_more content index.ends.items (map R b.read) end (R s) b.ends found);
+        ends = rw (added.ends, map-append) (ends_more content index.ends.items (map R b.read) end (R s) b.ends within
+            found);
         kinds = cc (map-append kind_at b.read (s ∷ []));
         long = omega (arith, length-append index.sizes.items (1 ∷ []), ap length added.sizes);
         sizes = rw added.sizes sizes;
@@ -138,7 +141,8 @@ module _ (g : Grammar) (m : Passes) (k : ℕ) (t : Tree) (v : Valuation) (conten
       }
 
   module _ {at records number : ℕ} {os : List OpenRecord} {index new : TreeIndex} {body : List ℕ}
-      (found : next_before version_two content at ≡ Ok (Some body)) (less : records < MAX_NODES) where
+      (within : at ≤ length content) (found : next_before version_two content at ≡ Ok (Some body))
+      (less : records < MAX_NODES) where
     -- the record of a token was read
     token_at : (a : Terminal) (tree : Tree) (w : Valuation) (fs : List Family) → BeginsRecord g (item.Terminal a) body number
         → HasAdded at (kind.Token number) index new → Fits g (item.Terminal a) tree → AreOpen g os fs
@@ -157,7 +161,8 @@ module _ (g : Grammar) (m : Passes) (k : ℕ) (t : Tree) (v : Valuation) (conten
           families = fs;
           fit = fit;
           begun =
-              begun_more b (rw class at added) left.0 less (sizes_more sizes_of index.sizes.items 1 os b.sizes (inl (cc size)));
+              begun_more b (rw class at added) within left.0 less
+              (sizes_more sizes_of index.sizes.items 1 os b.sizes (inl (cc size)));
           ending = ending;
           left = rw (← same) left.1;
         }
@@ -200,7 +205,7 @@ module _ (g : Grammar) (m : Passes) (k : ℕ) (t : Tree) (v : Valuation) (conten
           families = f ∷ fs;
           fit = (fits.0, cc fits.1, fits.3, opened.children fits.0 (cc fits.1), fit);
           begun =
-              rw below (begun_more b (rw production at added) left.0 less
+              rw below (begun_more b (rw production at added) within left.0 less
               (sizes_more sizes_of index.sizes.items 1 (o ∷ os) sizes_open (inr (inl last))));
           ending = (omega arith, omega arith, subst (λ n. AreEnding D sizes_of n os fs) (omega arith) ending);
           left = rw (same, below) left.1;
@@ -351,17 +356,18 @@ module _ (g : Grammar) (m : Passes) (k : ℕ) (t : Tree) (v : Valuation) (conten
 pub reads : (g : Grammar) (content : List ℕ) (honest : Bool) (old new : BackState) (x : Item) (fetched : Fetched)
     (before now : List OpenRecord) (index_old index_new : TreeIndex) → HasFetched g honest content x old new fetched
     → HasOpened g fetched.item fetched.end fetched.number index_old index_new before now → honest ≡ true
-    → IsNextRecord g content old x (reverse before) index_old → HasComeTo g content new (reverse now) index_new
-reads g content honest old new (item.Terminal a) fetched before now index_old index_new f opened is next m k t v small legal tree
-    file =
+    → old.progress.at ≤ length content → IsNextRecord g content old x (reverse before) index_old
+    → HasComeTo g content new (reverse now) index_new
+reads g content honest old new (item.Terminal a) fetched before now index_old index_new f opened is within next m k t v small
+    legal tree file =
     let o = rw (f.end, f.item) at opened in
     rw (f.now, f.counted, o.1)
-    (token g m k t v content (f.found is) f.few f.begins o.0 (next m k t v small legal tree file))
-reads g content honest old new (item.Symbol s) fetched before now index_old index_new f opened is next m k t v small legal tree
-    file =
+    (token g m k t v content within (f.found is) f.few f.begins o.0 (next m k t v small legal tree file))
+reads g content honest old new (item.Symbol s) fetched before now index_old index_new f opened is within next m k t v small
+    legal tree file =
     let o = rw (f.end, f.item) at opened in
     rw (f.now, f.counted, o.3, reverse-append)
-    (enter g m k t v content (f.found is) f.few f.begins o.1 o.2 (next m k t v small legal tree file))
+    (enter g m k t v content within (f.found is) f.few f.begins o.1 o.2 (next m k t v small legal tree file))
 
 -- the number of the pass in the header
 pass_is : (content : List ℕ) (pass : ℕ) (b : Bool) → ◌≡◌ {A = Result ℕ FrameFault}

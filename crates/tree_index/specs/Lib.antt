@@ -1,3 +1,4 @@
+pub mod Bodies
 pub mod Faults
 pub mod Nodes
 pub mod Reading

@@ -80,13 +80,13 @@ record_of g m k (node p ts) v = node_body version_two g m k p (v []) (copies_of 
 abbrev pub record_at : Grammar → Passes → ℕ → Subtree → List ℕ
 record_at g m k s = record_of g m k s.tree s.values
 
--- A frame ends at each of these offsets of a content. Its body is the one at the same index of the list of bodies.
+-- A frame ends at each of these offsets within a content. Its body is the one at the same index of the list of bodies.
 abbrev pub AreEnds : List ℕ → List ℕ → List (List ℕ) → Type 0
 AreEnds content [] [] = Unit {0}
 AreEnds content [] (body ∷ bodies) = ⊥
 AreEnds content (end ∷ ends) [] = ⊥
-AreEnds content (end ∷ ends) (body ∷ bodies) = (next_before version_two content end ≡ Ok (Some body))
-    × AreEnds content ends bodies
+AreEnds content (end ∷ ends) (body ∷ bodies) = (end ≤ length content)
+    × (next_before version_two content end ≡ Ok (Some body)) × AreEnds content ends bodies
 
 -- the direction in which the file of a pass is read from its end
 abbrev pub back_from : ℕ → Direction

@@ -2,7 +2,8 @@
 
 ghost use Rattle.std.specs.Prelude.{IfOk, IfSome, IsErrOf};
 ghost use Rattle.ag_grammar.specs.grammars.AttributeGrammar.{IsProduction};
-ghost use Rattle.treefile.specs.devices.Device.{LeavesContent, Persists};
+ghost use Rattle.treefile.specs.devices.Device.{LeavesContent, Persists, WhenHonest};
+ghost use Rattle.tree_index.specs.Bodies.{HasRecordAt};
 ghost use Rattle.tree_index.specs.Reading.{BeginsRecord};
 
 use crate::bodies::body_before;
@@ -156,10 +157,9 @@ impl<'a> FileFormat<'a> {
         }
     }
 
-    /// Reads the record that ends at offset `end`, in bytes, as a record of an item. The offset has
-    /// to be the end of a frame, as for `body_before`. Fails with R1 and the offset if
-    /// `body_before` fails with B2, or if the body is not a record of the item. Fails with D1 if a
-    /// call of the device fails, and with NoMemory if memory is refused.
+    /// Reads the record that ends at offset `end`, in bytes, as a record of an item. Fails with R1
+    /// and the offset if no frame ends there, or if its body is not a record of the item. Fails with
+    /// D1 if a call of the device fails, and with NoMemory if memory is refused.
     pub fn read_record<D: Device>(
         &self,
         alloc: Global,
@@ -167,6 +167,8 @@ impl<'a> FileFormat<'a> {
         device: &mut D,
         end: u64,
     ) -> Result<NodeRecord, TreeFault>
+        ensures read { IfOk result (λ found. WhenHonest (D.is_honest device.new) (HasRecordAt
+            self.now.grammar.now (D.content device.old) item end found.number)) }
         ensures content { LeavesContent (D.is_honest device.new)
             (D.content device.old) (D.content device.new) }
         ensures persists { Persists (D.is_honest device.old) (D.is_honest device.new)

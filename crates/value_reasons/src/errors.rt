@@ -1,10 +1,11 @@
 //! The rules of a tree in which errors arise.
 
-ghost use Rattle.std.specs.Prelude.{◌≡◌, All, IfErr, IsErrOf, length};
+ghost use Rattle.std.specs.Prelude.{◌≡◌, All, IfErr, IfOk, IsErrOf, Ok, length};
 ghost use Rattle.ag_grammar.specs.Lists.{Each};
 ghost use Rattle.ag_grammar.specs.declared.grammar.Rule.{Rule as TheRule};
 ghost use Rattle.ag_value.specs.Well.{IsWell};
-ghost use Rattle.treefile.specs.devices.Device.{LeavesContent, Persists};
+ghost use Rattle.tree_index.specs.Bodies.{body_at};
+ghost use Rattle.treefile.specs.devices.Device.{LeavesContent, Persists, WhenHonest};
 
 use crate::explained::ExplainedTree;
 use ag_grammar::limits::MAX_NODES;
@@ -21,10 +22,11 @@ use treefile::Device;
 const BUFFER_BYTES: usize = 65_536;
 
 impl<'a> ExplainedTree<'a> {
-    /// Reads the body of the record that ends at the offset `end` in bytes. Fails with R1 if no
-    /// record can end there (`body_before`), with D1 if a call of the device fails, and if memory
-    /// is refused.
+    /// Reads the body of the frame that ends at the offset `end` in bytes. Fails with R1 if no frame
+    /// ends there, with D1 if a call of the device fails, and if memory is refused.
     fn read_body<D: Device>(&self, end: u64, device: &mut D) -> Result<Vec<u8>, TreeFault>
+        ensures read { IfOk result (λ body. WhenHonest (D.is_honest device.new)
+            (body_at (D.content device.old) end ≡ Ok body.items)) }
         ensures content { LeavesContent (D.is_honest device.new)
             (D.content device.old) (D.content device.new) }
         ensures persists { Persists (D.is_honest device.old) (D.is_honest device.new)

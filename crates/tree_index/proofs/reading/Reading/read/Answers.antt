@@ -12,4 +12,5 @@ returns-clause-come g c = on_ok_weaker c.open.result (λ opened honest.
     rw c.open.ensures.back
     (reads grammar content (g.D.Device.is_honest c.fetch.new.device) old.back c.fetch.new.back c.args.expected.item
     c.in_ok-fetched.fetched old.nodes.items new.nodes.items old.index new.index f.fetched opened honest
-    (c.requires.next (f.persists.honest honest)))) c.open.ensures.opened
+    (c.requires.ready.over (f.persists.honest honest)).window.within (c.requires.next (f.persists.honest honest))))
+    c.open.ensures.opened
