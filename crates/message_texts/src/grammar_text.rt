@@ -4,7 +4,7 @@
 use ag_grammar::{Grammar, RawGrammar};
 use ag_text::read_grammar;
 use message_parts::{Location, Source};
-use normalform::{check, is_readable};
+use normalform::{FaultList, NormalFault, check, faults_of, is_readable};
 use std::alloc::Global;
 
 /// A grammar's text that is read again.
@@ -18,16 +18,36 @@ pub struct GrammarText<'a> {
     pub text: &'a str,
     /// The grammar that the text reads as. None if the text is not a grammar, or memory is refused.
     pub raw: Option<RawGrammar>,
+    /// The faults N1 to N10 of this grammar. None if there is no grammar, or memory is refused.
+    pub faults: Option<FaultList>,
+    /// Whether all faults are printed, so that no message says how many others there are.
+    pub lists_all: bool,
 }
 
 impl<'a> GrammarText<'a> {
-    /// Reads a text again. Takes memory.
-    pub fn new(alloc: Global, source: Source<'a>) -> GrammarText<'a> {
+    /// Reads a text again, for a message about one fault, or about each fault if `lists_all`. Takes
+    /// memory.
+    pub fn new(alloc: Global, source: Source<'a>, lists_all: bool) -> GrammarText<'a> {
+        let raw = read_grammar(alloc, source.bytes).ok();
+        let faults = match &raw {
+            Some(raw) => faults_of(alloc, raw).ok(),
+            None => None,
+        };
         GrammarText {
             alloc,
             source,
             text: source.text(),
-            raw: read_grammar(alloc, source.bytes).ok(),
+            raw,
+            faults,
+            lists_all,
+        }
+    }
+
+    /// Returns the faults N1 to N10 of the grammar; none if it was not read, or memory was refused.
+    pub fn faults(&self) -> &[NormalFault] {
+        match &self.faults {
+            Some(faults) => faults.as_slice(),
+            None => &[],
         }
     }
 

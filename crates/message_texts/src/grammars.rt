@@ -2,7 +2,6 @@
 
 pub mod conflicts;
 pub mod endless;
-pub mod further;
 pub mod left_recursion;
 pub mod limits;
 pub mod lookup;

@@ -69,10 +69,17 @@ impl FaultReport {
     pub fn of_grammar(alloc: Global, fault: Fault, source: Source<'_>) -> FaultReport
         ensures { result.fault ≡ fault }
     {
-        let text = GrammarText::new(alloc, source);
-        let location = locate_fault_of_grammar(&fault, &text);
-        let mut report = FaultReport::new(alloc, fault).with_location(alloc, location, source.name);
-        let written = describe_fault_of_grammar(&mut report.parts, &report.fault, &text);
+        FaultReport::of_read_grammar(alloc, fault, &GrammarText::new(alloc, source, false))
+    }
+
+    /// Returns the report of a fault of the text of a grammar that was read again.
+    pub fn of_read_grammar(alloc: Global, fault: Fault, text: &GrammarText<'_>) -> FaultReport
+        ensures { result.fault ≡ fault }
+    {
+        let location = locate_fault_of_grammar(&fault, text);
+        let report = FaultReport::new(alloc, fault);
+        let mut report = report.with_location(alloc, location, text.source.name);
+        let written = describe_fault_of_grammar(&mut report.parts, &report.fault, text);
         report.or_bare(written)
     }
 

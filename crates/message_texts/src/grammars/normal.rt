@@ -2,7 +2,6 @@
 
 use crate::grammar_text::GrammarText;
 use crate::grammars::endless::endless_symbols;
-use crate::grammars::further::{Declarations, MissingRule, count_further};
 use crate::grammars::limits::{describe_limit, offset_of_limit};
 use crate::grammars::lookup::{
     AsWritten, AtPlace, PlacedOccurrence, at_place, attribute_at, has_production, name_at,
@@ -61,8 +60,8 @@ fn offset_of(fault: &NormalFault, raw: &RawGrammar) -> Option<usize> {
     }
 }
 
-/// Describes N1 to N10 of a grammar, and what to do. Writes nothing if memory for reading its text
-/// again is refused. Leaves out the number of further faults if memory for counting them is
+/// Describes N1 to N10 of a grammar, and what to do, with the number of further faults of the same
+/// kind if not all faults are printed. Writes nothing if memory for reading its text again is
 /// refused.
 pub fn describe_normal(
     parts: &mut Parts,
@@ -72,25 +71,26 @@ pub fn describe_normal(
     let Some(raw) = &text.raw else {
         return Ok(());
     };
-    describe_first(parts, fault, text.alloc, raw)?;
-    if !is_of_one_place(fault) {
+    describe_first(parts, fault, text, raw)?;
+    if text.lists_all {
         return Ok(());
     }
-    match count_further(text.alloc, fault, raw) {
-        Ok(further) => write_further(&mut parts.help, further),
-        Err(_) => Ok(()),
-    }
+    let alike = text.faults().iter().filter(|other| is_alike(fault, *other));
+    write_further(&mut parts.help, alike.count().saturating_sub(1))
 }
 
-/// Returns whether a fault is N1, N7, N8 or N9. Messages about these have the number of further
-/// faults of the same kind. (Messages about N4 and N6 mention the others in their own way.)
-fn is_of_one_place(fault: &NormalFault) -> bool {
+/// Returns whether both faults are N1, or both N7, N8 or N9. (Messages about N4 and N6 mention the
+/// others in their own way.)
+fn is_alike(fault: &NormalFault, other: &NormalFault) -> bool {
     matches!(
-        fault,
-        NormalFault::UnknownName(_)
-            | NormalFault::RuleDoubled(_)
-            | NormalFault::NotDefinedHere(_)
-            | NormalFault::NotNormal(_)
+        (fault, other),
+        (NormalFault::UnknownName(_), NormalFault::UnknownName(_))
+            | (NormalFault::RuleDoubled(_), NormalFault::RuleDoubled(_))
+            | (
+                NormalFault::NotDefinedHere(_),
+                NormalFault::NotDefinedHere(_)
+            )
+            | (NormalFault::NotNormal(_), NormalFault::NotNormal(_))
     )
 }
 
@@ -108,7 +108,7 @@ fn write_further(help: &mut String, further: usize) -> Result<(), AllocError> {
 fn describe_first(
     parts: &mut Parts,
     fault: &NormalFault,
-    alloc: Global,
+    text: &GrammarText<'_>,
     raw: &RawGrammar,
 ) -> Result<(), AllocError> {
     match fault {
@@ -116,17 +116,12 @@ fn describe_first(
         NormalFault::DoubledName(at) => describe_doubled(parts, raw, *at),
         NormalFault::BadStart => describe_start(parts, raw),
         NormalFault::Unproductive(symbol) => {
-            describe_unproductive(parts, alloc, raw, symbol.name.as_str())
+            describe_unproductive(parts, text.alloc, raw, symbol.name.as_str())
         }
         NormalFault::Unreachable(symbol) => {
             describe_unreachable(parts, raw, symbol.name.as_str())
         }
-        NormalFault::RuleMissing(production, _, _) => {
-            match raw.productions.as_slice().get(*production) {
-                Some(production) => describe_missing(parts, alloc, raw, production),
-                None => Ok(()),
-            }
-        }
+        NormalFault::RuleMissing(number, _, _) => describe_missing(parts, text, raw, *number),
         NormalFault::RuleDoubled(at)
         | NormalFault::NotDefinedHere(at)
         | NormalFault::NotNormal(at) => match placed_at(raw, *at) {
@@ -352,64 +347,77 @@ fn describe_unreachable(parts: &mut Parts, raw: &RawGrammar, name: &str) -> Resu
     parts.help.push_str("use it in a production, or remove it")
 }
 
-/// Describes N6: the rules that a production lacks. Writes nothing if memory for finding them is
-/// refused.
+/// Describes N6 with the rules that the production `number` lacks, and the number of those that
+/// other productions lack if not all faults are printed.
 fn describe_missing(
     parts: &mut Parts,
-    alloc: Global,
+    text: &GrammarText<'_>,
     raw: &RawGrammar,
-    production: &RawProduction,
+    number: usize,
 ) -> Result<(), AllocError> {
-    match Declarations::of(alloc, raw) {
-        Ok(declarations) => describe_missing_by(parts, &declarations, raw, production),
-        Err(_) => Ok(()),
-    }
-}
-
-/// Describes N6 by the declarations of a grammar. Writes nothing if memory for finding the rules is
-/// refused.
-fn describe_missing_by(
-    parts: &mut Parts,
-    declarations: &Declarations<'_>,
-    raw: &RawGrammar,
-    production: &RawProduction,
-) -> Result<(), AllocError> {
-    let Ok(all) = declarations.count_missing(raw.productions.as_slice()) else {
+    let Some(production) = raw.productions.as_slice().get(number) else {
         return Ok(());
     };
-    match declarations.missing_in(production) {
-        Ok(missing) => describe_rules(parts, production, missing.as_slice(), all),
-        Err(_) => Ok(()),
+    let (mut here, mut others) = (0usize, 0usize);
+    for fault in text.faults() {
+        match fault {
+            NormalFault::RuleMissing(of, _, _) if *of == number => here = here.saturating_add(1),
+            NormalFault::RuleMissing(_, _, _) => others = others.saturating_add(1),
+            _ => {}
+        }
     }
-}
-
-/// Describes N6 with the rules that a production lacks, and the number of those that other
-/// productions lack. All productions together lack `all` rules.
-fn describe_rules(
-    parts: &mut Parts,
-    production: &RawProduction,
-    missing: &[MissingRule<'_>],
-    all: usize,
-) -> Result<(), AllocError> {
+    if here == 0 {
+        // memory for the list of faults was refused
+        return Ok(());
+    }
     let left = production.left.name.as_str();
-    let (noun, help) = match missing.len() {
-        1 => ("rule", "add it"),
-        _ => ("rules", "add them"),
+    let (noun, help) = if here == 1 {
+        ("rule", "add it")
+    } else {
+        ("rules", "add them")
     };
     write!(parts.found, "this production of `{left}` lacks the {noun} ")?;
-    write_rules(&mut parts.found, missing)?;
-    write_others(&mut parts.found, all.saturating_sub(missing.len()))?;
+    write_rules(&mut parts.found, text, raw, number, production)?;
+    if !text.lists_all {
+        write_others(&mut parts.found, others)?;
+    }
     parts.help.push_str(help)
 }
 
 /// Writes the rules that a production lacks, as they would be written.
-fn write_rules(out: &mut String, missing: &[MissingRule<'_>]) -> Result<(), AllocError> {
+fn write_rules(
+    out: &mut String,
+    text: &GrammarText<'_>,
+    raw: &RawGrammar,
+    number: usize,
+    production: &RawProduction,
+) -> Result<(), AllocError> {
     let mut separator = "";
-    for rule in missing {
-        write!(out, "{separator}`${}.{} = ..;`", rule.place, rule.name)?;
-        separator = ", ";
+    for fault in text.faults() {
+        let NormalFault::RuleMissing(of, place, attribute) = fault else {
+            continue;
+        };
+        if let Some(name) = attribute_of(raw, production, *place, *attribute)
+            && *of == number
+        {
+            write!(out, "{separator}`${place}.{name} = ..;`")?;
+            separator = ", ";
+        }
     }
     Ok(())
+}
+
+/// Returns the name of an attribute, by its number, of the symbol at a place of a production.
+fn attribute_of<'a>(
+    raw: &'a RawGrammar,
+    production: &RawProduction,
+    place: usize,
+    attribute: usize,
+) -> Option<&'a str> {
+    match at_place(raw, production, place)? {
+        AtPlace::Symbol(symbol) => symbol.attribute_name(attribute),
+        AtPlace::Class => None,
+    }
 }
 
 /// Writes the number of rules that other productions lack.
