@@ -47,7 +47,7 @@ pub struct Translation {
 }
 
 /// Returns `folder` followed by `name`, which begins with `/`. Fails if memory is refused.
-fn path_in(alloc: Global, folder: &str, name: &str) -> Result<String, AllocError>
+fn joined(alloc: Global, folder: &str, name: &str) -> Result<String, AllocError>
     ensures { IfOk result (λ path. string_bytes path ≡ folder.now ++ name.now) }
 {
     let mut path = String::from_str(alloc, folder)?;
@@ -76,8 +76,8 @@ impl<F: Read + Write + Seek + OpenFile> WorkFiles<FileDevice<F>> {
             IsNew Writing (path_of_b folder.now) second.events files.b) }
         ensures refused { IfErr result IsOpeningFault }
     {
-        let a = path_in(alloc, folder, "/a.agt")?;
-        let b = path_in(alloc, folder, "/b.agt")?;
+        let a = joined(alloc, folder, "/a.agt")?;
+        let b = joined(alloc, folder, "/b.agt")?;
         Ok(WorkFiles {
             a: FileDevice::create(rt, alloc, a.as_str(), first)?,
             b: FileDevice::create(rt, alloc, b.as_str(), second)?,
