@@ -1,10 +1,10 @@
 //! Checking a raw grammar: the result is the numbered grammar, or the first fault, or the list of
 //! all faults.
-ghost use Rattle.std.specs.Prelude.{◌≡◌, [], map, All, IfOk, IfErr, OnOk};
+ghost use Rattle.std.specs.Prelude.{◌≡◌, ◌≢◌, [], map, All, Some, IfOk, IfErr, OnOk};
 ghost use Rattle.ag_grammar.specs.grammars.Accepted.{IsAccepted};
 ghost use Rattle.ag_grammar.specs.grammars.Order.{IsInOrder};
 ghost use Rattle.normalform.specs.faults.AllFaults.{AreMarked, IsSearched, AreFaults, IsHead};
-ghost use Rattle.normalform.specs.faults.AllFaults.{IsHeadOrNoMemory, checks_of_rules, if_none};
+ghost use Rattle.normalform.specs.faults.AllFaults.{checks_of_rules, if_none};
 ghost use Rattle.normalform.specs.faults.FaultList.{wrong, after_checks, is_empty, SaysIfNone};
 ghost use Rattle.normalform.specs.faults.Faults.{naming_checks, doubled_checks, missing_checks};
 ghost use Rattle.normalform.specs.faults.Faults.{later_kinds};
@@ -175,6 +175,26 @@ fn push_further(
     Ok(())
 }
 
+/// Appends the faults of a raw grammar to an empty list.
+fn push_all(
+    alloc: Global,
+    faults: &mut FaultList,
+    raw: &RawGrammar,
+    declared: &Declared<'_>,
+) -> Result<(), NoMemory>
+    requires declared { declared.now ≡ map symbol_of raw.now.symbols }
+    requires empty { faults.now.items ≡ [] }
+    ensures { OnOk result (IsSearched raw.now faults.old.only_first faults.new) }
+{
+    let distinct = push_naming(alloc, faults, raw, declared)?;
+    if faults.is_full() {
+        return Ok(());
+    }
+    push_structure(alloc, faults, raw, declared)?;
+    push_further(alloc, faults, raw, declared, distinct)?;
+    Ok(())
+}
+
 /// Returns the faults of a raw grammar, or only the first one. Fails with `NoMemory` if memory is
 /// refused.
 fn found_faults(alloc: Global, raw: &RawGrammar, only_first: bool) -> Result<FaultList, NoMemory>
@@ -182,12 +202,7 @@ fn found_faults(alloc: Global, raw: &RawGrammar, only_first: bool) -> Result<Fau
 {
     let declared = Declared::new(alloc, raw.symbols.as_slice())?;
     let mut faults = FaultList::new(alloc, only_first);
-    let distinct = push_naming(alloc, &mut faults, raw, &declared)?;
-    if faults.is_full() {
-        return Ok(faults);
-    }
-    push_structure(alloc, &mut faults, raw, &declared)?;
-    push_further(alloc, &mut faults, raw, &declared, distinct)?;
+    push_all(alloc, &mut faults, raw, &declared)?;
     Ok(faults)
 }
 
@@ -278,7 +293,7 @@ pub fn check(alloc: Global, raw: RawGrammar) -> Result<Grammar, NormalFault>
     ensures accepted { IfOk result (λ g. IsAccepted g) }
     ensures in_order { IfOk result (λ g. IsInOrder g) }
     ensures refused { IfErr result (λ fault. IsTrueOf raw fault) }
-    ensures first { IfErr result (λ fault. IsHeadOrNoMemory raw fault) }
+    ensures first { IfErr result (λ fault. fault ≢ NormalFault.NoMemory → IsHead raw (Some fault)) }
 {
     match first_fault(alloc, &raw)? {
         None => Ok(number(alloc, raw)?),

@@ -73,6 +73,12 @@ searched_names raw b found e h =
       two_parts names others (nothing b) found found e (after_full found others h),
     )
 
+-- a search begins with an empty list
+pub from_empty : (raw : RawGrammar) (old new : Found) → old.items ≡ [] → new ≡ after_checks old (naming_checks raw)
+    → new ≡ after_checks (nothing old.only_first) (naming_checks raw)
+from_empty raw old new none e =
+    e ∙ ap (λ items. after_checks (record { only_first = old.only_first; items = items }) (naming_checks raw)) none
+
 -- the search makes all checks
 pub searched_all : (raw : RawGrammar) (b : Bool) (names mid found : Found) → names ≡ after_checks (nothing b) (naming_checks raw)
     → AreMarked raw names mid → found ≡ after_checks mid (checks_of_rules raw) → IsSearched raw b found

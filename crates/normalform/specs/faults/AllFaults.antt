@@ -2,7 +2,7 @@
 -- looked for only in a grammar without N1 to N3, and N6 only in one without N2: of two attributes of one name only the first has
 -- a number, so the second would seem to lack its rule. N4 and N5 are checked by marks, one for each symbol, which say whether it
 -- is productive, or reached. In this file `ss` are symbols, `n` is the number of one, and `marks` has a mark for each number.
-use Rattle.std.specs.Prelude.{ℕ, ◌≡◌, ◌<◌, ◌↔◌, ◌⊎◌, Bool, true, List, [], ◌∷◌, ◌++◌, length, map, Option, Some, slice_get}
+use Rattle.std.specs.Prelude.{ℕ, ◌≡◌, ◌<◌, ◌↔◌, Bool, true, List, [], ◌∷◌, ◌++◌, length, map, Option, slice_get}
 use Rattle.ag_grammar.specs.declared.raw.Named.{Named}
 use Rattle.ag_grammar.specs.declared.raw.RawGrammar.{RawGrammar}
 use Rattle.ag_grammar.specs.declared.raw.RawSymbol.{RawSymbol}
@@ -90,7 +90,3 @@ IsSearched raw only_first found =
 -- the first one of the faults, if there is one
 abbrev pub IsHead : RawGrammar → Option NormalFault → Type 0
 IsHead raw o = (faults : List NormalFault) × AreFaults raw faults × (o ≡ slice_get faults 0)
-
--- a fault that `check` may return: it is the head of the list of faults, or it is `NoMemory`
-abbrev pub IsHeadOrNoMemory : RawGrammar → NormalFault → Type 0
-IsHeadOrNoMemory raw f = (f ≡ fault.NoMemory) ⊎ IsHead raw (Some f)
