@@ -1,5 +1,6 @@
 -- The fault of showing a value on an honest device, with the line in memory.
-use Rattle.std.proofs.Common.{◌≡◌, ℕ, List, inl, inr, refl}
+use native.Mathlib.Omega.{arith}
+use Rattle.std.proofs.Common.{◌≡◌, ℕ, List, inl, inr, lt_irrefl, refl}
 use Rattle.ag_fault.specs.Faults.{fault_in_memory}
 use Rattle.ag_fault.specs.declared.fault.Fault.{Fault}
 use Rattle.ag_fault.specs.declared.fault.Fault.TheVariants as fault
@@ -9,7 +10,8 @@ use Rattle.treefile.specs.devices.Device.{HasRisen}
 
 -- a device that counts no failure has not failed
 pub none_risen : HasRisen 0 0 → ⊥
-none_risen risen = ?
+none_risen (inl less) = lt_irrefl 0 less
+none_risen (inr most) = omega (arith, most)
 
 pub value_fault : (text : List ℕ) (e : Fault) → IsShowFault e → (IsDamage e → ⊥) → IsExplained text e
     → (e ≡ fault.Device → ⊥) → (IsExprFault e → HasNoValue text) → IsValueFault text (fault_in_memory e)

@@ -1,6 +1,6 @@
 -- What `check`, `plan`, `code` and `value` print, and why they fail. `old` and `new` are the events before and after the command,
 -- and e is a fault. All of this is this project's.
-use Rattle.std.specs.Prelude.{◌≡◌, ◌≢◌, ℕ, ◌⊎◌, Bool, true, false, List, [], ◌∷◌, Some, None}
+use Rattle.std.specs.Prelude.{◌≡◌, ℕ, ◌⊎◌, Bool, true, false, List, [], ◌∷◌, Some, None}
 use Rattle.ag_fault.specs.declared.fault.Fault.{Fault}
 use Rattle.ag_fault.specs.declared.fault.Fault.TheVariants as fault
 use Rattle.aggen.specs.Checking.{IsCheckFault, PrintsCounts}

@@ -1,4 +1,4 @@
-use Rattle.std.proofs.Common.{Err, cong, refl, subst, sym}
+use Rattle.std.proofs.Common.{Err, ap, refl, subst, sym}
 use Rattle.grammar_commands.proofs.Values.{none_risen, value_fault}
 use Rattle.grammar_commands.specs.Listings.{IsValueFault}
 use Rattle.grammar_commands.proofs.listings.line_of_value.Goals as goal
@@ -8,4 +8,4 @@ returns-clause-refused c =
     let is = c.in-Err.ensures in
     subst (IsValueFault c.args.text.now) (sym c.in_memory.ensures.exact)
     (value_fault c.args.text.now c.in-Err.fault is.kinds (is.undamaged refl) is.offsets
-        (λ same. none_risen (is.persists.cause (cong Err same))) is.refused)
+    (λ same. none_risen (is.persists.cause (ap Err same))) is.refused)
