@@ -38,7 +38,9 @@ pub fn run_sentences<R: Files + Input + Print + Eprint + Clock>(
         IsRefusedBatch paths.now session.old session.new report.fault) }
 {
     let alloc = session.alloc;
-    let tasks = session.granted(tasks_of(alloc, paths))?;
+    let Ok(tasks) = tasks_of(alloc, paths) else {
+        return Err(FaultReport::new(alloc, Fault::NoMemory));
+    };
     check_batch(session, paths, tasks.as_slice())?;
     let text = session.read(paths.grammar)?;
     let grammar = Source::new(paths.grammar.name(), text.as_slice());
