@@ -38,6 +38,12 @@ pub const OUTPUT: &str = "output";
 /// The name of the option for the folder of translations.
 pub const OUT_DIR: &str = "out-dir";
 
+/// The name of the option that lists all faults of a grammar.
+pub const ALL: &str = "all";
+
+/// The name of the option that limits the number of faults that are listed.
+pub const MOST: &str = "most";
+
 /// The name of the option that says when messages are marked with colour.
 pub const COLOR: &str = "color";
 
@@ -147,6 +153,23 @@ const WORK_FOLDER: Argument = Argument {
     ..PLAIN
 };
 
+/// The option that lists all faults of a grammar.
+const ALL_FAULTS: Argument = Argument {
+    name: ALL,
+    form: Form::Flag,
+    help: "Lists all faults N1 to N10 of the grammar, not only the first",
+    ..PLAIN
+};
+
+/// The option that limits the number of faults that are listed.
+const FAULT_LIMIT: Argument = Argument {
+    name: MOST,
+    form: Form::Value("N"),
+    help: "Lists at most N faults, 100 without it",
+    needs: &[ALL],
+    ..PLAIN
+};
+
 /// The options that all commands have: when messages are marked with colour, and whether the
 /// progress and the messages of refusals are hidden.
 const GLOBAL_OPTIONS: &[Argument] = &[
@@ -196,7 +219,7 @@ const COMMANDS: &[Entry] = &[
     Entry {
         name: "check",
         about: "Checks a grammar, and prints the number of its symbols and of its productions",
-        arguments: &[GRAMMAR_FILE],
+        arguments: &[GRAMMAR_FILE, ALL_FAULTS, FAULT_LIMIT],
         example: "Example:\n  $ aggen check examples/percentages.ag\n  2 symbols, 3 productions",
     },
     Entry {

@@ -4,18 +4,24 @@ ghost use Rattle.std.specs.Prelude.{◌≡◌, ◌≢◌, ◌⊎◌, IfErr, IsEr
 ghost use Rattle.clap.specs.Values.{kind_of};
 
 use crate::commands::{
-    ATTRIBUTE, COLOR, EXPRESSION, GRAMMAR, OLD, OUT_DIR, OUTPUT, QUIET, SENTENCE, TREE, WORK,
-    misuse_of, program,
+    ALL, ATTRIBUTE, COLOR, EXPRESSION, GRAMMAR, MOST, OLD, OUT_DIR, OUTPUT, QUIET, SENTENCE, TREE,
+    WORK, misuse_of, program,
 };
 use crate::fault::CommandLineFault;
 use crate::input::{InputPath, STANDARD};
 use crate::misuse::{check_once, check_sentences, check_tree};
 use crate::plain::PlainLines;
 use crate::tree_requests::{ExplainWords, ShowWords, explain_words, show_words};
-use crate::values::{input_of, value_of, values_of};
+use crate::values::{input_of, number_of, value_of, values_of};
 use clap::error::ErrorKind;
 use clap::{ArgMatches, Error};
 use std::alloc::Global;
+
+/// The greatest number of faults that `check --all` lists, if `--most` is missing.
+const DEFAULT_LISTED: u32 = 100;
+
+/// The greatest value of `--most`.
+const MAX_LISTED: u32 = 10_000;
 
 /// A command line: its request, and how messages are printed.
 #[derive(Drop)]
@@ -66,6 +72,8 @@ pub enum Request<'a> {
     Value(&'a str),
     /// The check of a grammar.
     Check(InputPath<'a>),
+    /// The check of a grammar, with a list of all its faults.
+    CheckAll(CheckWords<'a>),
     /// The passes of a grammar.
     Plan(InputPath<'a>),
     /// Why the passes of a grammar are needed, or why no earlier pass can compute an attribute.
@@ -120,6 +128,15 @@ pub struct EvalPaths<'a> {
     pub output: Option<&'a str>,
     /// The folder for the tree files that are written, or `None` if they are kept in memory.
     pub work: Option<&'a str>,
+}
+
+/// The words that `check --all` takes.
+#[derive(Clone, Copy)]
+pub struct CheckWords<'a> {
+    /// The grammar.
+    pub grammar: InputPath<'a>,
+    /// The greatest number of faults that are listed, from 1 to 10,000.
+    pub most: usize,
 }
 
 /// The words that `why` takes.
@@ -228,6 +245,7 @@ fn request_of<'a>(
         "run" => run_request(alloc, matches),
         "eval" => eval_request(alloc, matches),
         "value" => Ok(Request::Value(value_of(matches, EXPRESSION))),
+        "check" => check_request(alloc, matches),
         "parse" => parse_request(alloc, matches),
         "show" => show_request(alloc, matches),
         "explain" => explain_request(alloc, matches),
@@ -240,7 +258,6 @@ fn request_of<'a>(
 fn grammar_request<'a>(name: &str, matches: &ArgMatches<'a>) -> Request<'a> {
     let grammar = input_of(matches, GRAMMAR);
     match name {
-        "check" => Request::Check(grammar),
         "plan" => Request::Plan(grammar),
         "why" => Request::Why(WhyWords {
             grammar,
@@ -249,6 +266,26 @@ fn grammar_request<'a>(name: &str, matches: &ArgMatches<'a>) -> Request<'a> {
         "code" => Request::Code(grammar),
         // clap accepts no other command
         _ => Request::Job,
+    }
+}
+
+/// Returns the request that `check` makes. Fails with the error that clap prints if the value of
+/// `--most` is not a number from 1 to `MAX_LISTED`.
+fn check_request<'a>(alloc: Global, matches: &ArgMatches<'a>) -> Result<Request<'a>, Error> {
+    let grammar = input_of(matches, GRAMMAR);
+    if !matches.get_flag(ALL) {
+        return Ok(Request::Check(grammar));
+    }
+    match number_of(matches, MOST, DEFAULT_LISTED) {
+        Some(most @ 1..=MAX_LISTED) => Ok(Request::CheckAll(CheckWords {
+            grammar,
+            most: most as usize,
+        })),
+        _ => Err(misuse_of(
+            alloc,
+            "check",
+            "'--most <N>' needs a number from 1 to 10000",
+        )),
     }
 }
 

@@ -4,7 +4,7 @@ use crate::commands::{GRAMMAR, TREE, misuse_of};
 use crate::input::InputPath;
 use crate::misuse::{check_once, check_tree};
 use crate::tree_options::{AT, ATTRIBUTES, DEPTH, ERRORS, JSON, NODE, OF_SENTENCE, ONLY, WIDTH};
-use crate::values::{input_of, value_of, values_of};
+use crate::values::{input_of, number_of, value_of, values_of};
 use clap::{ArgMatches, Error};
 use std::alloc::Global;
 
@@ -122,15 +122,6 @@ fn width_of(alloc: Global, matches: &ArgMatches<'_>, name: &str) -> Result<u32, 
     match number_of(matches, WIDTH, DEFAULT_WIDTH) {
         Some(width) => Ok(width),
         None => Err(misuse_of(alloc, name, "'--width <N>' needs a number")),
-    }
-}
-
-/// Returns the number that is the value of an option, or `other` if the option is not there.
-/// Returns `None` if the value is not a number below 2^32.
-fn number_of(matches: &ArgMatches<'_>, name: &str, other: u32) -> Option<u32> {
-    match matches.get_str(name) {
-        Some(word) => word.parse::<u32>().ok(),
-        None => Some(other),
     }
 }
 

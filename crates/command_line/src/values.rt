@@ -24,3 +24,12 @@ pub fn values_of<'a>(
 ) -> Result<Vec<&'a str>, AllocError> {
     Vec::from_slice(alloc, matches.get_strs(name).unwrap_or(&[]))
 }
+
+/// Returns the number that is the value of an option, or `other` if the option is not there.
+/// Returns `None` if the value is not a number below 2^32.
+pub fn number_of(matches: &ArgMatches<'_>, name: &str, other: u32) -> Option<u32> {
+    match matches.get_str(name) {
+        Some(word) => word.parse::<u32>().ok(),
+        None => Some(other),
+    }
+}
