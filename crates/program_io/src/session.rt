@@ -200,6 +200,15 @@ impl<R: Eprint> Session<'_, R> {
             }
         }
     }
+
+    /// Gives a line about a refusal that is not the line of a report to the screen
+    /// (`Screen::print_line`).
+    pub fn report_line(&mut self, line: &str)
+        ensures { self.new ≡ after (report_event true line.now) self.old }
+    {
+        self.noted.note(&[REPORTED, 1], &[], line.as_bytes());
+        self.screen.print_line(self.rt, line);
+    }
 }
 
 impl<R: Files> Session<'_, R> {

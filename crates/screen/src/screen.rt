@@ -95,6 +95,14 @@ impl Screen {
             None => rt.eprintln(report),
         };
     }
+
+    /// Prints a line about a refusal on standard error, unless messages are quiet. A failure to
+    /// print is ignored.
+    pub fn print_line<R: Eprint>(self, rt: &R, line: &str) {
+        if !self.is_quiet {
+            let _ = rt.eprintln(&line);
+        }
+    }
 }
 
 /// Returns whether the environment allows colours: `NO_COLOR` is missing or empty, or can't be
