@@ -1,1 +1,2 @@
+pub mod FaultLists
 pub mod Listings

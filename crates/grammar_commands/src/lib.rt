@@ -2,8 +2,10 @@
 //! `why`. Also `value`, which evaluates an expression.
 #![tactic(auto)]
 
+mod faults;
 mod listings;
 mod why;
 
+pub use faults::check_all;
 pub use listings::{Part, print_part, print_value};
 pub use why::explain_plan;

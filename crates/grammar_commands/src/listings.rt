@@ -46,7 +46,7 @@ pub fn print_part<R: Files + Input + Print>(
 
 /// Returns the lines that `part` selects about the grammar in a text. Fails if the grammar or memory
 /// is refused.
-fn text_of_part(alloc: Global, text: &[u8], part: Part) -> Result<Vec<u8>, Fault>
+pub(crate) fn text_of_part(alloc: Global, text: &[u8], part: Part) -> Result<Vec<u8>, Fault>
     ensures lines { IfOk result (λ lines. IsPartOf part text.now lines.items) }
     ensures refused { IfErr result (λ e. IsPartFault part text.now e) }
 {
