@@ -5,6 +5,7 @@ use Rattle.ag_fault.specs.Status.{status_of}
 use Rattle.ag_fault.specs.declared.fault.Fault.{Fault}
 use Rattle.command_line.specs.declared.request.Request.{Request}
 use Rattle.command_line.specs.declared.request.Request.TheVariants as request
+use Rattle.grammar_commands.specs.FaultLists.{ChecksAll}
 use Rattle.grammar_commands.specs.Listings.{IsRefusedPart, IsRefusedValue, PrintsPart, PrintsValue}
 use Rattle.grammar_commands.specs.declared.listings.Part.TheVariants as part
 use Rattle.messages.specs.declared.report.FaultReport.{FaultReport}
@@ -25,6 +26,7 @@ Performs (request.Eval p) old new status =
     EvaluatesFile p.grammar p.tree (path_of p.output) (path_of p.work) old new × (status ≡ 0)
 Performs (request.Value text) old new status = PrintsValue text.now old.events new.events × (status ≡ 0)
 Performs (request.Check grammar) old new status = PrintsPart part.Counts grammar old.events new.events × (status ≡ 0)
+Performs (request.CheckAll words) old new status = ChecksAll words old new status
 Performs (request.Plan grammar) old new status = PrintsPart part.Plan grammar old.events new.events × (status ≡ 0)
 Performs (request.Code grammar) old new status = PrintsPart part.Code grammar old.events new.events × (status ≡ 0)
 Performs (request.Parse p) old new status = ParsesFile p old new × (status ≡ 0)
@@ -44,6 +46,8 @@ IsRefusedRequest (request.Eval p) old new e =
     IsRefusedEvaluation p.grammar p.tree (path_of p.output) (path_of p.work) old new e
 IsRefusedRequest (request.Value text) old new e = IsRefusedValue text.now old.events new.events e
 IsRefusedRequest (request.Check grammar) old new e = IsRefusedPart part.Counts grammar old.events new.events e
+IsRefusedRequest (request.CheckAll words) old new e =
+    IsRefusedPart part.Counts words.grammar old.events new.events e
 IsRefusedRequest (request.Plan grammar) old new e = IsRefusedPart part.Plan grammar old.events new.events e
 IsRefusedRequest (request.Code grammar) old new e = IsRefusedPart part.Code grammar old.events new.events e
 IsRefusedRequest (request.Parse p) old new e = IsRefusedParse p old new e

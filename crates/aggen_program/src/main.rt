@@ -4,7 +4,8 @@
 //!   translation.
 //! - `eval G TREE` translates the tree in a tree file.
 //! - Without arguments the program translates the job on standard input.
-//! - `check G` checks a grammar, and prints its numbers of symbols and productions.
+//! - `check G` checks a grammar, and prints its numbers of symbols and productions. `check --all G`
+//!   lists all faults of its names and rules.
 //! - `plan G` prints the passes of a grammar, and `code G` prints their instructions.
 //! - `why G` prints why the passes are needed, and `why G SYMBOL.attribute` prints why no earlier
 //!   pass can compute the attribute.
@@ -26,7 +27,7 @@ ghost use Rattle.program_io.specs.Sessions.{HasReported};
 
 use aggen::{Fault, fault_or, status};
 use command_line::{CommandLine, CommandLineFault, Request};
-use grammar_commands::{Part, explain_plan, print_part, print_value};
+use grammar_commands::{Part, check_all, explain_plan, print_part, print_value};
 use messages::FaultReport;
 use program_io::Session;
 use screen::Screen;
@@ -112,9 +113,9 @@ fn fault_of(fault: CommandLineFault) -> Fault
     }
 }
 
-/// Runs the command of a request. Returns the status 0, except for `run` with `--out-dir`: if
-/// sentences failed, this prints their messages, and returns the status of the first that failed.
-/// On any other failure returns the report of the failure.
+/// Runs the command of a request. Returns the status 0, with two exceptions. `run` with `--out-dir`
+/// prints the messages of sentences that failed, and `check --all` those of a grammar's faults: the
+/// status is then that of the first. On any other failure returns the report of the failure.
 fn perform<R: Files + Input + Print + Eprint + Clock>(
     session: &mut Session<'_, R>,
     request: &Request<'_>,
@@ -132,6 +133,7 @@ fn perform<R: Files + Input + Print + Eprint + Clock>(
         Request::Eval(paths) => done(evaluate(session, paths)),
         Request::Value(text) => done(print_value(session, text)),
         Request::Check(grammar) => done(print_part(session, *grammar, Part::Counts)),
+        Request::CheckAll(words) => check_all(session, *words),
         Request::Plan(grammar) => done(print_part(session, *grammar, Part::Plan)),
         Request::Why(words) => done(explain_plan(session, *words)),
         Request::Code(grammar) => done(print_part(session, *grammar, Part::Code)),
