@@ -23,6 +23,7 @@ _aggen() {
                 eval--work) value='folder' ;;
                 value--color) value='words auto always never' ;;
                 check--color) value='words auto always never' ;;
+                check--most) value='none' ;;
                 plan--color) value='words auto always never' ;;
                 why--color) value='words auto always never' ;;
                 code--color) value='words auto always never' ;;
@@ -54,7 +55,7 @@ _aggen() {
             'run') kind='words --color -o --output --out-dir -q --quiet --work -h --help' ;;
             'eval') kind='words --color -o --output -q --quiet --work -h --help' ;;
             'value') kind='words --color -q --quiet -h --help' ;;
-            'check') kind='words --color -q --quiet -h --help' ;;
+            'check') kind='words --all --color --most -q --quiet -h --help' ;;
             'plan') kind='words --color -q --quiet -h --help' ;;
             'why') kind='words --color -q --quiet -h --help' ;;
             'code') kind='words --color -q --quiet -h --help' ;;
