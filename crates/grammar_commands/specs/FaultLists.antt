@@ -1,7 +1,7 @@
 -- `check --all`: all faults N1 to N10 of a grammar. A fault has one line, but consecutive faults N6 of one production have one line
 -- together. `old` and `new` are what contracts see of the run before and after. All of this is this project's.
 use Rattle.std.specs.Prelude.{◌≡◌, ℕ, ◌<◌, ◌≤◌, ◌⊎◌, ◌==◌, Bool, true, false, cond, List, [], ◌∷◌, ◌++◌, Option, Some, None}
-use Rattle.std.specs.Prelude.{codes, decimal, length, take}
+use Rattle.std.specs.Prelude.{codes, decimal, length, slice_get, take}
 use Rattle.ag_fault.specs.Status.{status_of}
 use Rattle.ag_fault.specs.declared.fault.Fault.{Fault}
 use Rattle.ag_fault.specs.declared.fault.Fault.TheVariants as fault
@@ -42,6 +42,15 @@ pub record AreLinesOf (text : List ℕ) (lines : List Fault) : Type 0 where
   pub are : AreFaults raw faults
   pub is : lines ≡ lines_after None faults
 
+-- the text does not read as a grammar with a fault N1 to N10
+abbrev pub HasNoneListed : (text : List ℕ) → Type 0
+HasNoneListed text = (raw : RawGrammar) → ReadsAsGrammar text raw → AreFaults raw []
+
+-- the fault is none of N1 to N10
+abbrev pub IsNotNormal : Fault → Type 0
+IsNotNormal (fault.Normal f) = ⊥
+IsNotNormal _ = Unit {0}
+
 -- the screen got the line of a report of each of these faults, one after the other
 abbrev pub AreReported : List Fault → (old new : State) → Type 0
 AreReported [] old new = new ≡ old
@@ -65,10 +74,11 @@ AreListed most lines old new =
 -- A grammar with faults was read, and its faults listed, at most `most` lines. The exit status is that of the first fault.
 pub record ListsFaults (from : InputPath) (most : ℕ) (old new : State) (status : ℕ) : Type 0 where
   pub text : List ℕ
+  pub lines : List Fault
   pub first : Fault
-  pub rest : List Fault
-  pub are : AreLinesOf text (first ∷ rest)
-  pub listed : AreListed most (first ∷ rest) (after (read_event from text) old) new
+  pub are : AreLinesOf text lines
+  pub is_first : slice_get lines 0 ≡ Some first
+  pub listed : AreListed most lines (after (read_event from text) old) new
   pub is : status ≡ status_of first
 
 -- `check --all`: the line of an accepted grammar was printed, or the faults of another one were listed.

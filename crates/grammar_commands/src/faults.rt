@@ -1,16 +1,16 @@
 //! The command `check --all`, which lists all faults N1 to N10 of a grammar.
 
-ghost use Rattle.std.specs.Prelude.{◌≡◌, ◌<◌, ◌≤◌, ◌⊎◌, [], IfErr, IfOk, None, OnOk, length, string_bytes, take, true};
+ghost use Rattle.std.specs.Prelude.{◌≡◌, ◌≢◌, ◌<◌, ◌≤◌, ◌⊎◌, [], IfErr, IfOk, None, OnOk, length, string_bytes, false, take, true};
 ghost use Rattle.std.specs.Process.{exit_status};
 ghost use Rattle.grammar_commands.specs.FaultLists.{AreLinesOf, AreListed, AreReported, ChecksAll};
-ghost use Rattle.grammar_commands.specs.FaultLists.{is_joined, lacking, lines_after, total_line};
-ghost use Rattle.grammar_commands.specs.Listings.{IsRefusedPart};
+ghost use Rattle.grammar_commands.specs.FaultLists.{HasNoneListed, IsNotNormal, is_joined, lacking, lines_after, total_line};
+ghost use Rattle.grammar_commands.specs.Listings.{IsPartFault, IsPartOf, IsRefusedPart};
 ghost use Rattle.program_io.specs.Sessions.{after};
 ghost use Rattle.run_record.specs.Events.{report_event};
 
 use crate::listings::{Part, text_of_part};
 use ag_grammar::Named;
-use ag_text::read_grammar;
+use ag_text::{TextFault, read_grammar};
 use ag_value::{NoMemory, Text};
 use aggen::{Fault, status};
 use command_line::CheckWords;
@@ -36,6 +36,8 @@ pub fn check_all<R: Files + Input + Print + Eprint>(
         ChecksAll words.entry session.old session.new (exit_status code)) }
     ensures refused { IfErr result (λ report. IsRefusedPart Part.Counts words.entry.grammar
         session.old.events session.new.events report.fault) }
+    // N1 to N10 are listed, and no reason to fail
+    ensures other { IfErr result (λ report. IsNotNormal report.fault) }
 {
     let bytes = session.read(words.grammar)?;
     let source = Source::new(words.grammar.name(), bytes.as_slice());
@@ -47,7 +49,7 @@ pub fn check_all<R: Files + Input + Print + Eprint>(
         list_faults(session, source, lines, words.most)?;
         return Ok(ExitCode::from(code));
     }
-    match text_of_part(session.alloc, source.bytes, Part::Counts) {
+    match counts_of(session.alloc, source.bytes) {
         Ok(text) => {
             session.write(None, text.as_slice())?;
             Ok(ExitCode::from(0))
@@ -56,18 +58,42 @@ pub fn check_all<R: Files + Input + Print + Eprint>(
     }
 }
 
+/// Returns the line with the numbers of symbols and productions of the grammar in a text. Fails as
+/// `text_of_part` does.
+fn counts_of(alloc: Global, text: &[u8]) -> Result<Vec<u8>, Fault>
+    requires none { HasNoneListed text.now }
+    ensures lines { IfOk result (λ lines. IsPartOf Part.Counts text.now lines.items) }
+    ensures refused { IfErr result (λ e. IsPartFault Part.Counts text.now e) }
+    ensures other { IfErr result (λ e. IsNotNormal e) }
+{
+    text_of_part(alloc, text, Part::Counts)
+}
+
 /// Returns the first fault of each line about the faults of a grammar's text. Returns none if the
 /// grammar has no fault N1 to N10, or if the text does not read as a grammar.
 fn lines_of_text(alloc: Global, text: &[u8]) -> Result<Vec<Fault>, NoMemory>
-    ensures { IfOk result (λ lines. (lines.items ≡ []) ⊎ AreLinesOf text.now lines.items) }
+    ensures some { IfOk result (λ lines. (lines.items ≡ []) ⊎ AreLinesOf text.now lines.items) }
+    ensures none { IfOk result (λ lines. lines.items ≡ [] → HasNoneListed text.now) }
 {
     match read_grammar(alloc, text) {
         Ok(raw) => {
             let faults = faults_of(alloc, &raw)?;
             lines_of(alloc, faults.as_slice())
         }
-        Err(_) => Ok(Vec::new(alloc)),
+        Err(fault) => {
+            if is_memory_refused(&fault) {
+                return Err(NoMemory::NoMemory);
+            }
+            Ok(Vec::new(alloc))
+        }
     }
+}
+
+/// Returns whether a fault of reading a text is refused memory.
+fn is_memory_refused(fault: &TextFault) -> bool
+    ensures { result ≡ false → fault.now ≢ TextFault.NoMemory }
+{
+    matches!(fault, TextFault::NoMemory)
 }
 
 /// Returns the first fault of each line about some faults.
