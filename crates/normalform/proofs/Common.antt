@@ -44,19 +44,26 @@ pub use Rattle.normalform.specs.declared.fault.NormalFault.{NormalFault}
 pub use Rattle.normalform.specs.declared.fault.NormalFault.TheVariants as fault
 pub use Rattle.normalform.specs.faults.Clauses.{body_of, clause_of, clauses_of, edge, edges_of, reach_edges}
 pub use Rattle.normalform.specs.faults.Faults.{AreAll, AreListedIn, Check, HasNoFault, IsFirstFault, IsFirstNot, IsListed}
+pub use Rattle.normalform.specs.declared.faults.reference_checks.RuleCheck.TheVariants as rule_check
+pub use Rattle.normalform.specs.declared.faults.resolved.PlacedItem.{PlacedItem}
+pub use Rattle.normalform.specs.declared.faults.resolved.PlacedItem.TheVariants as placed_item
+pub use Rattle.normalform.specs.declared.faults.resolved.Reference.{Reference}
+pub use Rattle.normalform.specs.declared.faults.resolved.ResolvedProduction.{ResolvedProduction}
+pub use Rattle.normalform.specs.declared.faults.resolved.Role.{Role}
+pub use Rattle.normalform.specs.declared.faults.resolved.Role.TheVariants as role
 pub use Rattle.normalform.specs.faults.Faults.{IsReadable, IsReadableItem, IsSmall, IsTrueOf, checks_along, defined_at}
-pub use Rattle.normalform.specs.faults.Faults.{defined_check, doubled_checks, doubled_in, doubled_names, doubled_rules}
-pub use Rattle.normalform.specs.faults.Faults.{few_attributes, few_children, few_items, first_wrong, has_kind, in_names}
-pub use Rattle.normalform.specs.faults.Faults.{in_productive, in_reached, in_rules, is_kind, is_short, is_start, item_checks}
-pub use Rattle.normalform.specs.faults.Faults.{limit_checks, missing_at, missing_check, missing_checks, missing_in, name_check}
-pub use Rattle.normalform.specs.faults.Faults.{naming_checks, new_check, new_target, next_index, not_defined_here, not_defined_in}
-pub use Rattle.normalform.specs.faults.Faults.{not_normal, not_normal_in, numbers_defined, occurrence_check, rule_checks}
-pub use Rattle.normalform.specs.faults.Faults.{exists, is_hidden, later_kinds, literal_limits, production_limits, symbol_limits}
-pub use Rattle.normalform.specs.faults.Faults.{rule_kinds, same_target, start_checks, symbol_checks, targets_of, unknown_checks}
-pub use Rattle.normalform.specs.faults.Faults.{unknown_in, used_check, with_name, with_rule, with_symbol, with_target}
-pub use Rattle.normalform.specs.faults.PlacedItem.{item_placed}
+pub use Rattle.normalform.specs.faults.Faults.{doubled_checks, doubled_in, doubled_names, doubled_rules, few_attributes}
+pub use Rattle.normalform.specs.faults.Faults.{few_children, few_items, first_wrong, holds, in_names, in_productive, in_reached}
+pub use Rattle.normalform.specs.faults.Faults.{in_rules, is_defined, is_short, is_start, is_there, is_unknown, is_used}
+pub use Rattle.normalform.specs.faults.Faults.{later_kinds, limit_checks, literal_limits, missing_at, missing_check}
+pub use Rattle.normalform.specs.faults.Faults.{missing_checks, missing_in, naming_checks, new_check, new_target, next_index}
+pub use Rattle.normalform.specs.faults.Faults.{numbers_defined, place_checks, production_limits, reference_check}
+pub use Rattle.normalform.specs.faults.Faults.{reference_checks, rule_kinds, same_target, start_checks, symbol_checks}
+pub use Rattle.normalform.specs.faults.Faults.{symbol_limits, targets_of, unknown_checks, unknown_in, with_name, with_reference}
+pub use Rattle.normalform.specs.faults.Faults.{with_symbol, with_target}
 pub use Rattle.normalform.specs.faults.Readable.{is_separator, readable_in, readable_item}
-pub use Rattle.normalform.specs.faults.ReferenceChecks.{check_of_occurrence, checks_of_production, checks_of_rule}
+pub use Rattle.normalform.specs.faults.Resolved.{item_placed, item_role, kind_at, place_of, places_of, reference_of}
+pub use Rattle.normalform.specs.faults.Resolved.{references_of, resolved_production, resolved_productions, role_of, symbol_role}
 pub use Rattle.normalform.specs.numbers.Numbers.{classes_of, declared, declared_names, is_class, item_of, literals_of, names_at}
 pub use Rattle.normalform.specs.numbers.Numbers.{number_in, numbered, placed, production_of, rule_of, stored_of, symbol_of}
 pub use Rattle.normalform.specs.numbers.Numbers.{target_of, with_item, with_production, with_text}

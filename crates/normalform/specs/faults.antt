@@ -3,6 +3,5 @@ pub mod AllFaults
 pub mod Clauses
 pub mod FaultList
 pub mod Faults
-pub mod PlacedItem
 pub mod Readable
-pub mod ReferenceChecks
+pub mod Resolved

@@ -1,15 +1,16 @@
 //! Checking a raw grammar: the result is the numbered grammar, or the first fault, or the list of
 //! all faults.
-ghost use Rattle.std.specs.Prelude.{◌≡◌, ◌≢◌, [], map, All, Some, IfOk, IfErr, OnOk};
+ghost use Rattle.std.specs.Prelude.{◌≡◌, ◌≢◌, [], cond, map, All, Some, IfOk, IfErr, OnOk};
 ghost use Rattle.ag_grammar.specs.grammars.Accepted.{IsAccepted};
 ghost use Rattle.ag_grammar.specs.grammars.Order.{IsInOrder};
 ghost use Rattle.normalform.specs.faults.AllFaults.{AreMarked, IsSearched, AreFaults, IsHead};
-ghost use Rattle.normalform.specs.faults.AllFaults.{checks_of_rules, if_none};
+ghost use Rattle.normalform.specs.faults.AllFaults.{checks_of_rules};
 ghost use Rattle.normalform.specs.faults.FaultList.{wrong, after_checks, is_empty, SaysIfNone};
 ghost use Rattle.normalform.specs.faults.Faults.{naming_checks, doubled_checks, missing_checks};
 ghost use Rattle.normalform.specs.faults.Faults.{later_kinds};
 ghost use Rattle.normalform.specs.faults.Faults.{IsReadable, HasNoFault, IsTrueOf};
 ghost use Rattle.normalform.specs.faults.Faults.{IsSmall, AreListedIn};
+ghost use Rattle.normalform.specs.faults.Resolved.{resolved_productions};
 ghost use Rattle.normalform.specs.numbers.Numbers.{symbol_of, declared_names, number_in, production_of};
 ghost use Rattle.normalform.specs.numbers.Numbers.{numbered};
 
@@ -18,7 +19,10 @@ use crate::faults::clause::{clauses_of, reach_edges};
 use crate::faults::fault_list::FaultList;
 use crate::faults::limits::push_limits;
 use crate::faults::naming::{push_doubled, push_unknown};
-use crate::faults::rules::{push_doubled_rules, push_missing, push_not_defined, push_not_normal};
+use crate::faults::reference_checks::{RuleCheck, push_in_productions};
+use crate::faults::resolved::ResolvedProduction;
+use crate::faults::resolving::productions_of;
+use crate::faults::rules::{push_doubled_rules, push_missing};
 use crate::faults::structure::{
     SymbolCheck, productive_marks, push_bad_start, push_unmarked, reached_marks,
 };
@@ -53,13 +57,15 @@ fn push_naming(
     faults: &mut FaultList,
     raw: &RawGrammar,
     declared: &Declared<'_>,
+    productions: &[ResolvedProduction],
 ) -> Result<bool, NoMemory>
-    requires { declared.now ≡ map symbol_of raw.now.symbols }
+    requires declared { declared.now ≡ map symbol_of raw.now.symbols }
+    requires productions { productions.now ≡ resolved_productions raw.now }
     ensures faults { OnOk result (faults.new ≡ after_checks faults.old (naming_checks raw.now)) }
     ensures distinct { IfOk result (λ distinct.
         SaysIfNone faults.new (doubled_checks raw.now.symbols) distinct) }
 {
-    push_unknown(alloc, faults, declared, raw.productions.as_slice())?;
+    push_unknown(faults, declared, productions)?;
     let distinct = push_doubled_noting(alloc, faults, raw.symbols.as_slice())?;
     push_bad_start(faults, declared, &raw.start)?;
     Ok(distinct)
@@ -116,23 +122,20 @@ fn push_structure(
     push_marked(alloc, faults, raw, declared)
 }
 
-/// Appends the faults N6, if the grammar has no N2 (`distinct`).
+/// Appends the faults N6, if `distinct`.
 #[tactic(auto, using(crate::proofs::Listing::after_none))]
 fn push_missing_if(
     alloc: Global,
     faults: &mut FaultList,
-    raw: &RawGrammar,
     declared: &Declared<'_>,
+    productions: &[ResolvedProduction],
     distinct: bool,
 ) -> Result<(), NoMemory>
-    requires declared { declared.now ≡ map symbol_of raw.now.symbols }
-    requires distinct { distinct ≡ is_empty (wrong (doubled_checks raw.now.symbols)) }
     ensures { OnOk result (faults.new ≡ after_checks faults.old
-        (if_none (wrong (doubled_checks raw.now.symbols))
-        (missing_checks (map symbol_of raw.now.symbols) raw.now.productions))) }
+        (cond distinct (missing_checks declared.now productions.now) [])) }
 {
     if distinct {
-        push_missing(alloc, faults, declared, raw.productions.as_slice())?;
+        push_missing(alloc, faults, declared, productions)?;
     }
     Ok(())
 }
@@ -142,15 +145,13 @@ fn push_missing_if(
 fn push_later_kinds(
     alloc: Global,
     faults: &mut FaultList,
-    declared: &Declared<'_>,
-    productions: &[RawProduction],
+    productions: &[ResolvedProduction],
 ) -> Result<(), NoMemory>
-    ensures { OnOk result (faults.new ≡ after_checks faults.old
-        (later_kinds declared.now productions.now)) }
+    ensures { OnOk result (faults.new ≡ after_checks faults.old (later_kinds productions.now)) }
 {
-    push_doubled_rules(alloc, faults, declared, productions)?;
-    push_not_defined(alloc, faults, declared, productions)?;
-    push_not_normal(alloc, faults, declared, productions)?;
+    push_doubled_rules(alloc, faults, productions)?;
+    push_in_productions(RuleCheck::Defined, faults, productions)?;
+    push_in_productions(RuleCheck::Used, faults, productions)?;
     Ok(())
 }
 
@@ -161,17 +162,17 @@ fn push_further(
     faults: &mut FaultList,
     raw: &RawGrammar,
     declared: &Declared<'_>,
+    productions: &[ResolvedProduction],
     distinct: bool,
 ) -> Result<(), NoMemory>
     requires declared { declared.now ≡ map symbol_of raw.now.symbols }
+    requires productions { productions.now ≡ resolved_productions raw.now }
     requires distinct { distinct ≡ is_empty (wrong (doubled_checks raw.now.symbols)) }
     ensures { OnOk result (faults.new ≡ after_checks faults.old (checks_of_rules raw.now)) }
 {
-    let symbols = raw.symbols.as_slice();
-    let productions = raw.productions.as_slice();
-    push_missing_if(alloc, faults, raw, declared, distinct)?;
-    push_later_kinds(alloc, faults, declared, productions)?;
-    push_limits(alloc, faults, declared, symbols, productions)?;
+    push_missing_if(alloc, faults, declared, productions, distinct)?;
+    push_later_kinds(alloc, faults, productions)?;
+    push_limits(alloc, faults, raw, productions)?;
     Ok(())
 }
 
@@ -181,17 +182,19 @@ fn push_all(
     faults: &mut FaultList,
     raw: &RawGrammar,
     declared: &Declared<'_>,
+    productions: &[ResolvedProduction],
 ) -> Result<(), NoMemory>
     requires declared { declared.now ≡ map symbol_of raw.now.symbols }
+    requires productions { productions.now ≡ resolved_productions raw.now }
     requires empty { faults.now.items ≡ [] }
     ensures { OnOk result (IsSearched raw.now faults.old.only_first faults.new) }
 {
-    let distinct = push_naming(alloc, faults, raw, declared)?;
+    let distinct = push_naming(alloc, faults, raw, declared, productions)?;
     if faults.is_full() {
         return Ok(());
     }
     push_structure(alloc, faults, raw, declared)?;
-    push_further(alloc, faults, raw, declared, distinct)?;
+    push_further(alloc, faults, raw, declared, productions, distinct)?;
     Ok(())
 }
 
@@ -201,8 +204,9 @@ fn found_faults(alloc: Global, raw: &RawGrammar, only_first: bool) -> Result<Fau
     ensures { IfOk result (λ faults. IsSearched raw.now only_first faults) }
 {
     let declared = Declared::new(alloc, raw.symbols.as_slice())?;
+    let productions = productions_of(alloc, &declared, raw.productions.as_slice())?;
     let mut faults = FaultList::new(alloc, only_first);
-    push_all(alloc, &mut faults, raw, &declared)?;
+    push_all(alloc, &mut faults, raw, &declared, productions.as_slice())?;
     Ok(faults)
 }
 

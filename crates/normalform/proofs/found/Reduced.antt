@@ -2,15 +2,16 @@
 -- edges are reached.
 use Rattle.normalform.proofs.Common
 use Common.{arith, Bool, true, false, cond, is_some, nat_lt, bytes_eq, Option, ℕ, zero, suc, ◌≡◌, ◌<◌, ◌⊎◌, inl, inr, List, []}
-use Common.{◌∷◌, ◌++◌, length, map, flat_map, All, Some, None, slice_get, refl, ap, sym, subst, ltb-true, lt-ltb, length-map}
+use Common.{◌∷◌, ◌++◌, length, map, flat_map, All, Some, None, slice_get, refl, ap, sym, subst, ◌∙◌, ltb-true, lt-ltb}
 use Common.{slice_get_within, list_any, All-nil, All-cons, Has, Item, Production, Symbol, Grammar, RawGrammar, RawItem}
 use Common.{RawProduction, IsClauseBelow, clause_of_edge, IsEdgeBelow, Follows, seed, at_mapped, mapped_at, body_of, clause_of}
 use Common.{clauses_of, edge, edges_of, reach_edges, number_in, symbol_of, declared_names, item_of, literals_of, placed}
-use Common.{production_of, numbered, Named, first_wrong, name_check, item_checks, rule_checks, unknown_in, unknown_checks}
-use Common.{is_start, start_checks}
+use Common.{production_of, numbered, Named, Check, first_wrong, unknown_in, unknown_checks, place_checks, reference_check}
+use Common.{ResolvedProduction, place_of, places_of, resolved_production, is_start, start_checks}
 use Common.item
 use Common.raw_item
 use Common.fault
+use Common.rule_check
 use Rattle.std.proofs.lemmas.List.Elements.{All-append, All-head, All-tail, All-map, All-contains}
 use Rattle.std.proofs.lemmas.List.Elements.{Contains-get_or}
 use Rattle.ag_grammar.specs.grammars.Accepted.{IsProductive, AreProductive, by_production, nothing as no_item, a_symbol}
@@ -21,7 +22,7 @@ use Rattle.closure.proofs.Positions.{element_at, position_of_element}
 use Rattle.closure.proofs.Reached.{reached_in, step}
 use Rattle.closure.proofs.Following.{follows_in, head_follows}
 use Rattle.normalform.proofs.numbered.Texts.{found}
-use Rattle.normalform.proofs.found.Right.{is_right, both_right, has_flat}
+use Rattle.normalform.proofs.found.Right.{is_right, both_right, together, has_flat, flat_flat}
 
 abbrev symbols_of : List Item → List ℕ
 symbols_of [] = []
@@ -64,6 +65,10 @@ produces raw q = production_of (symbols raw) (literals_of raw.productions) q
 -- the items at the places of a production
 abbrev pub places : RawGrammar → RawProduction → List Item
 places raw q = placed (symbols raw) q
+
+-- the resolved form of a production
+abbrev pub resolves : RawGrammar → RawProduction → ResolvedProduction
+resolves raw q = resolved_production (symbols raw) q
 
 -- items are productive if their symbols are
 items_productive : (raw : RawGrammar) (lits : List (List ℕ)) (xs : List RawItem)
@@ -192,37 +197,54 @@ pub below_known : (texts : List (List ℕ)) (text : List ℕ) → number_in text
     → list_any (bytes_eq text) texts ≡ true
 below_known texts text lt = rw (← found (bytes_eq text) texts, lt-ltb _ _ lt)
 
-pub name_known : (ss : List Symbol) (name : Named) → first_wrong (name_check (declared_names ss) name ∷ []) ≡ None
-    → number_in (declared_names ss) name.name < length ss
-name_known ss name h =
-    rw (length-map ss (λ (s : Symbol). s.name)) at
-    (known (declared_names ss) name.name (is_right (name_check (declared_names ss) name) h))
+-- the checks of N1 by the names and items of a raw production
+abbrev pub name_check : List Symbol → Named → Check
+name_check ss name = (fault.UnknownName name.at, nat_lt (number_in (declared_names ss) name.name) (length ss))
 
-body_below : (ss : List Symbol) (xs : List RawItem) → first_wrong (flat_map (item_checks (declared_names ss)) xs) ≡ None
+abbrev pub item_checks : List Symbol → RawItem → List Check
+item_checks ss x = flat_map (place_checks ss) (place_of (declared_names ss) x)
+
+places_checked : (ss : List Symbol) (q : RawProduction)
+    → flat_map (place_checks ss) (places_of ss q) ≡ (name_check ss q.left ∷ []) ++ flat_map (item_checks ss) q.items
+places_checked ss q =
+    ap (λ (cs : List Check). name_check ss q.left ∷ cs) (flat_flat (place_checks ss) (place_of (declared_names ss)) q.items)
+
+pub name_known : (ss : List Symbol) (name : Named) → first_wrong (name_check ss name ∷ []) ≡ None
+    → number_in (declared_names ss) name.name < length ss
+name_known ss name h = ltb-true _ _ (is_right (name_check ss name) h)
+
+body_below : (ss : List Symbol) (xs : List RawItem) → first_wrong (flat_map (item_checks ss) xs) ≡ None
     → All (λ t. t < length ss) (body_of (declared_names ss) xs)
 body_below ss [] h = All-nil (λ t. t < length ss)
 body_below ss (raw_item.Name name ∷ xs) h =
-    let w = both_right (name_check (declared_names ss) name ∷ []) (flat_map (item_checks (declared_names ss)) xs) h in
+    let w = both_right (name_check ss name ∷ []) (flat_map (item_checks ss) xs) h in
     All-cons (λ t. t < length ss) _ (body_of (declared_names ss) xs) (name_known ss name w.0) (body_below ss xs w.1)
 body_below ss (raw_item.Literal text ∷ xs) h = body_below ss xs h
 body_below ss (raw_item.Class c ∷ xs) h = body_below ss xs h
 
--- the parts of a production without an unknown name
-pub unknown_parts : (ss : List Symbol) (q : RawProduction) → first_wrong (unknown_in ss q) ≡ None
-    → (first_wrong (name_check (declared_names ss) q.left ∷ []) ≡ None)
-    × (first_wrong (flat_map (item_checks (declared_names ss)) q.items) ≡ None)
-    × (first_wrong (flat_map (rule_checks ss (placed ss q)) q.rules) ≡ None)
-unknown_parts ss q h =
-    let items = flat_map (item_checks (declared_names ss)) q.items in
-    let rules = flat_map (rule_checks ss (placed ss q)) q.rules in
-    let w = both_right (name_check (declared_names ss) q.left ∷ []) (items ++ rules) h in
-    let v = both_right items rules w.1 in (w.0, v.0, v.1)
+-- the parts of a production without an unknown name, and the converse
+abbrev AreKnown : List Symbol → RawProduction → Type 0
+AreKnown ss q =
+    (first_wrong (name_check ss q.left ∷ []) ≡ None) × (first_wrong (flat_map (item_checks ss) q.items) ≡ None)
+    × (first_wrong (map (reference_check rule_check.Known) (resolved_production ss q).references) ≡ None)
 
-pub clauses_below : (ss : List Symbol) (qs : List RawProduction) → first_wrong (unknown_checks ss qs) ≡ None
-    → All (IsClauseBelow (length ss)) (clauses_of ss qs)
+pub unknown_parts : (ss : List Symbol) (q : RawProduction) → first_wrong (unknown_in ss (resolved_production ss q)) ≡ None
+    → AreKnown ss q
+unknown_parts ss q h =
+    let w = both_right (flat_map (place_checks ss) (places_of ss q)) _ h in
+    let v = both_right (name_check ss q.left ∷ []) (flat_map (item_checks ss) q.items) (sym (ap first_wrong (places_checked ss q)) ∙ w.0) in (v.0, v.1, w.1)
+
+pub parts_unknown : (ss : List Symbol) (q : RawProduction) → AreKnown ss q
+    → first_wrong (unknown_in ss (resolved_production ss q)) ≡ None
+parts_unknown ss q (left, items, rules) =
+    together (flat_map (place_checks ss) (places_of ss q)) _
+    (ap first_wrong (places_checked ss q) ∙ together (name_check ss q.left ∷ []) (flat_map (item_checks ss) q.items) left items) rules
+
+pub clauses_below : (ss : List Symbol) (qs : List RawProduction)
+    → first_wrong (unknown_checks ss (map (resolved_production ss) qs)) ≡ None → All (IsClauseBelow (length ss)) (clauses_of ss qs)
 clauses_below ss [] h = All-nil (IsClauseBelow (length ss))
 clauses_below ss (q ∷ qs) h =
-    let w = both_right (unknown_in ss q) _ h in
+    let w = both_right (unknown_in ss (resolved_production ss q)) _ h in
     let v = unknown_parts ss q w.0 in
     All-cons (IsClauseBelow (length ss)) (clause_of ss q) (clauses_of ss qs)
     (record { head = name_known ss q.left v.0; body = body_below ss q.items v.1 }) (clauses_below ss qs w.1)

@@ -1,7 +1,9 @@
 -- Lists of checks that all hold, and elements of mapped and concatenated lists.
 use Rattle.normalform.proofs.Common
 use Common.{ℕ, zero, suc, ◌≡◌, ◌+◌, true, List, [], ◌∷◌, ◌++◌, map, flat_map, Some, None, Option, slice_get, refl, sym, ◌∙◌}
-use Common.{arith, option_or, Has, NormalFault, Check, first_wrong, checks_along, next_index}
+use Common.{arith, ap, subst, option_or, map-append, Each, Has, NormalFault, Check, first_wrong, checks_along, next_index}
+use Common.{at_mapped, mapped_at}
+use Rattle.std.proofs.lemmas.List.Concat.{flat_map-append}
 
 -- the first failing check of a concatenated list
 pub wrong-append : (xs ys : List Check) → first_wrong (xs ++ ys) ≡ option_or (first_wrong xs) (first_wrong ys)
@@ -54,6 +56,34 @@ pub each_map : {X : Type 0} (f : X → Check) (xs : List X) → ((i : ℕ) (x : 
     → first_wrong (map f xs) ≡ None
 each_map f [] h = refl
 each_map f (y ∷ ys) h = together (f y ∷ []) (map f ys) (right_is (f y) (h zero y refl)) (each_map f ys (λ i. h (suc i)))
+
+-- a property holds of each element of a mapped list if it does of its origin
+pub each_mapped : {X Y : Type 0} (g : X → Y) (P : Y → Type 0) (xs : List X)
+    → ((i : ℕ) (x : X) → slice_get xs i ≡ Some x → P (g x)) → Each P (map g xs)
+each_mapped g P xs h i y e = let w = mapped_at g xs i y e in subst P w.2 (h i w.0 w.1)
+
+pub mapped_each : {X Y : Type 0} (g : X → Y) (P : Y → Type 0) (xs : List X) → Each P (map g xs) → (i : ℕ) (x : X)
+    → slice_get xs i ≡ Some x → P (g x)
+mapped_each g P xs h i x e = h i (g x) (at_mapped g xs i x e)
+
+-- the checks of mapped elements
+pub flat_at : {X Y : Type 0} (f : Y → List Check) (g : X → Y) (xs : List X) → first_wrong (flat_map f (map g xs)) ≡ None → (i : ℕ)
+    (x : X) → slice_get xs i ≡ Some x → first_wrong (f (g x)) ≡ None
+flat_at f g xs h = mapped_each g (λ y. first_wrong (f y) ≡ None) xs (flat_each f (map g xs) h)
+
+pub at_flat : {X Y : Type 0} (f : Y → List Check) (g : X → Y) (xs : List X)
+    → ((i : ℕ) (x : X) → slice_get xs i ≡ Some x → first_wrong (f (g x)) ≡ None) → first_wrong (flat_map f (map g xs)) ≡ None
+at_flat f g xs h = each_flat f (map g xs) (each_mapped g (λ y. first_wrong (f y) ≡ None) xs h)
+
+-- lists made of the elements of lists
+pub map_flat : {X Y Z : Type 0} (f : Y → Z) (g : X → List Y) (xs : List X) → map f (flat_map g xs) ≡ flat_map (λ x. map f (g x)) xs
+map_flat f g [] = refl
+map_flat f g (x ∷ xs) = map-append f (g x) (flat_map g xs) ∙ ap (λ zs. map f (g x) ++ zs) (map_flat f g xs)
+
+pub flat_flat : {X Y Z : Type 0} (f : Y → List Z) (g : X → List Y) (xs : List X)
+    → flat_map f (flat_map g xs) ≡ flat_map (λ x. flat_map f (g x)) xs
+flat_flat f g [] = refl
+flat_flat f g (x ∷ xs) = flat_map-append f (g x) (flat_map g xs) ∙ ap (λ zs. flat_map f (g x) ++ zs) (flat_flat f g xs)
 
 pub along_each : {X : Type 0} (f : ℕ → X → List Check) (n : ℕ) (xs : List X) → first_wrong (checks_along f next_index n xs) ≡ None
     → (i : ℕ) (x : X) → slice_get xs i ≡ Some x → first_wrong (f (n + i) x) ≡ None

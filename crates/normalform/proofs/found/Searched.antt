@@ -4,6 +4,7 @@ use Common.{◌≡◌, ◌∙◌, Bool, true, false, List, [], ◌∷◌, ◌++�
 use Common.{slice_get}
 use Common.{RawGrammar, NormalFault, Check, first_wrong, naming_checks, AreAll, HasNoFault, IsFirstFault, in_names}
 use Common.{in_productive, in_reached, in_rules, numbered, option_or, doubled_checks, missing_checks, later_kinds, limit_checks}
+use Common.{resolved_productions}
 use Rattle.ag_grammar.specs.grammars.Accepted.{IsProductive, IsReached}
 use Rattle.normalform.specs.declared.faults.structure.SymbolCheck.TheVariants as symbol_check
 use Rattle.normalform.specs.faults.Faults.{further_checks}
@@ -41,8 +42,7 @@ some_if [] h e = absurd (cc)
 some_if (f ∷ fs) h e = absurd (cc)
 
 not_made : (fs : List NormalFault) (cs : List Check) → is_empty fs ≡ false → if_none fs cs ≡ []
-not_made [] cs h = absurd (cc)
-not_made (f ∷ fs) cs h = refl
+not_made fs cs h = rw h refl
 
 -- if a name is wrong, no symbol is checked by its mark
 pub unmarked : (raw : RawGrammar) (found : Found) → is_empty (wrong (naming_checks raw)) ≡ false → AreMarked raw found found
@@ -139,10 +139,9 @@ module _ (raw : RawGrammar) (cs : List Check) (checks : AreChecks raw cs) where
       → first_wrong cs ≡ option_or (option_or (first_wrong productive) (first_wrong reached)) (first_wrong further)
   of_others none =
       let ss = symbols raw in
-      let qs = raw.productions in
-      let missing = missing_checks ss qs in
-      let later = later_kinds ss qs in
-      let limits = limit_checks ss qs in
+      let missing = missing_checks ss (resolved_productions raw) in
+      let later = later_kinds (resolved_productions raw) in
+      let limits = limit_checks raw in
       ap first_wrong checks.list
       ∙ ap (λ fs. first_wrong (naming_checks raw ++ (if_none fs (productive ++ reached) ++ checks_of_rules raw))) none
       ∙ ap (λ fs. first_wrong (naming_checks raw ++ ((productive ++ reached) ++ (if_none fs missing ++ (later ++ limits)))))

@@ -1,36 +1,38 @@
 -- A raw grammar has no fault exactly if the numbered one is accepted.
 use Rattle.normalform.proofs.Common
 use Common.{All, ◌↔◌, inr, ℕ, zero, suc, ◌≡◌, ◌+◌, ◌<◌, ◌≤◌, ◌≢◌, Bool, true, List, [], ◌∷◌, ◌++◌, length, map, Some, None}
-use Common.{Option}
-use Common.{slice_get, get_or, refl, ap, arith, subst, and_parts, eqb-true, leb-true, le-leb, length-map, slice_get-get_or}
+use Common.{Option, ap, item_placed, places_of, RawRule}
+use Common.{slice_get, get_or, refl, arith, subst, and_parts, eqb-true, leb-true, le-leb, length-map, slice_get-get_or}
 use Common.{slice_get_within, get_or_from_slice_get, list_any, list_all, Has, Each, Differ, Item, Production, Symbol, Literal}
-use Common.{Class, stored_items, is_below, RawGrammar, RawItem, RawProduction, NormalFault, first_wrong, unknown_in, item_checks}
-use Common.{unknown_checks, is_start, start_checks, missing_in, missing_checks, doubled_in, doubled_rules, not_defined_in}
-use Common.{not_defined_here, not_normal_in, not_normal, few_attributes, few_items, few_children, is_short, limit_checks}
-use Common.{rule_kinds, later_kinds, naming_checks, HasNoFault, IsReadable, IsReadableItem, IsSmall, IsListed, AreListedIn}
-use Common.{IsFirstFault}
-use Common.{in_names, in_productive, in_reached, in_rules, IsTrueOf, number_in, symbol_of, declared_names, item_of, placed}
-use Common.{is_class, classes_of, literals_of, numbered, at_mapped}
+use Common.{Class, stored_items, is_below, RawGrammar, RawItem, RawProduction, NormalFault, Check, first_wrong, unknown_in}
+use Common.{unknown_checks, is_start, start_checks, missing_in, missing_checks, doubled_in, doubled_rules, reference_check}
+use Common.{reference_checks, few_attributes, few_items, few_children, is_short, limit_checks, ResolvedProduction}
+use Common.{resolved_productions, rule_kinds, later_kinds, naming_checks, HasNoFault, IsReadable, IsReadableItem, IsSmall}
+use Common.{IsListed, AreListedIn, IsFirstFault}
+use Common.{in_names, in_productive, in_reached, in_rules, IsTrueOf, number_in, symbol_of, declared_names, item_of}
+use Common.{is_class, classes_of, literals_of, numbered, at_mapped, mapped_at}
 use Common.raw_item
 use Common.fault
+use Common.rule_check
 use Rattle.std.proofs.lemmas.List.Kept.{AllPairs-filter}
 use Rattle.ag_grammar.specs.grammars.Accepted.{IsAccepted, IsNamed, IsNamedItem, IsInUse, IsStart, IsComplete, IsNormal}
 use Rattle.ag_grammar.specs.grammars.Accepted.{IsWithinGrammarLimits, IsSeparator, out_name, max_symbols}
 use Rattle.ag_grammar.specs.grammars.Accepted.{max_productions, max_items, max_children, max_literals}
+use Rattle.normalform.specs.declared.faults.reference_checks.RuleCheck.{RuleCheck}
 use Rattle.normalform.proofs.found.Apart.{Apart}
 use Rattle.normalform.proofs.found.Founds.{naming_parts}
 use Rattle.normalform.proofs.found.Known.{symbols_differ, attributes_differ, differ_doubled, texts_differ, lefts_known}
-use Rattle.normalform.proofs.found.Known.{rules_named, named_known, target_known, arguments_known}
+use Rattle.normalform.proofs.found.Known.{rules_named, named_known, rule_known}
 use Rattle.normalform.proofs.numbered.Listed.{any_has, has_any, literals_apart, literal_occurs, literal_listed, apart_same}
 use Rattle.normalform.proofs.numbered.Listed.{number_at, filter_has, has_filter, class_occurs, occurs_class}
-use Rattle.normalform.proofs.numbered.Placing.{stored_same}
-use Rattle.normalform.proofs.found.Reduced.{symbols, produces, name_known, known, unknown_parts}
-use Rattle.normalform.proofs.found.Right.{all_right, both_right, together, is_right, right_is, flat_each, each_flat, along_each}
-use Rattle.normalform.proofs.found.Right.{each_along}
+use Rattle.normalform.proofs.numbered.Placing.{IsThere, stored_same, places_same}
+use Rattle.normalform.proofs.found.Reduced.{symbols, produces, resolves, item_checks, name_known, known, unknown_parts}
+use Rattle.normalform.proofs.found.Right.{all_right, both_right, together, is_right, right_is, flat_each, along_each, each_along}
+use Rattle.normalform.proofs.found.Right.{flat_at, at_flat, each_mapped, mapped_each}
 use Rattle.normalform.proofs.found.Searched.{none_listed, listed_none, head_first}
 use Rattle.normalform.specs.faults.AllFaults.{AreFaults, IsHead}
 use Rattle.normalform.proofs.found.Ruled.{all_ruled, ruled_all, rules_single, single_rules, targets_given, given_targets}
-use Rattle.normalform.proofs.found.Ruled.{arguments_found, found_arguments, each_mapped, mapped_each}
+use Rattle.normalform.proofs.found.Ruled.{arguments_found, found_arguments}
 use Rattle.normalform.proofs.numbered.Small.{passes_at}
 
 -- the literals
@@ -93,7 +95,7 @@ class_used raw i c e =
 
 -- an item of a production is named
 item_named : (raw : RawGrammar) (p : ℕ) (q : RawProduction) (i : ℕ) (x : RawItem) → slice_get raw.productions p ≡ Some q
-    → slice_get q.items i ≡ Some x → IsReadableItem x → first_wrong (item_checks (declared_names (symbols raw)) x) ≡ None
+    → slice_get q.items i ≡ Some x → IsReadableItem x → first_wrong (item_checks (symbols raw) x) ≡ None
     → IsNamedItem (numbered raw) (item_in raw x)
 item_named raw p q i (raw_item.Name name) e f readable right = name_known (symbols raw) name right
 item_named raw p q i (raw_item.Literal text) e f readable right =
@@ -101,10 +103,10 @@ item_named raw p q i (raw_item.Literal text) e f readable right =
 item_named raw p q i (raw_item.Class c) e f readable right =
     filter_has (uses raw) known_classes c (known_class c readable) (occurs_class raw.productions p q i c e f)
 
-items_named : (raw : RawGrammar) → IsReadable raw → first_wrong (unknown_checks (symbols raw) raw.productions) ≡ None
+items_named : (raw : RawGrammar) → IsReadable raw → first_wrong (unknown_checks (symbols raw) (resolved_productions raw)) ≡ None
     → Each (λ q. Each (IsNamedItem (numbered raw)) q.items) (numbered raw).productions
 items_named raw readable h = each_mapped _ _ _ (λ p q e.
-    let parts = unknown_parts (symbols raw) q (flat_each (unknown_in (symbols raw)) raw.productions h p q e) in
+    let parts = unknown_parts (symbols raw) q (flat_at (unknown_in (symbols raw)) (resolves raw) raw.productions h p q e) in
     each_mapped _ _ _ (λ i x f. item_named raw p q i x e f (readable p q e i x f) (flat_each _ _ parts.1 i x f)))
 
 abbrev AreListed : RawGrammar → Type 0
@@ -152,56 +154,67 @@ start_right raw start =
     right_is (fault.BadStart, is_start (slice_get (symbols raw) (start_number raw)))
     (rw (start.declared, start.plain, has_any start.symbol.syn out_name start.out) refl)
 
+-- the checks of the references of a production
+abbrev checks_in : RuleCheck → ResolvedProduction → List Check
+checks_in x q = map (reference_check x) q.references
+
 -- no check of N6 to N9 fails
 abbrev Rules : RawGrammar → Type 0
 Rules raw =
-    (first_wrong (missing_checks (symbols raw) raw.productions) ≡ None)
-    × (first_wrong (doubled_rules (symbols raw) raw.productions) ≡ None)
-    × (first_wrong (not_defined_here (symbols raw) raw.productions) ≡ None)
-    × (first_wrong (not_normal (symbols raw) raw.productions) ≡ None)
+    (first_wrong (missing_checks (symbols raw) (resolved_productions raw)) ≡ None)
+    × (first_wrong (doubled_rules (resolved_productions raw)) ≡ None)
+    × (first_wrong (reference_checks rule_check.Defined (resolved_productions raw)) ≡ None)
+    × (first_wrong (reference_checks rule_check.Used (resolved_productions raw)) ≡ None)
 
-rule_parts : (raw : RawGrammar) → first_wrong (rule_kinds (symbols raw) raw.productions) ≡ None → Rules raw
+rule_parts : (raw : RawGrammar) → first_wrong (rule_kinds raw) ≡ None → Rules raw
 rule_parts raw h =
-    let ss = symbols raw in
-    let qs = raw.productions in
-    let a = both_right (missing_checks ss qs) (later_kinds ss qs) h in
-    let b = both_right (doubled_rules ss qs ++ not_defined_here ss qs) (not_normal ss qs) a.1 in
-    let c = both_right (doubled_rules ss qs) (not_defined_here ss qs) b.0 in (a.0, c.0, c.1, b.1)
+    let qs = resolved_productions raw in
+    let defined = reference_checks rule_check.Defined qs in
+    let used = reference_checks rule_check.Used qs in
+    let a = both_right (missing_checks (symbols raw) qs) (later_kinds qs) h in
+    let b = both_right (doubled_rules qs ++ defined) used a.1 in
+    let c = both_right (doubled_rules qs) defined b.0 in (a.0, c.0, c.1, b.1)
 
-parts_rule : (raw : RawGrammar) → Rules raw → first_wrong (rule_kinds (symbols raw) raw.productions) ≡ None
+parts_rule : (raw : RawGrammar) → Rules raw → first_wrong (rule_kinds raw) ≡ None
 parts_rule raw (missing, doubled, defined, used) = search (together)
 
-missing_at_index : (raw : RawGrammar) → first_wrong (missing_checks (symbols raw) raw.productions) ≡ None
-    → (p : ℕ) (q : RawProduction) → slice_get raw.productions p ≡ Some q → first_wrong (missing_in (symbols raw) p q) ≡ None
+missing_at_index : (raw : RawGrammar) → first_wrong (missing_checks (symbols raw) (resolved_productions raw)) ≡ None → (p : ℕ)
+    (q : RawProduction) → slice_get raw.productions p ≡ Some q → first_wrong (missing_in (symbols raw) p (resolves raw q)) ≡ None
 missing_at_index raw h p q e = let there : 0 + p ≡ p = omega arith in
-    subst (λ n. first_wrong (missing_in (symbols raw) n q) ≡ None) there
-    (along_each (missing_in (symbols raw)) 0 raw.productions h p q e)
+    subst (λ n. first_wrong (missing_in (symbols raw) n (resolves raw q)) ≡ None) there
+    (along_each (missing_in (symbols raw)) 0 (resolved_productions raw) h p (resolves raw q)
+    (at_mapped (resolves raw) raw.productions p q e))
 
-complete : (raw : RawGrammar) → first_wrong (unknown_checks (symbols raw) raw.productions) ≡ None → Rules raw
+complete : (raw : RawGrammar) → first_wrong (unknown_checks (symbols raw) (resolved_productions raw)) ≡ None → Rules raw
     → Each (IsComplete (numbered raw)) (numbered raw).productions
 complete raw h r = each_mapped _ _ _ (λ p q e.
-    let there = target_known raw q (flat_each (unknown_in (symbols raw)) raw.productions h p q e) in record {
+    let known = rule_known raw q (flat_at (unknown_in (symbols raw)) (resolves raw) raw.productions h p q e) in
+    let there : Each (λ (s : RawRule). IsThere raw q s.target) q.rules = λ i s f. (known i s f).0 in record {
       all = all_ruled raw p q (missing_at_index raw r.0 p q e);
-      single = rules_single raw q there (flat_each (doubled_in (symbols raw)) raw.productions r.1 p q e);
-      no_other = targets_given raw q there (flat_each (not_defined_in (symbols raw)) raw.productions r.2 p q e);
+      single = rules_single raw q there (flat_at doubled_in (resolves raw) raw.productions r.1 p q e);
+      no_other = targets_given raw q there (flat_at (checks_in rule_check.Defined) (resolves raw) raw.productions r.2 p q e);
     })
 
-normal : (raw : RawGrammar) → first_wrong (unknown_checks (symbols raw) raw.productions) ≡ None → Rules raw
+normal : (raw : RawGrammar) → first_wrong (unknown_checks (symbols raw) (resolved_productions raw)) ≡ None → Rules raw
     → Each (IsNormal (numbered raw)) (numbered raw).productions
 normal raw h r = each_mapped _ _ _ (λ p q e.
-    arguments_found raw q (arguments_known raw q (flat_each (unknown_in (symbols raw)) raw.productions h p q e))
-    (flat_each (not_normal_in (symbols raw)) raw.productions r.3 p q e))
+    let known = rule_known raw q (flat_at (unknown_in (symbols raw)) (resolves raw) raw.productions h p q e) in
+    arguments_found raw q (λ i s f. (known i s f).1)
+    (flat_at (checks_in rule_check.Used) (resolves raw) raw.productions r.3 p q e))
 
 rules_of : (raw : RawGrammar) → Each (IsComplete (numbered raw)) (numbered raw).productions
     → Each (IsNormal (numbered raw)) (numbered raw).productions → Rules raw
 rules_of raw complete normal =
-    let ss = symbols raw in
     let whole = mapped_each (produces raw) (IsComplete (numbered raw)) raw.productions complete in
     let each_normal = mapped_each (produces raw) (IsNormal (numbered raw)) raw.productions normal in (
-      each_along (missing_in ss) 0 raw.productions (λ p q e. ruled_all raw (0 + p) q (whole p q e).all),
-      each_flat (doubled_in ss) raw.productions (λ p q e. single_rules raw q (whole p q e).single),
-      each_flat (not_defined_in ss) raw.productions (λ p q e. given_targets raw q (whole p q e).no_other),
-      each_flat (not_normal_in ss) raw.productions (λ p q e. found_arguments raw q (each_normal p q e)),
+      each_along (missing_in (symbols raw)) 0 (resolved_productions raw) (λ p x e.
+          let w = mapped_at (resolves raw) raw.productions p x e in
+          subst (λ (y : ResolvedProduction). first_wrong (missing_in (symbols raw) (0 + p) y) ≡ None) w.2
+          (ruled_all raw (0 + p) w.0 (whole p w.0 w.1).all)),
+      at_flat doubled_in (resolves raw) raw.productions (λ p q e. single_rules raw q (whole p q e).single),
+      at_flat (checks_in rule_check.Defined) (resolves raw) raw.productions (λ p q e.
+          given_targets raw q (whole p q e).no_other),
+      at_flat (checks_in rule_check.Used) (resolves raw) raw.productions (λ p q e. found_arguments raw q (each_normal p q e)),
     )
 
 -- a test that holds of each element holds of all
@@ -210,32 +223,38 @@ pub all_hold : {X : Type 0} (test : X → Bool) (xs : List X) → ((i : ℕ) (x 
 all_hold test [] h = refl
 all_hold test (x ∷ xs) h = rw (h zero x refl) (all_hold test xs (λ i. h (suc i)))
 
-stored_long : (raw : RawGrammar) (q : RawProduction)
-    → length (placed (symbols raw) q) ≡ 1 + length (stored_items (produces raw q).items)
-stored_long raw q = let e = ap length (stored_same (declared_names (symbols raw)) (literals raw) q.items) in omega (arith, e)
+-- a production has a place for each stored item, and one for its left side
+places_long : (raw : RawGrammar) (q : RawProduction)
+    → length (places_of (symbols raw) q) ≡ 1 + length (stored_items (produces raw q).items)
+places_long raw q =
+    let e = ap length (stored_same (declared_names (symbols raw)) (literals raw) q.items) in
+    let f = ap length (places_same (symbols raw) q) in
+    omega (arith, e, f, length-map (places_of (symbols raw) q) item_placed)
 
-limits : (raw : RawGrammar) → IsReadable raw → first_wrong (limit_checks (symbols raw) raw.productions) ≡ None
+limits : (raw : RawGrammar) → IsReadable raw → first_wrong (limit_checks raw) ≡ None
     → IsWithinGrammarLimits (numbered raw)
 limits raw readable h =
     let ss = symbols raw in
     let qs = raw.productions in
     let (symbol_count, (attributes, (production_count, (items, (children, (short, (literal_count, end))))))) =
-    all_right (limit_checks ss qs) h in
+    all_right (limit_checks raw) h in
     record {
       symbol_count = leb-true _ _ symbol_count;
       attribute_count = λ i x e. leb-true _ _ (passes_at few_attributes ss i x attributes e);
       production_count = rw (length-map qs (produces raw)) (leb-true _ _ production_count);
       item_count = each_mapped _ _ _ (λ i q e.
           rw (length-map q.items (item_in raw)) (leb-true _ _ (passes_at few_items qs i q items e)));
-      stored_count = each_mapped _ _ _ (λ i q e. let few = passes_at (few_children ss) qs i q children e in
-          omega (arith, stored_long raw q, leb-true (length (placed ss q)) (1 + max_children) few));
+      stored_count = each_mapped _ _ _ (λ i q e.
+          let few = passes_at few_children (resolved_productions raw) i (resolves raw q) children
+          (at_mapped (resolves raw) qs i q e) in
+          omega (arith, places_long raw q, leb-true (length (places_of ss q)) (1 + max_children) few));
       literal_count = leb-true _ _ literal_count;
       literal_bytes = λ i x e.
           ((literal_readable raw readable i x e).0, leb-true _ _ (passes_at is_short (literals raw) i x short e));
     }
 
 within_limits : (raw : RawGrammar) → IsWithinGrammarLimits (numbered raw)
-    → first_wrong (limit_checks (symbols raw) raw.productions) ≡ None
+    → first_wrong (limit_checks raw) ≡ None
 within_limits raw within =
     let ss = symbols raw in
     let qs = raw.productions in
@@ -247,7 +266,8 @@ within_limits raw within =
       le-leb (length qs) max_productions (rw (← length-map qs (produces raw)) within.production_count),
       all_hold few_items qs (λ i q e. le-leb _ _ (rw (← length-map q.items (item_in raw))
           (mapped_each (produces raw) (λ r. length r.items ≤ max_items) qs within.item_count i q e))),
-      all_hold (few_children ss) qs (λ i q e. le-leb _ _ (omega (arith, stored_long raw q, few_children_stored i q e))),
+      all_hold few_children (resolved_productions raw) (each_mapped (resolves raw) (λ r. few_children r ≡ true) qs (λ i q e.
+          le-leb (length (places_of ss q)) (1 + max_children) (omega (arith, places_long raw q, few_children_stored i q e)))),
       all_hold is_short (literals raw) (λ i x e. le-leb _ _ (within.literal_bytes i x e).1),
       le-leb (length (literals raw)) max_literals within.literal_count,
     )
@@ -256,7 +276,7 @@ within_limits raw within =
 pub accepted : (raw : RawGrammar) → IsReadable raw → AreListed raw → HasNoFault raw → IsAccepted (numbered raw)
 accepted raw readable listed none =
     let parts = naming_parts raw none.names in
-    let further = both_right (rule_kinds (symbols raw) raw.productions) _ none.rules in
+    let further = both_right (rule_kinds raw) _ none.rules in
     let rules = rule_parts raw further.0 in
     record {
       named = named raw readable listed none.names;
@@ -286,9 +306,9 @@ no_fault raw accepted =
 -- without a fault the numbers are small
 pub small : (raw : RawGrammar) → HasNoFault raw → IsSmall (symbols raw) (literals raw)
 small raw none =
-    let further = both_right (rule_kinds (symbols raw) raw.productions) _ none.rules in
+    let further = both_right (rule_kinds raw) _ none.rules in
     let (symbol_count, (attributes, (_, (_, (_, (_, (literal_count, end))))))) =
-    all_right (limit_checks (symbols raw) raw.productions) further.1 in
+    all_right (limit_checks raw) further.1 in
     record { symbols = leb-true _ _ symbol_count; attributes = attributes; texts = leb-true _ _ literal_count }
 
 -- a property of all elements holds of each

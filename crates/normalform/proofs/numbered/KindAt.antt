@@ -1,55 +1,43 @@
--- The kind of a symbol's attribute by its number.
+-- The kind and the role of a symbol's attribute by its number.
 use Rattle.normalform.proofs.Common
-use Common.{ℕ, zero, suc, ◌≡◌, ◌-◌, ◌<◌, ◌≤◌, false, ◌&&◌, List, [], ◌∷◌, ◌++◌, length, map, Some, Option, nat_lt, nat_le}
-use Common.{slice_get, refl, ◌∙◌, arith, le-leb, nat_tests, length-map, Symbol, Kind, Synthesized, Inherited, symbol_kinds}
-use Common.{RawSymbol, Named, is_kind, texts_of, symbol_of}
+use Common.{ℕ, zero, suc, ◌≡◌, ◌-◌, ◌<◌, ◌≤◌, ◌∙◌, Bool, true, false, cond, List, [], ◌∷◌, ◌++◌, length, map, Some, None, Option}
+use Common.{nat_lt, slice_get, refl, ap, sym, arith, nat_tests, ltb-true, length-map, Symbol, Kind, Synthesized, Inherited}
+use Common.{RawSymbol, Named, symbol_of, texts_of, kind_at, role_of, symbol_role}
+use Rattle.std.proofs.lemmas.Bool.{ltb-false}
 
 abbrev kinds : List (List ℕ) → List (List ℕ) → List Kind
 kinds syn inh = map (λ n. Synthesized) syn ++ map (λ n. Inherited) inh
 
-none_synthesized : (inh : List (List ℕ)) (a : ℕ) → is_kind Synthesized (slice_get (kinds [] inh) a) ≡ false
-none_synthesized [] a = refl
-none_synthesized (x ∷ xs) zero = refl
-none_synthesized (x ∷ xs) (suc a) = none_synthesized xs a
+pub kind_is : (syn inh : List (List ℕ)) (a : ℕ) → slice_get (kinds syn inh) a ≡ kind_at (length syn) (length inh) a
+kind_is [] [] a = grind (arith, nat_tests)
+kind_is [] (x ∷ xs) zero = grind (arith, nat_tests)
+kind_is [] (x ∷ xs) (suc a) = kind_is [] xs a ∙ grind (arith, nat_tests)
+kind_is (x ∷ xs) inh zero = grind (arith, nat_tests)
+kind_is (x ∷ xs) inh (suc a) = kind_is xs inh a ∙ grind (arith, nat_tests)
 
-pub synthesized_at : (syn inh : List (List ℕ)) (a : ℕ) → is_kind Synthesized (slice_get (kinds syn inh) a) ≡ nat_lt a (length syn)
-synthesized_at [] inh a = none_synthesized inh a ∙ grind (arith, nat_tests)
-synthesized_at (x ∷ xs) inh zero = grind (arith, nat_tests)
-synthesized_at (x ∷ xs) inh (suc a) = synthesized_at xs inh a ∙ grind (arith, nat_tests)
+-- which numbers are those of synthesized attributes, and which those of inherited ones
+pub synthesized_below : (m n a : ℕ) → kind_at m n a ≡ Some Synthesized → a < m
+synthesized_below m n a h = go (nat_lt a m) (nat_lt (a - m) n) refl h
+  where
+    go : (b c : Bool) → nat_lt a m ≡ b → cond b (Some Synthesized) (cond c (Some Inherited) None) ≡ Some Synthesized → a < m
+    go true c e h = ltb-true a m e
+    go false true e h = absurd (cc)
+    go false false e h = absurd (cc)
 
-some_inherited : (inh : List (List ℕ)) (a : ℕ) → is_kind Inherited (slice_get (kinds [] inh) a) ≡ nat_lt a (length inh)
-some_inherited [] a = grind (arith, nat_tests)
-some_inherited (x ∷ xs) zero = grind (arith, nat_tests)
-some_inherited (x ∷ xs) (suc a) = some_inherited xs a ∙ grind (arith, nat_tests)
+pub inherited_within : (m n a : ℕ) → kind_at m n a ≡ Some Inherited → (m ≤ a) × (a - m < n)
+inherited_within m n a h = go (nat_lt a m) (nat_lt (a - m) n) refl refl h
+  where
+    go : (b c : Bool) → nat_lt a m ≡ b → nat_lt (a - m) n ≡ c
+        → cond b (Some Synthesized) (cond c (Some Inherited) None) ≡ Some Inherited → (m ≤ a) × (a - m < n)
+    go true c e f h = absurd (cc)
+    go false true e f h = (ltb-false a m e, ltb-true (a - m) n f)
+    go false false e f h = absurd (cc)
 
-pub inherited_at : (syn inh : List (List ℕ)) (a : ℕ)
-    → is_kind Inherited (slice_get (kinds syn inh) a) ≡ (nat_le (length syn) a && nat_lt (a - length syn) (length inh))
-inherited_at [] inh a = some_inherited inh a ∙ grind (arith, nat_tests)
-inherited_at (x ∷ xs) inh zero = grind (arith, nat_tests)
-inherited_at (x ∷ xs) inh (suc a) = inherited_at xs inh a ∙ grind (arith, nat_tests)
-
--- Attribute a of a declared symbol is synthesized exactly if a is below the number of synthesized attributes. The next lemma
--- says when it is inherited.
-pub synthesizes_is : (o : Option Symbol) (s : RawSymbol) (syn : List Named) (a : ℕ) → o ≡ Some (symbol_of s) → syn ≡ s.syn
-    → nat_lt a (length syn) ≡ is_kind Synthesized (slice_get (symbol_kinds o) a)
-synthesizes_is o s syn a e f =
-    rw (e, f, synthesized_at (texts_of s.syn) (texts_of s.inh) a, length-map s.syn (λ (n : Named). n.name)) refl
-
-inherits_is : (o : Option Symbol) (s : RawSymbol) (syn inh : List Named) (a : ℕ) → o ≡ Some (symbol_of s) → syn ≡ s.syn
-    → inh ≡ s.inh
-    → (nat_le (length syn) a && nat_lt (a - length syn) (length inh)) ≡ is_kind Inherited (slice_get (symbol_kinds o) a)
-inherits_is o s syn inh a e f g =
-    let syn_count = length-map s.syn (λ (n : Named). n.name) in
-    let inh_count = length-map s.inh (λ (n : Named). n.name) in
-    rw (e, f, g, inherited_at (texts_of s.syn) (texts_of s.inh) a, syn_count, inh_count)
-
--- a number from `length syn` on is that of an inherited attribute exactly if it is below `length syn` + `length inh`
-pub inherits_after : (o : Option Symbol) (s : RawSymbol) (syn inh : List Named) (a : ℕ) → o ≡ Some (symbol_of s) → syn ≡ s.syn
-    → inh ≡ s.inh → length syn ≤ a → nat_lt (a - length syn) (length inh) ≡ is_kind Inherited (slice_get (symbol_kinds o) a)
-inherits_after o s syn inh a e f g le = let h = le-leb (length syn) a le in rw h at (inherits_is o s syn inh a e f g)
-
--- the number of a synthesized attribute is not that of an inherited one
-pub inherits_none : (o : Option Symbol) (s : RawSymbol) (syn : List Named) (a : ℕ) → o ≡ Some (symbol_of s) → syn ≡ s.syn
-    → a < length syn → nat_le (length syn) a ≡ is_kind Inherited (slice_get (symbol_kinds o) a)
-inherits_none o s syn a e f lt = let h : nat_le (length syn) a ≡ false = grind (arith, nat_tests) in
-    h ∙ rw h at (inherits_is o s syn s.inh a e f refl)
+-- the role of an attribute of a declared symbol
+pub role_same : (o : Option Symbol) (s : RawSymbol) (syn inh : List Named) (a place : ℕ) → o ≡ Some (symbol_of s) → syn ≡ s.syn
+    → inh ≡ s.inh → role_of (kind_at (length syn) (length inh) a) place ≡ symbol_role o a place
+role_same o s syn inh a place e f g =
+    let m : length (texts_of s.syn) ≡ length syn = length-map s.syn (λ (n : Named). n.name) ∙ ap length (sym f) in
+    let n : length (texts_of s.inh) ≡ length inh = length-map s.inh (λ (n : Named). n.name) ∙ ap length (sym g) in
+    let kind = rw (m, n) at (kind_is (texts_of s.syn) (texts_of s.inh) a) in
+    rw e (ap (λ k. role_of k place) (sym kind))

@@ -2,7 +2,7 @@
 -- looked for only in a grammar without N1 to N3, and N6 only in one without N2: of two attributes of one name only the first has
 -- a number, so the second would seem to lack its rule. N4 and N5 are checked by marks, one for each symbol, which say whether it
 -- is productive, or reached. In this file `ss` are symbols, `n` is the number of one, and `marks` has a mark for each number.
-use Rattle.std.specs.Prelude.{ℕ, ◌≡◌, ◌<◌, ◌↔◌, Bool, true, List, [], ◌∷◌, ◌++◌, length, map, Option, slice_get}
+use Rattle.std.specs.Prelude.{ℕ, ◌≡◌, ◌<◌, ◌↔◌, Bool, true, cond, List, [], ◌∷◌, ◌++◌, length, map, Option, slice_get}
 use Rattle.ag_grammar.specs.declared.raw.Named.{Named}
 use Rattle.ag_grammar.specs.declared.raw.RawGrammar.{RawGrammar}
 use Rattle.ag_grammar.specs.declared.raw.RawSymbol.{RawSymbol}
@@ -12,9 +12,10 @@ use Rattle.normalform.specs.declared.fault.NormalFault.{NormalFault}
 use Rattle.normalform.specs.declared.fault.NormalFault.TheVariants as fault
 use Rattle.normalform.specs.declared.faults.structure.SymbolCheck.{SymbolCheck}
 use Rattle.normalform.specs.declared.faults.structure.SymbolCheck.TheVariants as symbol_check
-use Rattle.normalform.specs.faults.FaultList.{Found, wrong, after_checks}
+use Rattle.normalform.specs.faults.FaultList.{Found, wrong, is_empty, after_checks}
 use Rattle.normalform.specs.faults.Faults.{Check, checks_along, next_index, naming_checks, doubled_checks, missing_checks}
 use Rattle.normalform.specs.faults.Faults.{later_kinds, limit_checks}
+use Rattle.normalform.specs.faults.Resolved.{resolved_productions}
 use Rattle.normalform.specs.numbers.Numbers.{numbered, symbol_of}
 
 -- the fault N4 or N5 of the symbol with this name
@@ -37,14 +38,12 @@ structure_checks productive reached ss =
 
 -- some checks, which are made only if no fault was found
 abbrev pub if_none : List NormalFault → List Check → List Check
-if_none [] checks = checks
-if_none (f ∷ fs) checks = []
+if_none faults checks = cond (is_empty faults) checks []
 
 -- the checks of N6 to N10
 abbrev pub checks_of_rules : RawGrammar → List Check
-checks_of_rules raw = let ss = map symbol_of raw.symbols in
-    if_none (wrong (doubled_checks raw.symbols)) (missing_checks ss raw.productions)
-    ++ (later_kinds ss raw.productions ++ limit_checks ss raw.productions)
+checks_of_rules raw = let ss = map symbol_of raw.symbols in let qs = resolved_productions raw in
+    if_none (wrong (doubled_checks raw.symbols)) (missing_checks ss qs) ++ (later_kinds qs ++ limit_checks raw)
 
 -- all checks of a raw grammar, in their order
 abbrev pub all_checks : List Bool → List Bool → RawGrammar → List Check

@@ -2,11 +2,10 @@
 -- productive and reached (the textbook). A grammar without N1 and without N6 to N8 is complete (Knuth, 1968), and one without N1
 -- and N9 is normal (Bochmann, 1976). Each kind but N4 and N5 is a list of checks. The checks of N6 are ordered by production,
 -- place and attribute, those of N10 as in `LimitKind`, and other checks as the raw grammar's lists. N4 and N5 name the first wrong
--- symbol.
--- In this file, `ss` are the declared symbols, `names` the names of symbols (in `doubled_names` also those of attributes), `qs`
--- productions, `q` one of them and `p` its number, `items` the items at its places, `r` a rule, `o` an occurrence, and `ts`
--- targets of rules.
-use Rattle.std.specs.Prelude.{All, ℕ, zero, suc, cond, fold, ◌⊎◌, ◌+◌, ◌≡◌, ◌<◌, ◌≤◌, nat_eq, nat_le, not, Bool, true, false}
+-- symbol. The checks of N1 and of N6 to N9 are about resolved productions.
+-- In this file, `ss` are the declared symbols, `names` the names of symbols or of attributes, `qs` productions, `q` one of them and
+-- `p` its number, `o` a reference, and `ts` targets of rules.
+use Rattle.std.specs.Prelude.{All, ℕ, zero, suc, cond, fold, ◌⊎◌, ◌+◌, ◌≡◌, ◌<◌, ◌≤◌, nat_eq, nat_le, nat_lt, not, Bool, true, false}
 use Rattle.std.specs.Prelude.{◌&&◌, ◌||◌, List, [], ◌∷◌, ◌++◌, length, map, flat_map, find, Option, Some, None, bytes_eq}
 use Rattle.std.specs.Prelude.{slice_get}
 use Rattle.std.specs.List.{list_any, list_all, range_with_len}
@@ -18,26 +17,30 @@ use Rattle.ag_grammar.specs.declared.grammar.Production.{Production}
 use Rattle.ag_grammar.specs.declared.grammar.Rule.{Rule}
 use Rattle.ag_grammar.specs.declared.grammar.Symbol.{Symbol}
 use Rattle.ag_grammar.specs.declared.grammar.Target.{Target}
-use Rattle.ag_grammar.specs.declared.syntax.occurrence.Occ.{Occ}
 use Rattle.ag_grammar.specs.grammars.Accepted.{IsAccepted, IsProductive, IsReached, IsSeparator, class_count, out_name}
 use Rattle.ag_grammar.specs.grammars.Accepted.{max_symbols, max_attributes, max_productions, max_items, max_children}
 use Rattle.ag_grammar.specs.grammars.Accepted.{max_literals, max_literal_bytes}
-use Rattle.ag_grammar.specs.grammars.AttributeGrammar.{Kind, Synthesized, Inherited, attribute_names, item_kinds, defined_kind}
-use Rattle.ag_grammar.specs.grammars.AttributeGrammar.{used_kind}
+use Rattle.ag_grammar.specs.grammars.AttributeGrammar.{attribute_names}
 use Rattle.ag_grammar.specs.expressions.Trees.{is_below}
 use Rattle.ag_grammar.specs.declared.raw.Named.{Named}
 use Rattle.ag_grammar.specs.declared.raw.RawGrammar.{RawGrammar}
 use Rattle.ag_grammar.specs.declared.raw.RawItem.{RawItem}
 use Rattle.ag_grammar.specs.declared.raw.RawItem.TheVariants as raw_item
 use Rattle.ag_grammar.specs.declared.raw.RawProduction.{RawProduction}
-use Rattle.ag_grammar.specs.declared.raw.RawRule.{RawRule}
 use Rattle.ag_grammar.specs.declared.raw.RawSymbol.{RawSymbol}
 use Rattle.normalform.specs.declared.fault.LimitKind.TheVariants as limit
 use Rattle.normalform.specs.declared.fault.NormalFault.{NormalFault}
 use Rattle.normalform.specs.declared.fault.NormalFault.TheVariants as fault
-use Rattle.normalform.specs.numbers.Numbers.{symbol_of, declared_names, with_text, declared, number_in, names_at}
-use Rattle.normalform.specs.numbers.Numbers.{placed, target_of}
-use Rattle.normalform.specs.numbers.Numbers.{literals_of, numbered}
+use Rattle.normalform.specs.declared.faults.reference_checks.RuleCheck.{RuleCheck}
+use Rattle.normalform.specs.declared.faults.reference_checks.RuleCheck.TheVariants as rule_check
+use Rattle.normalform.specs.declared.faults.resolved.PlacedItem.{PlacedItem}
+use Rattle.normalform.specs.declared.faults.resolved.PlacedItem.TheVariants as placed_item
+use Rattle.normalform.specs.declared.faults.resolved.Reference.{Reference}
+use Rattle.normalform.specs.declared.faults.resolved.ResolvedProduction.{ResolvedProduction}
+use Rattle.normalform.specs.declared.faults.resolved.Role.{Role}
+use Rattle.normalform.specs.declared.faults.resolved.Role.TheVariants as role
+use Rattle.normalform.specs.faults.Resolved.{item_placed, resolved_productions}
+use Rattle.normalform.specs.numbers.Numbers.{symbol_of, declared_names, with_text, number_in, literals_of, numbered}
 
 -- A check: the fault to report if it fails, and whether it holds.
 abbrev pub Check : Type 0
@@ -52,42 +55,61 @@ abbrev pub checks_along : {S X : Type 0} → (S → X → List Check) → (S →
 checks_along f g s [] = []
 checks_along f g s (x ∷ xs) = f s x ++ checks_along f g (g s x) xs
 
--- N1. The check of a symbol's name: it is declared.
-abbrev pub name_check : List (List ℕ) → Named → Check
-name_check names name = (fault.UnknownName name.at, list_any (bytes_eq name.name) names)
+-- whether an attribute does not exist, whether rules may use it, and whether they define it
+abbrev pub is_unknown : Role → Bool
+is_unknown role.Defined = false
+is_unknown role.Used = false
+is_unknown role.Unknown = true
+is_unknown role.Hidden = false
 
--- N1. The checks of an item: a name is that of a declared symbol.
-abbrev pub item_checks : List (List ℕ) → RawItem → List Check
-item_checks names (raw_item.Name name) = name_check names name ∷ []
-item_checks names (raw_item.Literal text) = []
-item_checks names (raw_item.Class c) = []
+abbrev pub is_used : Role → Bool
+is_used role.Defined = false
+is_used role.Used = true
+is_used role.Unknown = false
+is_used role.Hidden = false
 
--- whether the item at an occurrence's place has an attribute of its name
-abbrev pub exists : List Symbol → List Item → Occ → Bool
-exists ss items o = list_any (bytes_eq o.attr) (names_at ss items o.place)
+abbrev pub is_defined : Role → Bool
+is_defined role.Defined = true
+is_defined role.Used = false
+is_defined role.Unknown = false
+is_defined role.Hidden = false
 
--- whether an item is a symbol that is not declared; of its attributes nothing is said, since the symbol's name has N1
-abbrev pub is_hidden : List Symbol → Option Item → Bool
-is_hidden ss None = false
-is_hidden ss (Some (item.Symbol s)) = nat_le (length ss) s
-is_hidden ss (Some (item.Terminal a)) = false
+-- whether an attribute exists
+abbrev pub is_there : Role → Bool
+is_there r = is_defined r || is_used r
 
--- N1. The check of an occurrence: the attribute exists. It is not checked at a symbol that is not declared.
-abbrev pub occurrence_check : List Symbol → List Item → Occ → Check
-occurrence_check ss items o = (fault.UnknownName o.at, exists ss items o || is_hidden ss (slice_get items o.place))
+-- N1, N8, N9. Whether a reference passes a check. N8 is about targets, N9 about arguments. An attribute that does not exist, or
+-- whose symbol is not declared, passes both.
+abbrev pub holds : RuleCheck → Reference → Bool
+holds rule_check.Known o = not (is_unknown o.role)
+holds rule_check.Defined o = not o.is_target || not (is_used o.role)
+holds rule_check.Used o = o.is_target || not (is_defined o.role)
 
--- N1. The checks of a rule: of its target, then of the occurrences in its expression.
-abbrev pub rule_checks : List Symbol → List Item → RawRule → List Check
-rule_checks ss items r = occurrence_check ss items r.target ∷ map (occurrence_check ss items) r.expr.occurrences
+-- the fault of a reference at an offset that does not pass
+abbrev pub fault_at : RuleCheck → ℕ → NormalFault
+fault_at rule_check.Known at = fault.UnknownName at
+fault_at rule_check.Defined at = fault.NotDefinedHere at
+fault_at rule_check.Used at = fault.NotNormal at
 
--- N1. The checks of a production: of its left side, then of its items, then of its rules.
-abbrev pub unknown_in : List Symbol → RawProduction → List Check
-unknown_in ss q =
-    name_check (declared_names ss) q.left ∷ flat_map (item_checks (declared_names ss)) q.items ++ flat_map
-    (rule_checks ss (placed ss q)) q.rules
+-- the check of a reference
+abbrev pub reference_check : RuleCheck → Reference → Check
+reference_check x o = (fault_at x o.at, holds x o)
+
+-- all checks of N8, or of N9
+abbrev pub reference_checks : RuleCheck → List ResolvedProduction → List Check
+reference_checks x qs = flat_map (λ q. map (reference_check x) q.references) qs
+
+-- N1. The checks of the item at a place: a symbol is declared.
+abbrev pub place_checks : List Symbol → PlacedItem → List Check
+place_checks ss (placed_item.Symbol s at) = (fault.UnknownName at, nat_lt s (length ss)) ∷ []
+place_checks ss (placed_item.Class c) = []
+
+-- N1. The checks of a production: of its left side and its items, then of its rules.
+abbrev pub unknown_in : List Symbol → ResolvedProduction → List Check
+unknown_in ss q = flat_map (place_checks ss) q.places ++ map (reference_check rule_check.Known) q.references
 
 -- all checks of N1
-abbrev pub unknown_checks : List Symbol → List RawProduction → List Check
+abbrev pub unknown_checks : List Symbol → List ResolvedProduction → List Check
 unknown_checks ss qs = flat_map (unknown_in ss) qs
 
 -- N2. The check of a declared name: it is not one of the earlier names, which are `seen`.
@@ -151,13 +173,17 @@ same_target a b = nat_eq a.place b.place && nat_eq a.attr b.attr
 abbrev pub with_target : List Target → Target → List Target
 with_target ts t = cond (list_any (same_target t) ts) ts (ts ++ t ∷ [])
 
--- the targets so far, and that of a rule unless it is there already
-abbrev pub with_rule : List Symbol → List Item → List Target → RawRule → List Target
-with_rule ss items ts r = with_target ts (target_of ss items r.target)
+-- the attribute of a reference
+abbrev pub target : Reference → Target
+target o = record { place = o.place; attr = o.attr }
+
+-- the targets so far, and that of a rule unless it is there already; o may also be an argument
+abbrev pub with_reference : List Target → Reference → List Target
+with_reference ts o = cond o.is_target (with_target ts (target o)) ts
 
 -- the targets of rules, each once
-abbrev pub targets_of : List Symbol → List Item → List RawRule → List Target
-targets_of ss items rules = fold (with_rule ss items) [] rules
+abbrev pub targets_of : List Reference → List Target
+targets_of os = fold with_reference [] os
 
 -- the check that attribute a at a place of production p has a rule: it is one of the targets ts of the production's rules
 abbrev pub missing_check : List Target → ℕ → ℕ → ℕ → Check
@@ -172,64 +198,28 @@ abbrev pub next_index : {X : Type 0} → ℕ → X → ℕ
 next_index n x = n + 1
 
 -- the checks of a production: place by place
-abbrev pub missing_in : List Symbol → ℕ → RawProduction → List Check
-missing_in ss p q = checks_along (missing_at ss (targets_of ss (placed ss q) q.rules) p) next_index 0 (placed ss q)
+abbrev pub missing_in : List Symbol → ℕ → ResolvedProduction → List Check
+missing_in ss p q = checks_along (missing_at ss (targets_of q.references) p) next_index 0 (map item_placed q.places)
 
 -- all checks of N6
-abbrev pub missing_checks : List Symbol → List RawProduction → List Check
+abbrev pub missing_checks : List Symbol → List ResolvedProduction → List Check
 missing_checks ss qs = checks_along (missing_in ss) next_index 0 qs
 
+-- whether a reference is not one of the targets ts, or no target
+abbrev pub is_fresh : List Target → Reference → Bool
+is_fresh ts o = not o.is_target || not (list_any (same_target (target o)) ts)
+
 -- N7. The check of a rule's target: no earlier rule of the production has the same target, or the target does not exist.
-abbrev pub new_target : List Symbol → List Item → List Target → RawRule → List Check
-new_target ss items ts r = (
-  fault.RuleDoubled r.target.at,
-  not (list_any (same_target (target_of ss items r.target)) ts) || not (exists ss items r.target),
-) ∷ []
+abbrev pub new_target : List Target → Reference → List Check
+new_target ts o = (fault.RuleDoubled o.at, is_fresh ts o || not (is_there o.role)) ∷ []
 
 -- N7. The checks of the rules of a production.
-abbrev pub doubled_in : List Symbol → RawProduction → List Check
-doubled_in ss q = checks_along (new_target ss (placed ss q)) (with_rule ss (placed ss q)) [] q.rules
+abbrev pub doubled_in : ResolvedProduction → List Check
+doubled_in q = checks_along new_target with_reference [] q.references
 
 -- all checks of N7
-abbrev pub doubled_rules : List Symbol → List RawProduction → List Check
-doubled_rules ss qs = flat_map (doubled_in ss) qs
-
--- whether an attribute has the kind k; the second argument is its kind, or `None` if it does not exist
-abbrev pub is_kind : Kind → Option Kind → Bool
-is_kind k None = false
-is_kind Synthesized (Some Synthesized) = true
-is_kind Synthesized (Some Inherited) = false
-is_kind Inherited (Some Synthesized) = false
-is_kind Inherited (Some Inherited) = true
-
--- whether the attribute of a target exists and has the kind k
-abbrev pub has_kind : List Symbol → List Item → Target → Kind → Bool
-has_kind ss items t k = is_kind k (slice_get (item_kinds (declared ss) (slice_get items t.place)) t.attr)
-
--- N8. The check of a rule's target: it is not an attribute that the rules of the production may only use.
-abbrev pub defined_check : List Symbol → List Item → RawRule → Check
-defined_check ss items r = let t = target_of ss items r.target in
-    (fault.NotDefinedHere r.target.at, not (has_kind ss items t (used_kind t.place)))
-
--- N8. The checks of the rules of a production.
-abbrev pub not_defined_in : List Symbol → RawProduction → List Check
-not_defined_in ss q = map (defined_check ss (placed ss q)) q.rules
-
--- all checks of N8
-abbrev pub not_defined_here : List Symbol → List RawProduction → List Check
-not_defined_here ss qs = flat_map (not_defined_in ss) qs
-
--- N9. The check of an occurrence in an expression: it is not an attribute that the rules of the production define.
-abbrev pub used_check : List Symbol → List Item → Occ → Check
-used_check ss items o = let t = target_of ss items o in (fault.NotNormal o.at, not (has_kind ss items t (defined_kind t.place)))
-
--- N9. The checks of the rules of a production.
-abbrev pub not_normal_in : List Symbol → RawProduction → List Check
-not_normal_in ss q = flat_map (λ r. map (used_check ss (placed ss q)) r.expr.occurrences) q.rules
-
--- all checks of N9
-abbrev pub not_normal : List Symbol → List RawProduction → List Check
-not_normal ss qs = flat_map (not_normal_in ss) qs
+abbrev pub doubled_rules : List ResolvedProduction → List Check
+doubled_rules qs = flat_map doubled_in qs
 
 -- N10. A symbol has at most 16 attributes (`max_attributes`).
 abbrev pub few_attributes : Symbol → Bool
@@ -239,9 +229,9 @@ few_attributes s = nat_le (length (attribute_names s)) max_attributes
 abbrev pub few_items : RawProduction → Bool
 few_items q = nat_le (length q.items) max_items
 
--- a right side has at most 16 children (`max_children`); `placed` has one item more, the left side
-abbrev pub few_children : List Symbol → RawProduction → Bool
-few_children ss q = nat_le (length (placed ss q)) (1 + max_children)
+-- a right side has at most 16 children (`max_children`); a production has one place more, the left side
+abbrev pub few_children : ResolvedProduction → Bool
+few_children q = nat_le (length q.places) (1 + max_children)
 
 -- a literal has at most 255 bytes (`max_literal_bytes`)
 abbrev pub is_short : List ℕ → Bool
@@ -252,11 +242,11 @@ abbrev pub symbol_limits : List Symbol → List Check
 symbol_limits ss =
     (fault.Limit limit.Symbols, nat_le (length ss) max_symbols) ∷ (fault.Limit limit.Attributes, list_all few_attributes ss) ∷ []
 
-abbrev pub production_limits : List Symbol → List RawProduction → List Check
-production_limits ss qs =
+abbrev pub production_limits : List RawProduction → List ResolvedProduction → List Check
+production_limits qs resolved =
     (fault.Limit limit.Productions, nat_le (length qs) max_productions)
     ∷ (fault.Limit limit.Items, list_all few_items qs)
-    ∷ (fault.Limit limit.Stored, list_all (few_children ss) qs)
+    ∷ (fault.Limit limit.Stored, list_all few_children resolved)
     ∷ []
 
 abbrev pub literal_limits : List (List ℕ) → List Check
@@ -265,25 +255,27 @@ literal_limits texts =
     ∷ []
 
 -- all checks of N10
-abbrev pub limit_checks : List Symbol → List RawProduction → List Check
-limit_checks ss qs = symbol_limits ss ++ production_limits ss qs ++ literal_limits (literals_of qs)
+abbrev pub limit_checks : RawGrammar → List Check
+limit_checks raw =
+    symbol_limits (map symbol_of raw.symbols) ++ production_limits raw.productions (resolved_productions raw)
+    ++ literal_limits (literals_of raw.productions)
 
 -- the checks of N1 to N3: names, and the start symbol
 abbrev pub naming_checks : RawGrammar → List Check
 naming_checks raw = let ss = map symbol_of raw.symbols in
-    unknown_checks ss raw.productions ++ doubled_checks raw.symbols ++ start_checks ss raw.start
+    unknown_checks ss (resolved_productions raw) ++ doubled_checks raw.symbols ++ start_checks ss raw.start
 
 -- the checks of N7 to N9
-abbrev pub later_kinds : List Symbol → List RawProduction → List Check
-later_kinds ss qs = doubled_rules ss qs ++ not_defined_here ss qs ++ not_normal ss qs
+abbrev pub later_kinds : List ResolvedProduction → List Check
+later_kinds qs = doubled_rules qs ++ reference_checks rule_check.Defined qs ++ reference_checks rule_check.Used qs
 
 -- the checks of N6 to N9: rules
-abbrev pub rule_kinds : List Symbol → List RawProduction → List Check
-rule_kinds ss qs = missing_checks ss qs ++ later_kinds ss qs
+abbrev pub rule_kinds : RawGrammar → List Check
+rule_kinds raw = let qs = resolved_productions raw in missing_checks (map symbol_of raw.symbols) qs ++ later_kinds qs
 
 -- the checks of N6 to N10
 abbrev pub further_checks : RawGrammar → List Check
-further_checks raw = let ss = map symbol_of raw.symbols in rule_kinds ss raw.productions ++ limit_checks ss raw.productions
+further_checks raw = rule_kinds raw ++ limit_checks raw
 
 -- the number of each declared symbol has the property P
 abbrev pub AreAll : (ℕ → Type 0) → RawGrammar → Type 0

@@ -5,19 +5,19 @@ ghost use Rattle.normalform.specs.faults.FaultList.{after_checks};
 ghost use Rattle.normalform.specs.faults.Faults.{limit_checks, few_attributes, few_items};
 ghost use Rattle.normalform.specs.faults.Faults.{few_children, is_short, symbol_limits};
 ghost use Rattle.normalform.specs.faults.Faults.{production_limits, literal_limits};
+ghost use Rattle.normalform.specs.faults.Resolved.{resolved_productions};
 ghost use Rattle.normalform.specs.numbers.Numbers as spec;
 ghost use Rattle.normalform.specs.numbers.Numbers.{symbol_of, with_item};
 
 use crate::fault::{LimitKind, NormalFault};
 use crate::faults::fault_list::FaultList;
-use crate::faults::placed::places_of;
-use crate::numbers::declared::Declared;
+use crate::faults::resolved::ResolvedProduction;
 use crate::numbers::names::Names;
 use ag_grammar::limits::{
     MAX_ATTRIBUTES, MAX_CHILDREN, MAX_ITEMS, MAX_LITERAL_BYTES, MAX_LITERALS, MAX_PRODUCTIONS,
     MAX_SYMBOLS,
 };
-use ag_grammar::{RawItem, RawProduction, RawSymbol};
+use ag_grammar::{RawGrammar, RawItem, RawProduction, RawSymbol};
 use ag_value::NoMemory;
 use std::alloc::Global;
 
@@ -85,31 +85,19 @@ fn all_have_few_items(productions: &[RawProduction]) -> bool
 
 /// Returns whether a right side has at most `MAX_CHILDREN` symbols and classes. A production has a
 /// place for each of them, and place 0 for its left side.
-fn has_few_children(
-    alloc: Global,
-    declared: &Declared<'_>,
-    production: &RawProduction,
-) -> Result<bool, NoMemory>
-    ensures { IfOk result (λ b. b ≡ few_children declared.now production.now) }
+fn has_few_children(production: &ResolvedProduction) -> bool
+    ensures { result ≡ few_children production.now }
 {
-    let items = places_of(alloc, declared, production)?;
-    Ok(items.len() <= 1 + MAX_CHILDREN)
+    production.places.as_slice().len() <= 1 + MAX_CHILDREN
 }
 
 /// Returns whether each right side has at most `MAX_CHILDREN` symbols and classes.
-fn all_have_few_children(
-    alloc: Global,
-    declared: &Declared<'_>,
-    productions: &[RawProduction],
-) -> Result<bool, NoMemory>
-    ensures { IfOk result (λ b. b ≡ list_all (few_children declared.now) productions.now) }
+fn all_have_few_children(productions: &[ResolvedProduction]) -> bool
+    ensures { result ≡ list_all few_children productions.now }
 {
-    for production in productions {
-        if !has_few_children(alloc, declared, production)? {
-            return Ok(false);
-        }
-    }
-    Ok(true)
+    productions
+        .iter()
+        .all(|production| has_few_children(production))
 }
 
 /// Returns whether each literal has at most `MAX_LITERAL_BYTES` bytes.
@@ -143,13 +131,12 @@ fn push_symbol_limits(faults: &mut FaultList, symbols: &[RawSymbol]) -> Result<(
 /// Appends N10 for each limit that the productions exceed.
 #[tactic(auto, using(crate::proofs::Listing::after_both))]
 fn push_production_limits(
-    alloc: Global,
     faults: &mut FaultList,
-    declared: &Declared<'_>,
     productions: &[RawProduction],
+    resolved: &[ResolvedProduction],
 ) -> Result<(), NoMemory>
     ensures { OnOk result (faults.new ≡ after_checks faults.old
-        (production_limits declared.now productions.now)) }
+        (production_limits productions.now resolved.now)) }
 {
     faults.push_unless(
         productions.len() <= MAX_PRODUCTIONS,
@@ -160,7 +147,7 @@ fn push_production_limits(
         NormalFault::Limit(LimitKind::Items),
     )?;
     faults.push_unless(
-        all_have_few_children(alloc, declared, productions)?,
+        all_have_few_children(resolved),
         NormalFault::Limit(LimitKind::Stored),
     )
 }
@@ -180,25 +167,24 @@ fn push_literal_limits(faults: &mut FaultList, literals: &Names<'_>) -> Result<(
     )
 }
 
-/// Appends N10 for each limit that is exceeded, in the order of `LimitKind`. `declared` has the same
-/// symbols as `symbols`. Fails with `NoMemory` if memory is refused.
+/// Appends N10 for each limit that is exceeded, in the order of `LimitKind`. `resolved` has the
+/// resolved productions. Fails with `NoMemory` if memory is refused.
 #[tactic(auto, using(crate::proofs::Listing::after_full, crate::proofs::Listing::after_both))]
 pub fn push_limits(
     alloc: Global,
     faults: &mut FaultList,
-    declared: &Declared<'_>,
-    symbols: &[RawSymbol],
-    productions: &[RawProduction],
+    raw: &RawGrammar,
+    resolved: &[ResolvedProduction],
 ) -> Result<(), NoMemory>
-    requires { declared.now ≡ map symbol_of symbols.now }
-    ensures { OnOk result (faults.new ≡ after_checks faults.old
-        (limit_checks declared.now productions.now)) }
+    requires { resolved.now ≡ resolved_productions raw.now }
+    ensures { OnOk result (faults.new ≡ after_checks faults.old (limit_checks raw.now)) }
 {
     if faults.is_full() {
         return Ok(());
     }
-    push_symbol_limits(faults, symbols)?;
-    push_production_limits(alloc, faults, declared, productions)?;
+    let productions = raw.productions.as_slice();
+    push_symbol_limits(faults, raw.symbols.as_slice())?;
+    push_production_limits(faults, productions, resolved)?;
     let literals = literals_of(alloc, productions)?;
     push_literal_limits(faults, &literals)?;
     Ok(())

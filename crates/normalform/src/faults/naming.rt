@@ -1,86 +1,66 @@
 //! The faults N1 and N2: names that are not declared, places that do not exist, and names that are
 //! declared twice.
-ghost use Rattle.std.specs.Prelude.{◌≡◌, ◌++◌, ◌∷◌, [], fold, OnOk, flat_map};
+ghost use Rattle.std.specs.Prelude.{◌≡◌, ◌++◌, [], fold, OnOk, flat_map};
 ghost use Rattle.normalform.specs.faults.FaultList.{after_checks};
 ghost use Rattle.normalform.specs.faults.Faults as spec;
-ghost use Rattle.normalform.specs.faults.Faults.{name_check, item_checks, new_check};
-ghost use Rattle.normalform.specs.faults.Faults.{unknown_in};
+ghost use Rattle.normalform.specs.faults.Faults.{new_check, place_checks, unknown_in};
 ghost use Rattle.normalform.specs.faults.Faults.{symbol_checks, with_name, with_symbol};
-ghost use Rattle.normalform.specs.numbers.Numbers.{declared_names, with_text};
+ghost use Rattle.normalform.specs.numbers.Numbers.{with_text};
 
 use crate::fault::NormalFault;
 use crate::faults::fault_list::FaultList;
-use crate::faults::reference_checks::{RuleCheck, push_in_production};
+use crate::faults::reference_checks::{RuleCheck, push_among};
+use crate::faults::resolved::{PlacedItem, ResolvedProduction};
 use crate::numbers::declared::Declared;
 use crate::numbers::names::Names;
-use ag_grammar::{Named, RawItem, RawProduction, RawSymbol};
+use ag_grammar::{Named, RawSymbol};
 use ag_value::NoMemory;
 use std::alloc::Global;
-
-/// Appends N1 if a symbol's name is not declared.
-fn push_unknown_name(
-    faults: &mut FaultList,
-    declared: &Declared<'_>,
-    name: &Named,
-) -> Result<(), NoMemory>
-    ensures { OnOk result (faults.new ≡ after_checks faults.old
-        (name_check (declared_names declared.now) name.now ∷ [])) }
-{
-    faults.push_unless(
-        declared.has(name.name.as_str()),
-        NormalFault::UnknownName(name.at),
-    )
-}
 
 /// Appends N1 if an item is an undeclared symbol.
 #[tactic(auto, using(crate::proofs::Listing::after_none))]
 fn push_unknown_item(
     faults: &mut FaultList,
     declared: &Declared<'_>,
-    item: &RawItem,
+    item: PlacedItem,
 ) -> Result<(), NoMemory>
-    ensures { OnOk result (faults.new ≡ after_checks faults.old
-        (item_checks (declared_names declared.now) item.now)) }
+    ensures { OnOk result (faults.new ≡ after_checks faults.old (place_checks declared.now item)) }
 {
     match item {
-        RawItem::Name(name) => push_unknown_name(faults, declared, name),
-        _ => Ok(()),
+        PlacedItem::Symbol(symbol, at) => {
+            faults.push_unless(symbol < declared.count(), NormalFault::UnknownName(at))
+        }
+        PlacedItem::Class(_) => Ok(()),
     }
 }
 
-/// Appends N1 for each undeclared symbol of a right side.
-#[tactic(auto, using(crate::proofs::Listing::after_none))]
+/// Appends N1 for each undeclared symbol among the items at places.
+#[tactic(auto, using(crate::proofs::Listing::after_none, crate::proofs::Listing::after_both))]
 fn push_unknown_items(
     faults: &mut FaultList,
     declared: &Declared<'_>,
-    items: &[RawItem],
+    items: &[PlacedItem],
 ) -> Result<(), NoMemory>
     ensures { OnOk result (faults.new ≡ after_checks faults.old
-        (flat_map (item_checks (declared_names declared.now)) items.now)) }
+        (flat_map (place_checks declared.now) items.now)) }
 {
     for item in items {
-        push_unknown_item(faults, declared, item)?;
+        push_unknown_item(faults, declared, *item)?;
     }
     Ok(())
 }
 
-/// Appends the faults N1 of a production: of its left side, then of its items, then of its rules.
-#[tactic(auto, using(crate::proofs::Listing::after_full))]
+/// Appends the faults N1 of a production: of its left side and its items, then of its rules.
 fn push_unknown_in(
-    alloc: Global,
     faults: &mut FaultList,
     declared: &Declared<'_>,
-    production: &RawProduction,
+    production: &ResolvedProduction,
 ) -> Result<(), NoMemory>
     ensures { OnOk result (faults.new ≡ after_checks faults.old
         (unknown_in declared.now production.now)) }
 {
-    if faults.is_full() {
-        return Ok(());
-    }
-    push_unknown_name(faults, declared, &production.left)?;
-    push_unknown_items(faults, declared, production.items.as_slice())?;
-    push_in_production(alloc, RuleCheck::Known, faults, declared, production)?;
+    push_unknown_items(faults, declared, production.places.as_slice())?;
+    push_among(RuleCheck::Known, faults, production.references.as_slice())?;
     Ok(())
 }
 
@@ -88,16 +68,15 @@ fn push_unknown_in(
 /// rule whose place or attribute does not exist.
 #[tactic(auto, using(crate::proofs::Listing::after_none))]
 pub fn push_unknown(
-    alloc: Global,
     faults: &mut FaultList,
     declared: &Declared<'_>,
-    productions: &[RawProduction],
+    productions: &[ResolvedProduction],
 ) -> Result<(), NoMemory>
     ensures { OnOk result (faults.new ≡ after_checks faults.old
         (spec.unknown_checks declared.now productions.now)) }
 {
     for production in productions {
-        push_unknown_in(alloc, faults, declared, production)?;
+        push_unknown_in(faults, declared, production)?;
     }
     Ok(())
 }

@@ -1,54 +1,45 @@
-//! The faults N6 to N9: rules that are missing or duplicate, targets that a production's rules must
-//! not define, and arguments that they must not use.
-ghost use Rattle.std.specs.Prelude.{◌≡◌, [], map, IfOk, OnOk, not};
-ghost use Rattle.std.specs.List.{list_any};
+//! The faults N6 and N7: rules that are missing or duplicate.
+ghost use Rattle.std.specs.Prelude.{◌≡◌, [], map, IfOk, OnOk};
 ghost use Rattle.normalform.specs.faults.FaultList.{after_checks};
 ghost use Rattle.normalform.specs.faults.Faults as spec;
-ghost use Rattle.normalform.specs.faults.Faults.{checks_along, next_index, with_rule, new_target};
-ghost use Rattle.normalform.specs.faults.Faults.{same_target, doubled_in};
-ghost use Rattle.normalform.specs.numbers.Numbers.{target_of};
-ghost use Rattle.normalform.specs.faults.PlacedItem.{item_placed};
+ghost use Rattle.normalform.specs.faults.Faults.{checks_along, next_index, with_reference};
+ghost use Rattle.normalform.specs.faults.Faults.{is_fresh, new_target};
+ghost use Rattle.normalform.specs.faults.Resolved.{item_placed};
 
 use crate::fault::NormalFault;
 use crate::faults::fault_list::FaultList;
-use crate::faults::placed::{PlacedItem, places_of};
-use crate::faults::reference_checks::{RuleCheck, push_in_productions};
+use crate::faults::resolved::{PlacedItem, Reference, ResolvedProduction, Role};
 use crate::faults::targets::Targets;
 use crate::numbers::declared::Declared;
-use ag_grammar::{RawProduction, RawRule};
 use ag_value::NoMemory;
 use std::alloc::Global;
 
-/// Adds the target of a rule to `targets`, unless it is there already. Returns whether it was
-/// added. Here and below, `items` has the item at each place of the rule's production.
-fn add_target(
-    targets: &mut Targets,
-    declared: &Declared<'_>,
-    items: &[PlacedItem],
-    rule: &RawRule,
-) -> Result<bool, NoMemory>
-    ensures added { OnOk result (targets.new ≡ with_rule declared.now (map item_placed items.now)
-        targets.old rule.now) }
-    ensures fresh { IfOk result (λ b. b ≡ not (list_any (same_target
-        (target_of declared.now (map item_placed items.now) rule.now.target)) targets.old)) }
+/// Adds a target to `targets`, unless it is there already. Adds no argument. Returns whether the
+/// reference was not a target in `targets`.
+fn add_reference(targets: &mut Targets, reference: &Reference) -> Result<bool, NoMemory>
+    ensures added { OnOk result (targets.new ≡ with_reference targets.old reference.now) }
+    ensures fresh { IfOk result (λ b. b ≡ is_fresh targets.old reference.now) }
 {
-    let attr = declared.attribute(items, &rule.target);
-    targets.add(rule.target.place as usize, attr)
+    if !reference.is_target {
+        return Ok(true);
+    }
+    targets.add(reference.place, reference.attr)
 }
 
-/// Returns the different targets of rules.
-fn targets_of(
-    alloc: Global,
-    declared: &Declared<'_>,
-    items: &[PlacedItem],
-    rules: &[RawRule],
-) -> Result<Targets, NoMemory>
-    ensures { IfOk result (λ t. t
-        ≡ spec.targets_of declared.now (map item_placed items.now) rules.now) }
+/// Returns whether the attribute of a reference exists.
+fn is_there(reference: &Reference) -> bool
+    ensures { result ≡ spec.is_there reference.now.role }
+{
+    reference.role == Role::Defined || reference.role == Role::Used
+}
+
+/// Returns the different targets among references.
+fn targets_of(alloc: Global, references: &[Reference]) -> Result<Targets, NoMemory>
+    ensures { IfOk result (λ t. t ≡ spec.targets_of references.now) }
 {
     let mut targets = Targets::new(alloc);
-    for rule in rules {
-        add_target(&mut targets, declared, items, rule)?;
+    for reference in references {
+        add_reference(&mut targets, reference)?;
     }
     Ok(targets)
 }
@@ -68,7 +59,7 @@ fn push_missing_at(
     ensures { OnOk result (faults.new ≡ after_checks faults.old
         (spec.missing_at declared.now targets.now production place (item_placed item))) }
 {
-    let PlacedItem::Symbol(symbol) = item else {
+    let PlacedItem::Symbol(symbol, _) = item else {
         return Ok(());
     };
     let (first, end) = declared.defined_here(place, symbol);
@@ -82,7 +73,7 @@ fn push_missing_at(
 }
 
 /// Appends the faults N6 of a production, by place and then by attribute. `production` is the
-/// production's number.
+/// production's number, and `items` has the item at each of its places.
 #[tactic(auto, using(crate::proofs::Listing::after_none))]
 fn push_missing_among(
     faults: &mut FaultList,
@@ -108,7 +99,7 @@ fn push_missing_in(
     faults: &mut FaultList,
     declared: &Declared<'_>,
     number: usize,
-    production: &RawProduction,
+    production: &ResolvedProduction,
 ) -> Result<(), NoMemory>
     ensures { OnOk result (faults.new ≡ after_checks faults.old
         (spec.missing_in declared.now number production.now)) }
@@ -116,14 +107,9 @@ fn push_missing_in(
     if faults.is_full() {
         return Ok(());
     }
-    let items = places_of(alloc, declared, production)?;
-    let targets = targets_of(
-        alloc,
-        declared,
-        items.as_slice(),
-        production.rules.as_slice(),
-    )?;
-    push_missing_among(faults, declared, &targets, number, items.as_slice())
+    let targets = targets_of(alloc, production.references.as_slice())?;
+    let items = production.places.as_slice();
+    push_missing_among(faults, declared, &targets, number, items)
 }
 
 /// Appends each fault N6: an attribute that needs a rule and has none, by production, then place,
@@ -133,7 +119,7 @@ pub fn push_missing(
     alloc: Global,
     faults: &mut FaultList,
     declared: &Declared<'_>,
-    productions: &[RawProduction],
+    productions: &[ResolvedProduction],
 ) -> Result<(), NoMemory>
     ensures { OnOk result (faults.new ≡ after_checks faults.old
         (spec.missing_checks declared.now productions.now)) }
@@ -144,67 +130,40 @@ pub fn push_missing(
     Ok(())
 }
 
-/// Appends N7 if the target of a rule exists and is in `targets`, which has the targets of the
-/// earlier rules of the production. Adds the target to `targets`, unless it is there already.
+/// Appends N7 if a reference is a target that exists and is in `targets`, which has the targets of
+/// the earlier rules of the production. Adds the target to `targets`, unless it is there already.
 fn push_doubled_rule(
     faults: &mut FaultList,
     targets: &mut Targets,
-    declared: &Declared<'_>,
-    items: &[PlacedItem],
-    rule: &RawRule,
+    reference: &Reference,
 ) -> Result<(), NoMemory>
     ensures faults { OnOk result (faults.new ≡ after_checks faults.old
-        (new_target declared.now (map item_placed items.now) targets.old rule.now)) }
-    ensures added { OnOk result (targets.new ≡ with_rule declared.now (map item_placed items.now)
-        targets.old rule.now) }
+        (new_target targets.old reference.now)) }
+    ensures added { OnOk result (targets.new ≡ with_reference targets.old reference.now) }
 {
-    let is_new = add_target(targets, declared, items, rule)?;
-    let holds = is_new || !declared.has_attribute(items, &rule.target);
-    faults.push_unless(holds, NormalFault::RuleDoubled(rule.target.at))
-}
-
-/// Appends N7 for each rule with the same target as an earlier rule.
-#[tactic(auto, using(crate::proofs::Listing::after_none))]
-fn push_doubled_among(
-    alloc: Global,
-    faults: &mut FaultList,
-    declared: &Declared<'_>,
-    items: &[PlacedItem],
-    rules: &[RawRule],
-) -> Result<(), NoMemory>
-    ensures { OnOk result (faults.new ≡ after_checks faults.old
-        (checks_along (new_target declared.now (map item_placed items.now))
-        (with_rule declared.now (map item_placed items.now)) [] rules.now)) }
-{
-    let mut targets = Targets::new(alloc);
-    for rule in rules {
-        push_doubled_rule(faults, &mut targets, declared, items, rule)?;
-    }
-    Ok(())
+    let is_fresh = add_reference(targets, reference)?;
+    let holds = is_fresh || !is_there(reference);
+    faults.push_unless(holds, NormalFault::RuleDoubled(reference.at))
 }
 
 /// Appends N7 for each rule of a production with the same target as an earlier rule.
-#[tactic(auto, using(crate::proofs::Listing::after_full))]
+#[tactic(auto, using(crate::proofs::Listing::after_none, crate::proofs::Listing::after_full))]
 fn push_doubled_in(
     alloc: Global,
     faults: &mut FaultList,
-    declared: &Declared<'_>,
-    production: &RawProduction,
+    references: &[Reference],
 ) -> Result<(), NoMemory>
     ensures { OnOk result (faults.new ≡ after_checks faults.old
-        (doubled_in declared.now production.now)) }
+        (checks_along new_target with_reference [] references.now)) }
 {
     if faults.is_full() {
         return Ok(());
     }
-    let items = places_of(alloc, declared, production)?;
-    push_doubled_among(
-        alloc,
-        faults,
-        declared,
-        items.as_slice(),
-        production.rules.as_slice(),
-    )
+    let mut targets = Targets::new(alloc);
+    for reference in references {
+        push_doubled_rule(faults, &mut targets, reference)?;
+    }
+    Ok(())
 }
 
 /// Appends each fault N7: a second rule for a target of a production.
@@ -212,41 +171,13 @@ fn push_doubled_in(
 pub fn push_doubled_rules(
     alloc: Global,
     faults: &mut FaultList,
-    declared: &Declared<'_>,
-    productions: &[RawProduction],
+    productions: &[ResolvedProduction],
 ) -> Result<(), NoMemory>
     ensures { OnOk result (faults.new ≡ after_checks faults.old
-        (spec.doubled_rules declared.now productions.now)) }
+        (spec.doubled_rules productions.now)) }
 {
     for production in productions {
-        push_doubled_in(alloc, faults, declared, production)?;
+        push_doubled_in(alloc, faults, production.references.as_slice())?;
     }
     Ok(())
-}
-
-/// Appends each fault N8: a target that is inherited at place 0, or synthesized at a later place.
-pub fn push_not_defined(
-    alloc: Global,
-    faults: &mut FaultList,
-    declared: &Declared<'_>,
-    productions: &[RawProduction],
-) -> Result<(), NoMemory>
-    ensures { OnOk result (faults.new ≡ after_checks faults.old
-        (spec.not_defined_here declared.now productions.now)) }
-{
-    push_in_productions(alloc, RuleCheck::Defined, faults, declared, productions)
-}
-
-/// Appends each fault N9: an argument that is synthesized at place 0, or inherited at a later
-/// place.
-pub fn push_not_normal(
-    alloc: Global,
-    faults: &mut FaultList,
-    declared: &Declared<'_>,
-    productions: &[RawProduction],
-) -> Result<(), NoMemory>
-    ensures { OnOk result (faults.new ≡ after_checks faults.old
-        (spec.not_normal declared.now productions.now)) }
-{
-    push_in_productions(alloc, RuleCheck::Used, faults, declared, productions)
 }

@@ -1,24 +1,22 @@
 //! The declared symbols. Their names, and the names of their attributes, are looked up by hash.
-ghost use Rattle.std.specs.Prelude.{◌≡◌, ◌++◌, map, bytes_eq, IfOk, OnOk, IfSome};
+ghost use Rattle.std.specs.Prelude.{◌≡◌, ◌++◌, map, length, bytes_eq, IfOk, OnOk, IfSome};
 ghost use Rattle.std.specs.Prelude.{List, Some, None};
-ghost use Rattle.std.specs.Prelude.{slice_get, [], ◌∷◌, ◌≤◌, ◌-◌, ◌||◌};
+ghost use Rattle.std.specs.Prelude.{slice_get, [], ◌∷◌, ◌≤◌, ◌-◌};
 ghost use Rattle.std.specs.List.{list_any, range_with_len};
 ghost use Rattle.ag_grammar.specs.declared.grammar.Item.TheVariants as Item;
 ghost use Rattle.ag_grammar.specs.declared.grammar.Symbol.{Symbol};
 ghost use Rattle.ag_grammar.specs.grammars.AttributeGrammar.{attribute_names, lex_name};
 ghost use Rattle.ag_grammar.specs.grammars.AttributeGrammar.{symbol_names as attributes_of};
-ghost use Rattle.ag_grammar.specs.grammars.AttributeGrammar.{Synthesized, Inherited};
-ghost use Rattle.ag_grammar.specs.grammars.AttributeGrammar.{symbol_kinds, item_kinds};
-ghost use Rattle.ag_grammar.specs.grammars.AttributeGrammar.{defined_kind, used_kind};
+ghost use Rattle.ag_grammar.specs.grammars.AttributeGrammar.{Synthesized};
 ghost use Rattle.ag_grammar.specs.grammars.Raw.{texts_of};
 ghost use Rattle.normalform.specs.faults.Faults as spec;
-ghost use Rattle.normalform.specs.faults.Faults.{has_kind, is_kind, defined_at, exists, is_hidden};
-ghost use Rattle.normalform.specs.numbers.Numbers.{declared};
+ghost use Rattle.normalform.specs.faults.Faults.{defined_at};
+ghost use Rattle.normalform.specs.faults.Resolved.{item_placed, item_role, kind_at, role_of};
+ghost use Rattle.normalform.specs.faults.Resolved.{symbol_role};
 ghost use Rattle.normalform.specs.numbers.Numbers.{number_in, symbol_of, declared_names};
 ghost use Rattle.normalform.specs.numbers.Numbers.{target_of};
-ghost use Rattle.normalform.specs.faults.PlacedItem.{item_placed};
 
-use crate::faults::placed::PlacedItem;
+use crate::faults::resolved::{PlacedItem, Role};
 use crate::numbers::names::Names;
 use ag_grammar::{Named, Occ, RawSymbol};
 use ag_value::NoMemory;
@@ -100,6 +98,42 @@ fn lex_number(name: &str) -> usize
     if name == "lex" { 0 } else { 1 }
 }
 
+/// Returns the role of attribute `attr` at a place, of a symbol with `synthesized` synthesized and
+/// `inherited` inherited attributes.
+fn role_at(synthesized: usize, inherited: usize, attr: usize, place: usize) -> Role
+    ensures { result ≡ role_of (kind_at synthesized inherited attr) place }
+{
+    if attr < synthesized {
+        if place == 0 {
+            Role::Defined
+        } else {
+            Role::Used
+        }
+    } else if attr - synthesized < inherited {
+        if place == 0 {
+            Role::Used
+        } else {
+            Role::Defined
+        }
+    } else {
+        Role::Unknown
+    }
+}
+
+/// Returns the role of attribute `attr` of a token at a place. The only attribute of a token is
+/// `lex`, of number 0, which counts as synthesized.
+fn token_role(attr: usize, place: usize) -> Role
+    ensures { result ≡ role_of (slice_get (Synthesized ∷ []) attr) place }
+{
+    if attr > 0 {
+        Role::Unknown
+    } else if place == 0 {
+        Role::Defined
+    } else {
+        Role::Used
+    }
+}
+
 impl<'t> Declared<'t> {
     /// Makes the tables of the names of symbols and attributes.
     pub fn new(alloc: Global, symbols: &'t [RawSymbol]) -> Result<Declared<'t>, NoMemory>
@@ -121,11 +155,11 @@ impl<'t> Declared<'t> {
         self.names.number(name)
     }
 
-    /// Returns whether a symbol is declared.
-    pub fn has(&self, name: &str) -> bool
-        ensures { result ≡ list_any (bytes_eq name.now) (declared_names self.now) }
+    /// Returns the number of declared symbols.
+    pub fn count(&self) -> usize
+        ensures { result ≡ length self.now }
     {
-        self.names.has(name)
+        self.symbols.len()
     }
 
     /// Returns the number of the attribute `name` of the symbol with number `symbol`, or the count
@@ -157,41 +191,10 @@ impl<'t> Declared<'t> {
     {
         let name = occurrence.attr.as_str();
         match items.get(occurrence.place as usize) {
-            Some(PlacedItem::Symbol(symbol)) => self.attribute_of(*symbol, name),
+            Some(PlacedItem::Symbol(symbol, _)) => self.attribute_of(*symbol, name),
             Some(PlacedItem::Class(_)) => lex_number(name),
             None => 0,
         }
-    }
-
-    /// Returns whether the attribute that an occurrence names exists.
-    pub fn has_attribute(&self, items: &[PlacedItem], occurrence: &Occ) -> bool
-        ensures { result ≡ exists self.now (map item_placed items.now) occurrence.now }
-    {
-        let name = occurrence.attr.as_str();
-        match items.get(occurrence.place as usize) {
-            Some(PlacedItem::Symbol(symbol)) => self.has_attribute_of(*symbol, name),
-            Some(PlacedItem::Class(_)) => name == "lex",
-            None => false,
-        }
-    }
-
-    /// Returns whether the item at a place is a symbol that is not declared.
-    fn is_hidden(&self, items: &[PlacedItem], place: usize) -> bool
-        ensures { result ≡ is_hidden self.now (slice_get (map item_placed items.now) place) }
-    {
-        match items.get(place) {
-            Some(PlacedItem::Symbol(symbol)) => *symbol >= self.symbols.len(),
-            _ => false,
-        }
-    }
-
-    /// Returns whether the attribute that an occurrence names exists, or belongs to a symbol that is
-    /// not declared.
-    pub fn is_known(&self, items: &[PlacedItem], occurrence: &Occ) -> bool
-        ensures { result ≡ (exists self.now (map item_placed items.now) occurrence.now
-            || is_hidden self.now (slice_get (map item_placed items.now) occurrence.now.place)) }
-    {
-        self.has_attribute(items, occurrence) || self.is_hidden(items, occurrence.place as usize)
     }
 
     /// Returns the symbol with this number, if there is one.
@@ -202,84 +205,30 @@ impl<'t> Declared<'t> {
         self.symbols.get(number)
     }
 
-    /// Returns whether the symbol with number `symbol` exists, and its attribute `number` exists
-    /// and is synthesized.
-    fn synthesizes(&self, symbol: usize, number: usize) -> bool
-        ensures { result
-            ≡ is_kind Synthesized (slice_get (symbol_kinds (slice_get self.now symbol)) number) }
+    /// Returns the role of attribute `attr` of the symbol with number `symbol` at a place.
+    fn symbol_role(&self, symbol: usize, attr: usize, place: usize) -> Role
+        ensures { result ≡ symbol_role (slice_get self.now symbol) attr place }
     {
         match self.symbol(symbol) {
-            Some(raw) => number < raw.syn.as_slice().len(),
-            None => false,
+            Some(raw) => role_at(
+                raw.syn.as_slice().len(),
+                raw.inh.as_slice().len(),
+                attr,
+                place,
+            ),
+            None => Role::Hidden,
         }
     }
 
-    /// Returns whether the symbol with number `symbol` exists, and its attribute `number` exists
-    /// and is inherited.
-    fn inherits(&self, symbol: usize, number: usize) -> bool
+    /// Returns the role of attribute `attr` of the item at a place.
+    pub fn role(&self, items: &[PlacedItem], attr: usize, place: usize) -> Role
         ensures { result
-            ≡ is_kind Inherited (slice_get (symbol_kinds (slice_get self.now symbol)) number) }
-    {
-        match self.symbol(symbol) {
-            Some(raw) => {
-                let first = raw.syn.as_slice().len();
-                number >= first && number - first < raw.inh.as_slice().len()
-            }
-            None => false,
-        }
-    }
-
-    /// Returns whether the attribute `number` of the item at a place exists and is synthesized. The
-    /// only attribute of a token is `lex`, of number 0, which counts as synthesized.
-    fn is_synthesized(&self, items: &[PlacedItem], place: usize, number: usize) -> bool
-        ensures { result ≡ is_kind Synthesized (slice_get (item_kinds (declared self.now)
-            (slice_get (map item_placed items.now) place)) number) }
+            ≡ item_role self.now (slice_get (map item_placed items.now) place) attr place }
     {
         match items.get(place) {
-            Some(PlacedItem::Symbol(symbol)) => self.synthesizes(*symbol, number),
-            Some(PlacedItem::Class(_)) => number == 0,
-            None => false,
-        }
-    }
-
-    /// Returns whether the attribute `number` of the item at a place exists and is inherited.
-    fn is_inherited(&self, items: &[PlacedItem], place: usize, number: usize) -> bool
-        ensures { result ≡ is_kind Inherited (slice_get (item_kinds (declared self.now)
-            (slice_get (map item_placed items.now) place)) number) }
-    {
-        match items.get(place) {
-            Some(PlacedItem::Symbol(symbol)) => self.inherits(*symbol, number),
-            _ => false,
-        }
-    }
-
-    /// Returns whether the attribute that an occurrence names is one that the rules of a production
-    /// define: it exists, and is synthesized at place 0, or inherited at a later place.
-    pub fn is_defined_here(&self, items: &[PlacedItem], occurrence: &Occ) -> bool
-        ensures { let t = target_of self.now (map item_placed items.now) occurrence.now in
-            result ≡ has_kind self.now (map item_placed items.now) t (defined_kind t.place) }
-    {
-        let place = occurrence.place as usize;
-        let number = self.attribute(items, occurrence);
-        if place == 0 {
-            self.is_synthesized(items, place, number)
-        } else {
-            self.is_inherited(items, place, number)
-        }
-    }
-
-    /// Returns whether the attribute that an occurrence names is one that the rules of a production
-    /// may use: it exists, and is inherited at place 0, or synthesized at a later place.
-    pub fn is_used_here(&self, items: &[PlacedItem], occurrence: &Occ) -> bool
-        ensures { let t = target_of self.now (map item_placed items.now) occurrence.now in
-            result ≡ has_kind self.now (map item_placed items.now) t (used_kind t.place) }
-    {
-        let place = occurrence.place as usize;
-        let number = self.attribute(items, occurrence);
-        if place == 0 {
-            self.is_inherited(items, place, number)
-        } else {
-            self.is_synthesized(items, place, number)
+            Some(PlacedItem::Symbol(symbol, _)) => self.symbol_role(*symbol, attr, place),
+            Some(PlacedItem::Class(_)) => token_role(attr, place),
+            None => Role::Unknown,
         }
     }
 

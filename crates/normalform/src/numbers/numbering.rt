@@ -5,10 +5,11 @@ ghost use Rattle.std.specs.List.{list_any};
 ghost use Rattle.normalform.specs.faults.Faults.{IsSmall, IsListed, AreListedIn};
 ghost use Rattle.normalform.specs.numbers.Numbers as spec;
 ghost use Rattle.normalform.specs.numbers.Numbers.{declared_names, symbol_of};
-ghost use Rattle.normalform.specs.faults.PlacedItem.{item_placed};
+ghost use Rattle.normalform.specs.faults.Resolved.{item_placed};
 
 use crate::faults::limits::literals_of;
-use crate::faults::placed::{PlacedItem, places_of};
+use crate::faults::resolved::PlacedItem;
+use crate::faults::resolving::places_of;
 use crate::numbers::declared::Declared;
 use crate::numbers::names::Names;
 use ag_grammar::{
