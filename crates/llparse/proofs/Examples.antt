@@ -1,10 +1,16 @@
 -- The examples of conflicts.
 use Rattle.llparse.proofs.Common
-use Common.{◌≡◌, ℕ, zero, suc, inl, inr, refl, arith, sym, cases_eq, Production, Literal, IsProduction, of_production, here}
-use Common.{inside, HasNoConflict, IsConflict, IsChoice, IsLeastConflict}
+use Common.{ℕ, zero, suc, ◌≡◌, ◌≤◌, [], ◌∷◌, Contains, inl, inr, refl, arith, subst, sym, cases_eq, slice_get_within, Production}
+use Common.{Literal, Class, IsProduction, of_production, here, inside, HasNoConflict, IsConflict, IsChoice, IsLeastConflict}
+use Common.{Ahead, index_of}
 use Common.ahead
 use Rattle.ag_grammar.specs.grammars.Sample.{sample}
-use Rattle.llparse.specs.Worked.{left_recursive, production_more, production_one}
+use Rattle.llparse.specs.Worked.{its_conflict, left_recursive, production_more, production_one}
+use Rattle.llparse.specs.declared.table.fault.TableFault.{TableFault}
+use Rattle.llparse.specs.declared.table.fault.TableFault.TheVariants as table_fault
+use Rattle.llparse.specs.table.Conflicts.{AreConflicts, IsLeastOfPair}
+use Rattle.llparse.proofs.look_ahead.ConflictLaws.{least_for}
+use Rattle.llparse.proofs.look_ahead.Edges.{cons_cases, contains_here, contains_none}
 
 pub left_recursion : IsConflict left_recursive 0 1 (ahead.Terminal (Literal 0))
 left_recursion = record {
@@ -43,6 +49,38 @@ left_recursion_least = record {
     ]
     | inr other ↦ inl (omega arith)
   ];
+}
+
+-- the first look-ahead is `x`
+first_ahead : (y : Ahead) → index_of 1 y ≤ 0 → y ≡ ahead.Terminal (Literal 0)
+first_ahead (ahead.Terminal (Literal l)) least = let first : l ≡ 0 = omega (arith, least) in cc
+first_ahead (ahead.Terminal (Class c)) least = absurd (omega (arith, least))
+first_ahead ahead.End least = absurd (omega (arith, least))
+
+-- each conflict of the list is that of the two productions at `x`
+its_only : (f : TableFault) → IsLeastOfPair left_recursive f → its_conflict ≡ f
+its_only (table_fault.Conflict s a b x) is =
+    let c = is.conflict in
+    let less = c.earlier in
+    let within = slice_get_within left_recursive.productions b c.other c.second_is in
+    let first : a ≡ 0 = omega arith in
+    let second : b ≡ 1 = omega arith in
+    let least = is.least (ahead.Terminal (Literal 0)) (rw (first, second) left_recursion) in
+    let same : x ≡ ahead.Terminal (Literal 0) = first_ahead x least in
+    let one_is : 0 ≡ c.one.left = cc (c.first_is, first) in
+    cc (first, second, same, one_is, is.of_symbol)
+its_only table_fault.NoMemory is = absurd is
+
+pub left_recursion_listed : AreConflicts left_recursive (its_conflict ∷ [])
+left_recursion_listed = record {
+  exact = λ f. (
+    λ c. elim (cons_cases its_conflict [] f c) [
+      | inl e ↦ subst (IsLeastOfPair left_recursive) e (least_for left_recursive 0 0 1 _ left_recursion_least)
+      | inr none ↦ absurd (contains_none f none)
+    ],
+    λ is. subst (Contains (its_conflict ∷ [])) (its_only f is) (contains_here its_conflict []),
+  );
+  in_order = λ i j d lt within. absurd (omega arith);
 }
 
 -- `x` predicts production 0, since the first item of the production can begin with `x`

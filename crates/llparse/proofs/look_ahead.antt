@@ -2,6 +2,8 @@
 pub mod Choices
 pub mod Columns
 pub mod CanStart
+pub mod ConflictLaws
+pub mod Conflicts
 pub mod Edges
 pub mod Firsts
 pub mod Follows

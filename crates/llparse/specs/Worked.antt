@@ -6,6 +6,9 @@ use Rattle.ag_grammar.specs.declared.grammar.Item.{Item}
 use Rattle.ag_grammar.specs.declared.grammar.Production.{Production}
 use Rattle.ag_grammar.specs.declared.grammar.Terminal.TheVariants.{Literal}
 use Rattle.ag_grammar.specs.grammars.AttributeGrammar.{Grammar}
+use Rattle.llparse.specs.declared.ahead.Ahead.TheVariants as ahead
+use Rattle.llparse.specs.declared.table.fault.TableFault.{TableFault}
+use Rattle.llparse.specs.declared.table.fault.TableFault.TheVariants as table_fault
 use Rattle.llparse.specs.table.Tables.{Choices}
 
 -- a production of symbol 0 with this right side
@@ -30,6 +33,10 @@ left_recursive =
       classes = [];
       start = 0;
     }
+
+-- its only conflict: that of the two productions at "x"
+abbrev pub its_conflict : TableFault
+its_conflict = table_fault.Conflict 0 0 1 (ahead.Terminal (Literal 0))
 
 -- tables of a grammar with one literal and one symbol: production 0 at the literal, production 1 at the end
 abbrev pub small_tables : Choices

@@ -1,14 +1,16 @@
 //! Laws about look-ahead and trees, and worked examples, each the contract of a function that does
 //! nothing.
 
-ghost use Rattle.std.specs.Prelude.{◌≡◌, Some, None};
+ghost use Rattle.std.specs.Prelude.{◌≡◌, [], ◌∷◌, Some, None};
 ghost use Rattle.ag_grammar.specs.declared.grammar.Terminal.TheVariants.{Class, Literal};
 ghost use Rattle.ag_grammar.specs.grammars.Sample.{sample};
 ghost use Rattle.llparse.specs.Ahead.{HasNoConflict, IsConflict};
 ghost use Rattle.llparse.specs.Laws.{OneTree, TextsAreGiven, LeftTreesAreBeyondTheLimit};
+ghost use Rattle.llparse.specs.Laws.{OneListOfConflicts, EmptyIfFree, HeadIsLeast};
+ghost use Rattle.llparse.specs.table.Conflicts.{AreConflicts};
 ghost use Rattle.llparse.specs.table.Nodes.{index_of};
 ghost use Rattle.llparse.specs.table.Tables.{choice_of, IsChoice, IsLeastConflict};
-ghost use Rattle.llparse.specs.Worked.{left_recursive, small_tables};
+ghost use Rattle.llparse.specs.Worked.{its_conflict, left_recursive, small_tables};
 ghost use Rattle.llparse.specs.declared.ahead.Ahead.TheVariants as ahead;
 
 /// States that a grammar without a conflict has at most one tree with a given yield.
@@ -29,6 +31,21 @@ pub fn texts_are_given()
     ensures { TextsAreGiven }
 {}
 
+/// States that a grammar has one list of all conflicts.
+pub fn one_list_of_conflicts()
+    ensures { OneListOfConflicts }
+{}
+
+/// States that the list of all conflicts is empty exactly if the grammar has no conflict.
+pub fn empty_if_free()
+    ensures { EmptyIfFree }
+{}
+
+/// States that the head of the list of all conflicts is the least conflict.
+pub fn head_is_least()
+    ensures { HeadIsLeast }
+{}
+
 /// Worked example: the two productions `L = L "x"` and `L = "x"` conflict at `x`.
 #[tactic(auto, using(crate::proofs::Examples::left_recursion))]
 pub fn left_recursion_conflicts()
@@ -45,6 +62,12 @@ pub fn sample_is_free()
 #[tactic(auto, using(crate::proofs::Examples::left_recursion_least))]
 pub fn left_recursion_is_least()
     ensures { IsLeastConflict left_recursive 0 0 1 (ahead.Terminal (Literal 0)) }
+{}
+
+/// Worked example: the list of all conflicts of that grammar has this conflict alone.
+#[tactic(auto, using(crate::proofs::Examples::left_recursion_listed))]
+pub fn left_recursion_is_listed()
+    ensures { AreConflicts left_recursive (its_conflict ∷ []) }
 {}
 
 /// Worked example: the look-ahead `x` predicts the production `L = L "x"`.

@@ -9,6 +9,7 @@
 
 pub mod building;
 pub mod choosing;
+pub mod conflicts;
 pub mod fault;
 pub mod filling;
 pub mod first;

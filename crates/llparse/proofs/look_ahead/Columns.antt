@@ -72,18 +72,19 @@ module _ (g : Grammar) where
   index x = index_of (length g.literals) x
 
 module _ (g : Grammar) (ok : IsAccepted g) where
-  -- the columns of the first n look-aheads, with that of the next one, are the columns of the first n + 1
-  pub columns_more : (n : ℕ) (x : Ahead) (table : List (Vec (Option ℕ))) (v : Vec (Option ℕ)) → length table ≡ n
-      → IsKnownAhead g x → index g x ≡ n → IsColumn g x v.items → AreColumns g n (rows table)
-      → AreColumns g (n + 1) (rows (table ++ v ∷ []))
-  columns_more n x table v count known at_n column before = λ y k lt.
-      let many : length (rows table) ≡ n = cc (length-map table (λ (w : Vec (Option ℕ)). w.items)) in
+  -- if P holds of the rows of the first n look-aheads, and of that of the next one, it holds of the rows of the first n + 1
+  pub rows_more : {X : Type 0} (P : Ahead → List X → Type 0) (n : ℕ) (x : Ahead) (table : List (Vec X)) (v : Vec X)
+      → length table ≡ n → IsKnownAhead g x → index g x ≡ n → P x v.items
+      → ((y : Ahead) → IsKnownAhead g y → index g y < n → P y (get_or (rows table) (index g y) []))
+      → (y : Ahead) → IsKnownAhead g y → index g y < n + 1 → P y (get_or (rows (table ++ v ∷ [])) (index g y) [])
+  rows_more {X = X} P n x table v count known at_n this before = λ y k lt.
+      let many : length (rows table) ≡ n = cc (length-map table (λ (w : Vec X). w.items)) in
       elim (cases_eq (index g y) n) [
         | inl same ↦ rw (
           map-append,
           get_or_push (rows table) v.items [] (index g y) (cc),
           same_ahead g ok y x k known (cc),
-        ) column
+        ) this
         | inr other ↦
             rw (map-append, get_or_append_left (rows table) (v.items ∷ []) [] (index g y) (omega arith))
             (before y k (omega arith))

@@ -1,5 +1,6 @@
 use Rattle.llparse.proofs.Common.{◌≡◌, ◌+◌, arith, length, index_of}
-use Rattle.llparse.proofs.look_ahead.Columns.{columns_more, known_of, least_more}
+use Rattle.llparse.proofs.look_ahead.Columns.{known_of, least_more, rows_more}
+use Rattle.llparse.specs.table.Columns.{IsColumn}
 use Rattle.llparse.proofs.table.filling.columns_of.Goals as goal
 
 pub loop-index-preserved : goal.loop-index-preserved
@@ -14,7 +15,7 @@ loop-index-preserved c =
       count = omega (arith, c.in_ok-push.ensures.len, c.loop-index.invariant.count);
       columns =
           rw c.in_ok-push.ensures.items
-          (columns_more g ok c.loop-index.index x c.loop-index.choices.items c.in_ok-column.column.choices
+          (rows_more g ok (IsColumn g) c.loop-index.index x c.loop-index.choices.items c.in_ok-column.column.choices
           c.loop-index.invariant.count known at_index c.in_ok-column.ensures.column c.loop-index.invariant.columns);
       least =
           least_more g ok c.loop-index.index x known at_index c.loop-index.conflict c.in_ok-column.column.conflict
