@@ -1,7 +1,13 @@
 pub mod Agree
+pub mod AllFaults
+pub mod Continued
+pub mod Declarations
 pub mod Examples
 pub mod Expressions
 pub mod Grammars
+pub mod Lines
 pub mod Manner
 pub mod Read
+pub mod Scanning
+pub mod Suffixes
 pub mod Turns

@@ -1,5 +1,5 @@
 -- The result of parsing a text as a grammar (this project's).
-use Rattle.std.specs.Prelude.{◌≡◌, ◌≢◌, ◌+◌, ◌==◌, ℕ, nat_lt, cond, List, length, take, Result, Ok, Err, chars}
+use Rattle.std.specs.Prelude.{◌≡◌, ◌≢◌, ◌+◌, ◌==◌, ℕ, nat_lt, cond, List, [], ◌∷◌, length, map, take, Result, Ok, Err, chars}
 use Rattle.std.specs.List.{count_by}
 use Rattle.std.specs.Str.{is_utf8}
 use Rattle.std.specs.Str.Lossy.{utf8_valid_len}
@@ -16,6 +16,7 @@ use Rattle.ag_grammar.specs.grammars.Accepted.{max_text_bytes}
 use Rattle.ag_text.specs.Grammar.{ReadsAsNone}
 use Rattle.ag_text.specs.Offsets.{IsFirstWrong}
 use Rattle.ag_text.specs.Reading.{Outcome, grammar_of}
+use Rattle.ag_text.specs.Resuming.{all_faults}
 
 -- the number of line feeds (bytes 10)
 abbrev pub line_feeds : List ℕ → ℕ
@@ -68,3 +69,19 @@ IsFirstOf text f = Unit {0}
 abbrev pub IsRefused : List ℕ → TextFault → Type 0
 IsRefused text fault.NoMemory = Unit {0}
 IsRefused text f = ReadsAsNone text
+
+-- All faults of a text with these tokens: G4 alone if the text is too long, else G1 alone if it is not UTF-8, else those of the
+-- tokens.
+abbrev pub faults_in : List ℕ → Input → List TextFault
+faults_in text i =
+    cond (nat_lt max_text_bytes (length text)) (fault.TooLong ∷ [])
+    (cond (is_utf8 text) (map (fault_of text) (all_faults i)) (fault.BadUtf8 (utf8_valid_len text) ∷ []))
+
+-- The list has all faults of the text, whose tokens and ending are i. A text that is too long or not UTF-8 has such an i too,
+-- which `faults_in` doesn't use.
+abbrev pub AreFaultsOf : List ℕ → List TextFault → Type 0
+AreFaultsOf text faults = (i : Input) → Lexes 0 (chars text) i → faults_in text i ≡ faults
+
+-- the list has all faults of a text that is short enough and UTF-8
+abbrev pub AreCharacterFaults : List ℕ → List TextFault → Type 0
+AreCharacterFaults text faults = (i : Input) → Lexes 0 (chars text) i → map (fault_of text) (all_faults i) ≡ faults

@@ -4,7 +4,9 @@ pub mod Laws
 pub mod Meanings
 pub mod Offsets
 pub mod ParserContract
+pub mod Places
 pub mod Printed
 pub mod Reading
+pub mod Resuming
 pub mod Syntax
 pub mod Worked

@@ -44,6 +44,37 @@ pub fn expected_at(alloc: Global, text: &str, fault: TextFault) -> Result<Vec<Ex
     }
 }
 
+/// Returns what `expected_at` returns, but parses only the text from the byte offset `from` on, at
+/// which a rule or a declaration begins (`part_starts`). So it also serves a fault that comes after
+/// others. Fails with `NoMemory` if memory runs out.
+pub fn expected_in_part(
+    alloc: Global,
+    text: &str,
+    from: usize,
+    fault: TextFault,
+) -> Result<Vec<Expected>, NoMemory> {
+    let part = text.get(from..).unwrap_or("");
+    match fault {
+        TextFault::Unexpected(_, at) => {
+            let before = part.get(..at.saturating_sub(from)).unwrap_or("");
+            // a text that the part can follow
+            let lead = if part.starts_with('$') {
+                "start S; S = {"
+            } else {
+                "start S;"
+            };
+            let before = format!(in alloc; "{lead} {before}")?;
+            let mut found = Vec::new(alloc);
+            gather_outside(alloc, before.as_str(), &mut found)?;
+            Ok(found)
+        }
+        TextFault::Expr(ExprFault::Unexpected(at)) => {
+            expected_inside(alloc, part, at.saturating_sub(from))
+        }
+        _ => Ok(Vec::new(alloc)),
+    }
+}
+
 /// Returns what could be at a byte offset outside of expressions; an empty list if the offset is
 /// not on a character boundary. Fails with `NoMemory`.
 fn expected_outside(alloc: Global, text: &str, at: usize) -> Result<Vec<Expected>, NoMemory> {

@@ -17,7 +17,7 @@ use ag_tokens::Cursor;
 use std::alloc::Global;
 
 /// Returns the number of line feeds among the bytes.
-fn line_feeds(bytes: &[u8]) -> usize
+pub fn line_feeds(bytes: &[u8]) -> usize
     ensures { result ≡ answers.line_feeds bytes.now }
 {
     let mut count: usize = 0;
@@ -31,7 +31,7 @@ fn line_feeds(bytes: &[u8]) -> usize
 
 /// Returns the number, from 1, of the line that contains a byte offset: 1 more than the number of
 /// line feeds before the offset. An offset after the end counts as the end.
-fn line_of(text: &str, at: usize) -> usize
+pub fn line_of(text: &str, at: usize) -> usize
     ensures { result ≡ answers.line_of text.now at }
 {
     let bytes = text.as_bytes();

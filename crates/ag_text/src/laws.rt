@@ -3,7 +3,8 @@
 
 ghost use Rattle.std.specs.Prelude.{codes};
 ghost use Rattle.ag_text.specs.Grammar.{ReadsAsGrammar, ReadsAsNone};
-ghost use Rattle.ag_text.specs.Laws.{OneGrammar, ReadingAgrees, RefusesAtTheFirst};
+ghost use Rattle.ag_text.specs.Laws.{HeadIsFirst, NoFaultsOfGrammars, OneGrammar, OneListOfFaults};
+ghost use Rattle.ag_text.specs.Laws.{ReadingAgrees, RefusesAtTheFirst};
 ghost use Rattle.ag_text.specs.Syntax.{IsGrammar};
 ghost use Rattle.ag_text.specs.Worked.{constant, constant_tokens, start_alone};
 
@@ -25,6 +26,22 @@ pub fn the_first_wrong_token_is_reported()
 /// States that a text reads as at most one grammar.
 pub fn a_text_reads_as_one_grammar()
     ensures { OneGrammar }
+{}
+
+/// States that the list of all faults of a text is empty if and only if the text is a grammar.
+#[tactic(auto, using(crate::proofs::AllFaults::no_faults))]
+pub fn only_grammars_have_no_faults()
+    ensures { NoFaultsOfGrammars }
+{}
+
+/// States that the list of all faults of a text begins with the fault of parsing it as a grammar.
+pub fn the_list_begins_with_the_first_fault()
+    ensures { HeadIsFirst }
+{}
+
+/// States that a text has one list of all faults.
+pub fn a_text_has_one_list_of_faults()
+    ensures { OneListOfFaults }
 {}
 
 /// States that the text `start S;` reads as a grammar without symbols or productions.

@@ -8,12 +8,15 @@ ghost use Rattle.ag_tokens.specs.declared.token.Punctuation.TheVariants as punct
 ghost use Rattle.ag_expr.proofs.reading.Steady.{Shortens};
 ghost use Rattle.ag_text.specs.ParserContract.{Reads};
 ghost use Rattle.ag_text.specs.Reading as reading;
+ghost use Rattle.ag_text.specs.Resuming as resuming;
 ghost use Rattle.ag_text.specs.Meanings as meanings;
 
+use crate::declaration::Declaration;
 use crate::reader::ended_expr;
 use crate::stop::Stop;
 use crate::tokens::{
-    expect, expect_end, expect_word, item, name, sees_any, sees_mark, sees_other, sees_word, target,
+    expect, expect_end, expect_word, item, name, sees_any, sees_mark, sees_occurrence, sees_other,
+    sees_word, target,
 };
 use ag_grammar::{Named, RawGrammar, RawItem, RawProduction, RawRule, RawSymbol};
 use ag_tokens::{Cursor, Punctuation};
@@ -194,4 +197,56 @@ pub fn whole_grammar(alloc: Global, cursor: &mut Cursor<'_>) -> Result<RawGramma
     let grammar = grammar(alloc, cursor)?;
     expect_end(cursor)?;
     Ok(grammar)
+}
+
+/// A declaration of either kind; only the end of the tokens ends the declarations.
+impl Repeated for Declaration {
+    ghost begins = { reading.is_any };
+
+    ghost part = { resuming.declaration_from };
+
+    fn occurs(cursor: &Cursor<'_>) -> bool {
+        sees_any(cursor)
+    }
+
+    #[tactic(auto, unfolding(crate::specs::Resuming::declaration_from))]
+    fn parse(alloc: Global, cursor: &mut Cursor<'_>) -> Result<Declaration, Stop> {
+        if sees_word(cursor, "symbol") {
+            let symbol = RawSymbol::parse(alloc, cursor)?;
+            return Ok(Declaration::Symbol(symbol));
+        }
+        let production = RawProduction::parse(alloc, cursor)?;
+        Ok(Declaration::Production(production))
+    }
+}
+
+/// Parses rules and the `}` after them.
+#[tactic(auto, using(crate::proofs::Grammars::rule_shortens), unfolding(crate::specs::Resuming::rules_end_from))]
+fn rules_end(alloc: Global, cursor: &mut Cursor<'_>) -> Result<(), Stop>
+    ensures { Reads resuming.rules_end_from cursor.old result cursor.new }
+{
+    let _rules: Items<RawRule> = parts(alloc, cursor)?;
+    expect(cursor, Punctuation::CloseTable)
+}
+
+/// Parses the rest of a production, with its `}`, if a rule comes next. Otherwise reads nothing.
+#[tactic(auto, unfolding(crate::specs::Resuming::open_rules_from))]
+fn open_rules(alloc: Global, cursor: &mut Cursor<'_>) -> Result<(), Stop>
+    ensures { Reads resuming.open_rules_from cursor.old result cursor.new }
+{
+    if sees_occurrence(cursor) {
+        return rules_end(alloc, cursor);
+    }
+    Ok(())
+}
+
+/// Parses the rest of a text from a rule or declaration on: after a rule, the rest of its
+/// production; then declarations in any order, and the end of the text.
+#[tactic(auto, using(crate::proofs::Declarations::declaration_shortens), unfolding(crate::specs::Resuming::rest_from))]
+pub fn rest_of_text(alloc: Global, cursor: &mut Cursor<'_>) -> Result<(), Stop>
+    ensures { Reads resuming.rest_from cursor.old result cursor.new }
+{
+    open_rules(alloc, cursor)?;
+    let _declarations: Items<Declaration> = parts(alloc, cursor)?;
+    expect_end(cursor)
 }

@@ -8,6 +8,7 @@ ghost use Rattle.ag_tokens.specs.GrammarToken as token;
 ghost use Rattle.ag_tokens.specs.Tokens.{is_separator};
 ghost use Rattle.ag_text.specs.ParserContract.{Reads};
 ghost use Rattle.ag_text.specs.Reading as reading;
+ghost use Rattle.ag_text.specs.Resuming as resuming;
 ghost use Rattle.ag_text.specs.Meanings as meanings;
 ghost use Rattle.ag_text.specs.declared.stop.Stop.TheVariants as stop;
 
@@ -19,7 +20,7 @@ use ag_value::{NoMemory, Text};
 use std::alloc::Global;
 
 /// Returns whether a name is reserved in a grammar's text.
-fn is_reserved(name: &str) -> bool
+pub fn is_reserved(name: &str) -> bool
     ensures { result ≡ meanings.is_reserved name.now }
 {
     name == "start"
@@ -74,6 +75,13 @@ pub fn sees_any(cursor: &Cursor<'_>) -> bool
     ensures { result ≡ sees reading.is_any cursor.now }
 {
     cursor.peek().is_some()
+}
+
+/// Returns whether the next token is an occurrence.
+pub fn sees_occurrence(cursor: &Cursor<'_>) -> bool
+    ensures { result ≡ sees resuming.is_occurrence cursor.now }
+{
+    matches!(cursor.peek(), Some(GrammarToken::Occurrence(_, _)))
 }
 
 /// Reads this punctuation. Fails with `WrongAt` if the next token is not this punctuation, or if
