@@ -22,10 +22,13 @@ after_bytes p (byte ∷ bytes) = after_bytes (after_byte p byte) bytes
 abbrev pub position_at : (text : List ℕ) → (at : ℕ) → Position
 position_at text at = after_bytes (record { line = 1; column = 1 }) (take at text)
 
--- the position in the file of an offset in a text that begins in some line of the file
+-- the position in the file of a position in a text that begins in some line of the file
+abbrev pub in_file : Source → Position → Position
+in_file source p = record { line = p.line + (source.first_line - 1); column = p.column }
+
+-- the position in the file of an offset in the text
 abbrev pub position_in : Source → (at : ℕ) → Position
-position_in source at =
-    let p = position_at source.bytes.now at in record { line = p.line + (source.first_line - 1); column = p.column }
+position_in source at = in_file source (position_at source.bytes.now at)
 
 -- ---- worked examples: in the text `é`, LF, `b`, which has four bytes
 

@@ -1,7 +1,7 @@
 //! Positions in texts, and the files that contain the texts.
 
 ghost use Rattle.std.specs.Prelude.{◌≡◌, ◌+◌, ◌<◌, ◌^◌, IsUtf8};
-ghost use Rattle.message_parts.specs.Positions.{after_byte, is_continuation, position_at, position_in};
+ghost use Rattle.message_parts.specs.Positions.{after_byte, in_file, is_continuation, position_at, position_in};
 
 use crate::display::{PlainText, utf8_prefix};
 use std::fmt;
@@ -131,7 +131,16 @@ impl<'a> Source<'a> {
         ensures { IsUtf8 self.now.bytes.now → (position_in self.now at).line < 2 ^ 64
             → result ≡ position_in self.now at }
     {
-        let position = Position::of(self.text(), at);
+        self.position_in(self.text(), at)
+    }
+
+    /// Returns the position of an offset in bytes from the beginning of `text`, which is what
+    /// `Source::text` returns, with the line in the file. `position` finds `text` anew each time.
+    pub fn position_in(&self, text: &str, at: usize) -> Position
+        ensures { (in_file self.now (position_at text.now at)).line < 2 ^ 64
+            → result ≡ in_file self.now (position_at text.now at) }
+    {
+        let position = Position::of(text, at);
         Position {
             line: position
                 .line

@@ -6,5 +6,6 @@ pub mod left_recursion;
 pub mod limits;
 pub mod lookup;
 pub mod normal;
+pub mod related;
 pub mod stuck;
 pub mod texts;

@@ -3,8 +3,8 @@
 //!
 //! A function `describe_..` writes the parts of the message of a fault. There are such functions
 //! for the faults whose numbers begin with X, G, N, L, A, S or P, for R1 and for O1. Faults of
-//! expressions and sentences, and those of grammars except A1, also have a function that locates
-//! them (`locate_..`).
+//! expressions and sentences have a function that locates them (`locate_..`), and those of grammars
+//! one that returns their offset (`offset_..`).
 //!
 //! If memory is refused, a function that returns a `Result` fails, unless its comment says that it
 //! writes less or nothing. Most names of symbols and attributes are written as they are. Other
@@ -20,6 +20,7 @@ pub mod found;
 pub mod grammar_text;
 pub mod grammars;
 pub mod hints;
+pub mod positions;
 pub mod sentences;
 pub mod terminals;
 pub mod trees;

@@ -5,9 +5,9 @@ use crate::grammars::left_recursion::{direct_recursion_of, left_recursion_of};
 use crate::terminals::write_ahead;
 use ag_grammar::{Grammar, RawGrammar, RawItem, RawProduction};
 use llparse::{Ahead, TableFault};
+use message_parts::Parts;
 use message_parts::classes::class_name;
 use message_parts::display::QuotedText;
-use message_parts::{Location, Parts};
 use std::alloc::{AllocError, Global};
 
 /// Names for a new symbol that derives what follows the first item of a list.
@@ -47,15 +47,11 @@ fn conflict_of<'a>(fault: TableFault, raw: &'a RawGrammar) -> Option<Conflict<'a
     }
 }
 
-/// Returns the location of the first of the two productions. `InFault` if it is not known.
-pub fn locate_conflict(fault: TableFault, text: &GrammarText<'_>) -> Location {
-    match &text.raw {
-        Some(raw) => match conflict_of(fault, raw) {
-            Some(conflict) => text.location(conflict.first.left.at),
-            None => Location::InFault,
-        },
-        None => Location::InFault,
-    }
+/// Returns the offsets in bytes of the left sides of the two productions. None if these are not
+/// known.
+pub fn offsets_of_conflict(fault: TableFault, raw: &RawGrammar) -> Option<(usize, usize)> {
+    let conflict = conflict_of(fault, raw)?;
+    Some((conflict.first.left.at, conflict.second.left.at))
 }
 
 /// Describes L1: the two productions, the look-ahead that predicts both, and what to do. Writes
@@ -71,8 +67,8 @@ pub fn describe_conflict(
     let Some(conflict) = conflict_of(fault, raw) else {
         return Ok(());
     };
-    match text.numbered() {
-        Some(grammar) => describe(parts, &conflict, &grammar, text),
+    match &text.numbered {
+        Some(grammar) => describe(parts, &conflict, grammar, text),
         None => Ok(()),
     }
 }

@@ -5,6 +5,7 @@
 //! it looks for does not exist.
 
 use ag_grammar::{Named, Occ, RawGrammar, RawItem, RawProduction, RawRule, RawSymbol, occurrences};
+use normalform::NormalFault;
 use std::fmt;
 
 /// An occurrence, which prints as it is written.
@@ -79,17 +80,21 @@ fn name_among(names: &[Named], at: usize) -> Option<&Named> {
     None
 }
 
+/// Returns the last production that begins at or before this offset. (Productions are in the order
+/// of their offsets.)
+fn production_with(raw: &RawGrammar, at: usize) -> Option<&RawProduction> {
+    let productions = raw.productions.as_slice();
+    let after = productions.partition_point(|production| production.left.at <= at);
+    productions.get(after.checked_sub(1)?)
+}
+
 /// Returns the symbol's name at this offset in a production.
 pub fn name_at(raw: &RawGrammar, at: usize) -> Option<&Named> {
-    for production in raw.productions.as_slice() {
-        if production.left.at == at {
-            return Some(&production.left);
-        }
-        if let Some(name) = item_at(production, at) {
-            return Some(name);
-        }
+    let production = production_with(raw, at)?;
+    if production.left.at == at {
+        return Some(&production.left);
     }
-    None
+    item_at(production, at)
 }
 
 /// Returns the symbol's name at this offset on a right side.
@@ -105,15 +110,11 @@ fn item_at(production: &RawProduction, at: usize) -> Option<&Named> {
 
 /// Returns the occurrence at this offset, with its production.
 pub fn placed_at(raw: &RawGrammar, at: usize) -> Option<PlacedOccurrence<'_>> {
-    for production in raw.productions.as_slice() {
-        if let Some(occurrence) = occurrence_at(production, at) {
-            return Some(PlacedOccurrence {
-                production,
-                occurrence,
-            });
-        }
-    }
-    None
+    let production = production_with(raw, at)?;
+    Some(PlacedOccurrence {
+        production,
+        occurrence: occurrence_at(production, at)?,
+    })
 }
 
 /// Returns the occurrence at this offset in a production.
@@ -153,5 +154,37 @@ pub fn at_place<'a>(
         RawItem::Name(name) => Some(AtPlace::Symbol(symbol_named(raw, name.name.as_str())?)),
         RawItem::Literal(_) => None,
         RawItem::Class(_) => Some(AtPlace::Class),
+    }
+}
+
+/// A rule that a production lacks: that for an attribute of the symbol at a place.
+#[derive(Clone, Copy)]
+pub struct MissingRule<'a> {
+    pub place: usize,
+    pub symbol: &'a RawSymbol,
+    /// The number of the attribute in the symbol (`RawSymbol::attribute_name`).
+    pub attribute: usize,
+}
+
+/// Returns the rule that is missing, if a fault is N6 of the production `number`.
+pub fn missing_in<'a>(
+    raw: &'a RawGrammar,
+    fault: &NormalFault,
+    number: usize,
+) -> Option<MissingRule<'a>> {
+    let NormalFault::RuleMissing(of, place, attribute) = fault else {
+        return None;
+    };
+    if *of != number {
+        return None;
+    }
+    let production = raw.productions.as_slice().get(number)?;
+    match at_place(raw, production, *place)? {
+        AtPlace::Symbol(symbol) => Some(MissingRule {
+            place: *place,
+            symbol,
+            attribute: *attribute,
+        }),
+        AtPlace::Class => None,
     }
 }

@@ -4,13 +4,13 @@ use crate::grammar_text::GrammarText;
 use crate::grammars::endless::endless_symbols;
 use crate::grammars::limits::{describe_limit, offset_of_limit};
 use crate::grammars::lookup::{
-    AsWritten, AtPlace, PlacedOccurrence, at_place, attribute_at, has_production, name_at,
-    placed_at, symbol_named, symbol_with,
+    AsWritten, AtPlace, PlacedOccurrence, at_place, attribute_at, has_production, missing_in,
+    name_at, placed_at, symbol_named, symbol_with,
 };
 use crate::terminals::entry_count;
 use ag_grammar::{Named, RawGrammar, RawProduction, RawSymbol};
+use message_parts::Parts;
 use message_parts::display::MAX_NAMED;
-use message_parts::{Location, Parts};
 use normalform::NormalFault;
 use std::alloc::{AllocError, Global};
 
@@ -27,22 +27,12 @@ const CLASSES_ELSEWHERE: [&str; 9] = [
     "string",
 ];
 
-/// Returns the location of the name, the occurrence or the production for which a grammar is
-/// refused, or `Whole` if the whole grammar exceeds a limit or the fault is NoMemory. `InFault` if
-/// `text` has no raw grammar, since memory for reading it again was refused.
-pub fn locate_in_grammar(fault: &NormalFault, text: &GrammarText<'_>) -> Location {
-    let Some(raw) = &text.raw else {
-        return Location::InFault;
-    };
-    match offset_of(fault, raw) {
-        Some(at) => text.location(at),
-        None => Location::Whole,
-    }
-}
+/// How all faults of a grammar are listed.
+const LISTING: &str = "`check --all` lists all faults";
 
 /// Returns the offset in bytes of the name, the occurrence or the production for which a grammar is
 /// refused. None if the whole grammar exceeds a limit, or for NoMemory.
-fn offset_of(fault: &NormalFault, raw: &RawGrammar) -> Option<usize> {
+pub fn offset_in_grammar(fault: &NormalFault, raw: &RawGrammar) -> Option<usize> {
     match fault {
         NormalFault::UnknownName(at)
         | NormalFault::DoubledName(at)
@@ -99,8 +89,14 @@ fn write_further(help: &mut String, further: usize) -> Result<(), AllocError> {
     let separator = if help.is_empty() { "" } else { ", " };
     match further {
         0 => Ok(()),
-        1 => write!(help, "{separator}1 more place has the same fault"),
-        _ => write!(help, "{separator}{further} more places have the same fault"),
+        1 => write!(
+            help,
+            "{separator}1 more place has the same fault ({LISTING})"
+        ),
+        _ => write!(
+            help,
+            "{separator}{further} more places have the same fault ({LISTING})"
+        ),
     }
 }
 
@@ -377,47 +373,30 @@ fn describe_missing(
         ("rules", "add them")
     };
     write!(parts.found, "this production of `{left}` lacks the {noun} ")?;
-    write_rules(&mut parts.found, text, raw, number, production)?;
+    write_rules(&mut parts.found, text, raw, number)?;
     if !text.lists_all {
         write_others(&mut parts.found, others)?;
     }
     parts.help.push_str(help)
 }
 
-/// Writes the rules that a production lacks, as they would be written.
+/// Writes the rules that the production `number` lacks, as they would be written.
 fn write_rules(
     out: &mut String,
     text: &GrammarText<'_>,
     raw: &RawGrammar,
     number: usize,
-    production: &RawProduction,
 ) -> Result<(), AllocError> {
     let mut separator = "";
     for fault in text.faults() {
-        let NormalFault::RuleMissing(of, place, attribute) = fault else {
-            continue;
-        };
-        if let Some(name) = attribute_of(raw, production, *place, *attribute)
-            && *of == number
+        if let Some(missing) = missing_in(raw, fault, number)
+            && let Some(name) = missing.symbol.attribute_name(missing.attribute)
         {
-            write!(out, "{separator}`${place}.{name} = ..;`")?;
+            write!(out, "{separator}`${}.{name} = ..;`", missing.place)?;
             separator = ", ";
         }
     }
     Ok(())
-}
-
-/// Returns the name of an attribute, by its number, of the symbol at a place of a production.
-fn attribute_of<'a>(
-    raw: &'a RawGrammar,
-    production: &RawProduction,
-    place: usize,
-    attribute: usize,
-) -> Option<&'a str> {
-    match at_place(raw, production, place)? {
-        AtPlace::Symbol(symbol) => symbol.attribute_name(attribute),
-        AtPlace::Class => None,
-    }
 }
 
 /// Writes the number of rules that other productions lack.

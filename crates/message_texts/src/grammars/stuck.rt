@@ -32,13 +32,17 @@ pub fn describe_stuck(
     }
 }
 
-/// Describes A1 by the direction with fewer rules that wait for no other rule.
-fn describe_fewest(
-    parts: &mut Parts,
-    stuck: &Stuck,
-    raw: &RawGrammar,
-    source: &Source<'_>,
-) -> Result<(), AllocError> {
+/// Returns the offset in bytes of the first rule that the message of A1 names. None if it names
+/// none.
+pub fn offset_of_stuck(stuck: &Stuck, text: &GrammarText<'_>) -> Option<usize> {
+    let fewest = fewest_strikes(stuck, text.raw.as_ref()?);
+    let mut strikes = fewest.strikes.iter();
+    let obstacle = strikes.find_map(|strike| fewest.obstacle(*strike))?;
+    Some(obstacle.target.at)
+}
+
+/// Returns the strikes of the direction with fewer rules that wait for no other rule.
+fn fewest_strikes<'a>(stuck: &'a Stuck, raw: &'a RawGrammar) -> DirectionStrikes<'a> {
     let first = DirectionStrikes {
         direction: Direction::RightToLeft,
         strikes: stuck.odd.as_slice(),
@@ -49,15 +53,24 @@ fn describe_fewest(
         strikes: stuck.even.as_slice(),
         raw,
     };
-    let fewest = if second.count() < first.count() {
+    if second.count() < first.count() {
         second
     } else {
         first
-    };
+    }
+}
+
+/// Describes A1 by the direction with fewer rules that wait for no other rule.
+fn describe_fewest(
+    parts: &mut Parts,
+    stuck: &Stuck,
+    raw: &RawGrammar,
+    source: &Source<'_>,
+) -> Result<(), AllocError> {
     parts.found.push_str(
         "no number of passes computes these attributes (a value depends on itself, or an attribute needs different passes at different nodes)",
     )?;
-    fewest.describe(parts, source)
+    fewest_strikes(stuck, raw).describe(parts, source)
 }
 
 /// Why a pass reaches a rule for a child's attribute before an argument of the rule is computed.

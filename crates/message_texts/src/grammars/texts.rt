@@ -7,9 +7,9 @@ use crate::grammar_text::GrammarText;
 use crate::hints::Context;
 use ag_expr::{ExpectedPart as Part, ExprFault};
 use ag_grammar::limits::MAX_TEXT_BYTES;
-use ag_text::{Expected, TextFault, expected_at};
+use ag_text::{Expected, TextFault, expected_at, expected_in_part};
+use message_parts::Parts;
 use message_parts::display::FoundText;
-use message_parts::{Location, Parts};
 use std::alloc::AllocError;
 
 /// What a literal needs.
@@ -19,17 +19,9 @@ const LITERAL_NEEDS: &str =
 /// What a writer may have meant by a name that no `let` binds.
 const ATTRIBUTE: &str = "an attribute is written with its place, as in `$1.s`";
 
-/// Returns the location of a fault of a grammar's text. `Whole` if the text is too long, or if
+/// Returns the offset in bytes of a fault of a grammar's text. None if the text is too long, or if
 /// memory was refused.
-pub fn locate_in_text(fault: TextFault, text: &GrammarText<'_>) -> Location {
-    match offset_of(fault) {
-        Some(at) => text.location(at),
-        None => Location::Whole,
-    }
-}
-
-/// Returns the offset in bytes of a fault of a grammar's text. None if the fault has none.
-fn offset_of(fault: TextFault) -> Option<usize> {
+pub fn offset_in_text(fault: TextFault) -> Option<usize> {
     match fault {
         TextFault::BadUtf8(at) | TextFault::Unexpected(_, at) => Some(at),
         TextFault::Expr(fault) => offset_in(fault),
@@ -44,8 +36,12 @@ pub fn describe_text(
     fault: TextFault,
     text: &GrammarText<'_>,
 ) -> Result<(), AllocError> {
-    let context = Context::of(text.text, offset_of(fault));
-    match expected_at(text.alloc, text.text, fault) {
+    let context = Context::of(text.text, offset_in_text(fault));
+    let expected = match text.part_with(offset_in_text(fault)) {
+        Some(from) => expected_in_part(text.alloc, text.text, from, fault),
+        None => expected_at(text.alloc, text.text, fault),
+    };
+    match expected {
         Ok(expected) => describe_in(parts, fault, &context, expected.as_slice()),
         Err(_) => describe_in(parts, fault, &context, &[]),
     }
