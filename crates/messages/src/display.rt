@@ -104,7 +104,7 @@ fn write_part<W: fmt::Write>(f: &mut fmt::Formatter<W>, separator: &str, part: &
 
 /// Returns the separator before the part that comes after `part`: a comma and a space. If `part` is
 /// empty, it isn't printed, and the result is `separator`, the one before `part`.
-fn next_separator<'a>(separator: &'a str, part: &str) -> &'a str
+pub(crate) fn next_separator<'a>(separator: &'a str, part: &str) -> &'a str
     ensures { result.now ≡ next_separator separator.now part.now }
 {
     if part.is_empty() { separator } else { ", " }

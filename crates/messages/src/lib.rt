@@ -10,9 +10,10 @@
 #![tactic(auto)]
 
 mod display;
+mod pieces;
 mod refusals;
 mod report;
 
 pub use message_parts::{Position, Source};
-pub use refusals::ConvertedPaths;
+pub use refusals::{ConvertedPaths, offset_of_fault};
 pub use report::FaultReport;

@@ -10,10 +10,10 @@ use llparse::Tables;
 use message_parts::{Location, Parts, Source};
 use message_texts::expressions::{describe_expression, locate_in_expression};
 use message_texts::grammar_text::GrammarText;
-use message_texts::grammars::conflicts::{describe_conflict, locate_conflict};
-use message_texts::grammars::normal::{describe_normal, locate_in_grammar};
+use message_texts::grammars::conflicts::{describe_conflict, offsets_of_conflict};
+use message_texts::grammars::normal::{describe_normal, offset_in_grammar};
 use message_texts::grammars::stuck::describe_stuck;
-use message_texts::grammars::texts::{describe_text, locate_in_text};
+use message_texts::grammars::texts::{describe_text, offset_in_text};
 use message_texts::sentences::parsing::{ParsedSentence, describe_parse, locate_in_sentence};
 use message_texts::sentences::scanning::{describe_scan, locate_token};
 use message_texts::trees::damage::{TreeFormat, describe_damage};
@@ -69,7 +69,7 @@ impl FaultReport {
     pub fn of_grammar(alloc: Global, fault: Fault, source: Source<'_>) -> FaultReport
         ensures { result.fault ≡ fault }
     {
-        FaultReport::of_read_grammar(alloc, fault, &GrammarText::new(alloc, source, false))
+        FaultReport::of_read_grammar(alloc, fault, &GrammarText::new(alloc, source))
     }
 
     /// Returns the report of a fault of the text of a grammar that was read again.
@@ -205,13 +205,25 @@ impl FaultReport {
     }
 }
 
-/// Returns the location of a fault of the text of a grammar. Returns `InFault` for A1, and for a
-/// fault that is not one of a grammar.
-fn locate_fault_of_grammar(fault: &Fault, text: &GrammarText<'_>) -> Location {
+/// Returns the offset in bytes of a fault of the text of a grammar. None for A1, for a fault of the
+/// whole text, and for a fault that is not one of a grammar. Also None for N1 to N10 and L1 if
+/// `text` has no grammar, since memory for reading it again was refused.
+pub fn offset_of_fault(fault: &Fault, text: &GrammarText<'_>) -> Option<usize> {
     match fault {
-        Fault::Text(fault) => locate_in_text(*fault, text),
-        Fault::Normal(fault) => locate_in_grammar(fault, text),
-        Fault::Table(fault) => locate_conflict(*fault, text),
+        Fault::Text(fault) => offset_in_text(*fault),
+        Fault::Normal(fault) => offset_in_grammar(fault, text.raw.as_ref()?),
+        Fault::Table(fault) => Some(offsets_of_conflict(*fault, text.raw.as_ref()?)?.0),
+        _ => None,
+    }
+}
+
+/// Returns the location of a fault of the text of a grammar: `Whole` if the whole text is too long
+/// or exceeds a limit.
+fn locate_fault_of_grammar(fault: &Fault, text: &GrammarText<'_>) -> Location {
+    match (offset_of_fault(fault, text), fault) {
+        (Some(at), _) => text.location(at),
+        (None, Fault::Text(_)) => Location::Whole,
+        (None, Fault::Normal(_)) if text.raw.is_some() => Location::Whole,
         _ => Location::InFault,
     }
 }

@@ -1,6 +1,6 @@
 //! The report of a fault, which prints as one line.
 
-ghost use Rattle.std.specs.Prelude.{◌≡◌};
+ghost use Rattle.std.specs.Prelude.{◌≡◌, None, OnOk};
 
 use ag_fault::Fault;
 use message_parts::display::PlainText;
@@ -26,6 +26,7 @@ impl FaultReport {
     pub fn new(alloc: Global, fault: Fault) -> FaultReport
         ensures fault { result.fault ≡ fault }
         ensures location { result.location ≡ Location.InFault }
+        ensures file { result.file ≡ None }
     {
         FaultReport {
             fault,
@@ -40,6 +41,7 @@ impl FaultReport {
     pub fn with_file(mut self, alloc: Global, path: &str) -> FaultReport
         ensures fault { result.fault ≡ self.fault }
         ensures location { result.location ≡ self.location }
+        ensures parts { result.parts ≡ self.parts }
     {
         self.file = PlainText(path).to_string(alloc).ok();
         self
@@ -51,6 +53,7 @@ impl FaultReport {
     pub fn with_location(mut self, alloc: Global, location: Location, name: &str) -> FaultReport
         ensures fault { result.fault ≡ self.fault }
         ensures location { result.location ≡ location }
+        ensures parts { result.parts ≡ self.parts }
     {
         self.location = location;
         match location {
@@ -64,6 +67,8 @@ impl FaultReport {
     pub fn or_bare(mut self, written: Result<(), AllocError>) -> FaultReport
         ensures fault { result.fault ≡ self.fault }
         ensures location { result.location ≡ self.location }
+        ensures file { result.file ≡ self.file }
+        ensures parts { OnOk written (result.parts ≡ self.parts) }
     {
         if written.is_err() {
             self.parts.clear();
