@@ -25,6 +25,7 @@ _aggen() {
                 check--color) value='words auto always never' ;;
                 check--most) value='none' ;;
                 plan--color) value='words auto always never' ;;
+                plan--most) value='none' ;;
                 why--color) value='words auto always never' ;;
                 code--color) value='words auto always never' ;;
                 parse--color) value='words auto always never' ;;
@@ -55,8 +56,8 @@ _aggen() {
             'run') kind='words --color -o --output --out-dir -q --quiet --work -h --help' ;;
             'eval') kind='words --color -o --output -q --quiet --work -h --help' ;;
             'value') kind='words --color -q --quiet -h --help' ;;
-            'check') kind='words --all --color --most -q --quiet -h --help' ;;
-            'plan') kind='words --color -q --quiet -h --help' ;;
+            'check') kind='words --all --color --most -q --quiet --json -h --help' ;;
+            'plan') kind='words --all --color --most -q --quiet --json -h --help' ;;
             'why') kind='words --color -q --quiet -h --help' ;;
             'code') kind='words --color -q --quiet -h --help' ;;
             'parse') kind='words --color -q --quiet -h --help' ;;

@@ -11,7 +11,7 @@ function __aggen_is_at
         if test $is_value = yes
             set is_value no
         else if string match -q -- '-?*' $word
-            if contains -- "$command$word" --color run--color run-o run--output run--out-dir run--work eval--color eval-o eval--output eval--work value--color check--color check--most plan--color why--color code--color parse--color show--color show--depth show--node show--only show--width explain--color explain--node explain--width explain--sentence explain--at upgrade--color
+            if contains -- "$command$word" --color run--color run-o run--output run--out-dir run--work eval--color eval-o eval--output eval--work value--color check--color check--most plan--color plan--most why--color code--color parse--color show--color show--depth show--node show--only show--width explain--color explain--node explain--width explain--sentence explain--at upgrade--color
                 set is_value yes
             end
         else if test -z "$command"
@@ -62,14 +62,18 @@ complete -c aggen -n '__aggen_is_at eval 1' -F
 complete -c aggen -n "__aggen_is_at 'value'" -l color -x -a 'auto always never' -d 'Marks the number and the place in messages; without it, on a terminal only'
 complete -c aggen -n "__aggen_is_at 'value'" -s q -l quiet -d 'Shows no progress, and prints no refusal but those of the command line'
 complete -c aggen -n "__aggen_is_at 'value'" -s h -l help -d 'Print help'
-complete -c aggen -n "__aggen_is_at 'check'" -l all -d 'Lists all faults N1 to N10 of the grammar, not only the first'
+complete -c aggen -n "__aggen_is_at 'check'" -l all -d 'Lists all faults of the grammar, not only the first'
 complete -c aggen -n "__aggen_is_at 'check'" -l color -x -a 'auto always never' -d 'Marks the number and the place in messages; without it, on a terminal only'
 complete -c aggen -n "__aggen_is_at 'check'" -l most -x -d 'Lists at most N faults, 100 without it'
 complete -c aggen -n "__aggen_is_at 'check'" -s q -l quiet -d 'Shows no progress, and prints no refusal but those of the command line'
+complete -c aggen -n "__aggen_is_at 'check'" -l json -d 'Prints each fault as a JSON object in one line, on standard output'
 complete -c aggen -n "__aggen_is_at 'check'" -s h -l help -d 'Print help'
 complete -c aggen -n '__aggen_is_at check 0' -k -a '(__fish_complete_suffix .ag)'
+complete -c aggen -n "__aggen_is_at 'plan'" -l all -d 'Lists all faults of the grammar, not only the first'
 complete -c aggen -n "__aggen_is_at 'plan'" -l color -x -a 'auto always never' -d 'Marks the number and the place in messages; without it, on a terminal only'
+complete -c aggen -n "__aggen_is_at 'plan'" -l most -x -d 'Lists at most N faults, 100 without it'
 complete -c aggen -n "__aggen_is_at 'plan'" -s q -l quiet -d 'Shows no progress, and prints no refusal but those of the command line'
+complete -c aggen -n "__aggen_is_at 'plan'" -l json -d 'Prints each fault as a JSON object in one line, on standard output'
 complete -c aggen -n "__aggen_is_at 'plan'" -s h -l help -d 'Print help'
 complete -c aggen -n '__aggen_is_at plan 0' -k -a '(__fish_complete_suffix .ag)'
 complete -c aggen -n "__aggen_is_at 'why'" -l color -x -a 'auto always never' -d 'Marks the number and the place in messages; without it, on a terminal only'

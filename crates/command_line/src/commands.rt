@@ -4,7 +4,7 @@
 
 use crate::argument::{Argument, Form, PLAIN, args_of};
 use crate::tree_options::{
-    AS_JSON, DEPTH_LIMIT, ERROR_RULES, NODE_ATTRIBUTES, NODE_PATH, ONLY_ATTRIBUTE, PLACE,
+    AS_JSON, DEPTH_LIMIT, ERROR_RULES, JSON, NODE_ATTRIBUTES, NODE_PATH, ONLY_ATTRIBUTE, PLACE,
     PLACE_SENTENCE, WIDTH_LIMIT,
 };
 use clap::error::ErrorKind;
@@ -157,7 +157,7 @@ const WORK_FOLDER: Argument = Argument {
 const ALL_FAULTS: Argument = Argument {
     name: ALL,
     form: Form::Flag,
-    help: "Lists all faults N1 to N10 of the grammar, not only the first",
+    help: "Lists all faults of the grammar, not only the first",
     ..PLAIN
 };
 
@@ -166,6 +166,15 @@ const FAULT_LIMIT: Argument = Argument {
     name: MOST,
     form: Form::Value("N"),
     help: "Lists at most N faults, 100 without it",
+    needs: &[ALL],
+    ..PLAIN
+};
+
+/// The option that prints the faults of a grammar as JSON.
+const FAULTS_AS_JSON: Argument = Argument {
+    name: JSON,
+    form: Form::Flag,
+    help: "Prints each fault as a JSON object in one line, on standard output",
     needs: &[ALL],
     ..PLAIN
 };
@@ -219,13 +228,13 @@ const COMMANDS: &[Entry] = &[
     Entry {
         name: "check",
         about: "Checks a grammar, and prints the number of its symbols and of its productions",
-        arguments: &[GRAMMAR_FILE, ALL_FAULTS, FAULT_LIMIT],
+        arguments: &[GRAMMAR_FILE, ALL_FAULTS, FAULT_LIMIT, FAULTS_AS_JSON],
         example: "Example:\n  $ aggen check examples/percentages.ag\n  2 symbols, 3 productions",
     },
     Entry {
         name: "plan",
         about: "Prints the passes that a grammar needs, and the attributes that each of them computes",
-        arguments: &[GRAMMAR_FILE],
+        arguments: &[GRAMMAR_FILE, ALL_FAULTS, FAULT_LIMIT, FAULTS_AS_JSON],
         example: "Example:\n  $ aggen plan examples/percentages.ag\n  pass 1 right-to-left: L.sum\n  pass 2 left-to-right: S.out L.out L.total",
     },
     Entry {

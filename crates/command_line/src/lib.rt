@@ -19,7 +19,7 @@ pub use fault::CommandLineFault;
 pub use input::InputPath;
 pub use misuse::file_name_of;
 pub use request::{
-    BatchPaths, CheckWords, Color, CommandLine, EvalPaths, Messages, ParsePaths, Request, RunPaths,
+    BatchPaths, Color, CommandLine, EvalPaths, FaultWords, Messages, ParsePaths, Request, RunPaths,
     UpgradePaths, WhyWords,
 };
 pub use tree_requests::{ExplainWords, NodeWords, PlaceInSentence, ShowWords};

@@ -11,13 +11,14 @@ use crate::fault::CommandLineFault;
 use crate::input::{InputPath, STANDARD};
 use crate::misuse::{check_once, check_sentences, check_tree};
 use crate::plain::PlainLines;
+use crate::tree_options::JSON;
 use crate::tree_requests::{ExplainWords, ShowWords, explain_words, show_words};
 use crate::values::{input_of, number_of, value_of, values_of};
 use clap::error::ErrorKind;
 use clap::{ArgMatches, Error};
 use std::alloc::Global;
 
-/// The greatest number of faults that `check --all` lists, if `--most` is missing.
+/// The greatest number of faults that `--all` lists, if `--most` is missing.
 const DEFAULT_LISTED: u32 = 100;
 
 /// The greatest value of `--most`.
@@ -73,9 +74,11 @@ pub enum Request<'a> {
     /// The check of a grammar.
     Check(InputPath<'a>),
     /// The check of a grammar, with a list of all its faults.
-    CheckAll(CheckWords<'a>),
+    CheckAll(FaultWords<'a>),
     /// The passes of a grammar.
     Plan(InputPath<'a>),
+    /// The passes of a grammar, or a list of all its faults.
+    PlanAll(FaultWords<'a>),
     /// Why the passes of a grammar are needed, or why no earlier pass can compute an attribute.
     Why(WhyWords<'a>),
     /// The code of the passes of a grammar.
@@ -130,13 +133,15 @@ pub struct EvalPaths<'a> {
     pub work: Option<&'a str>,
 }
 
-/// The words that `check --all` takes.
+/// The words that `check --all` and `plan --all` take.
 #[derive(Clone, Copy)]
-pub struct CheckWords<'a> {
+pub struct FaultWords<'a> {
     /// The grammar.
     pub grammar: InputPath<'a>,
     /// The greatest number of faults that are listed, from 1 to 10,000.
     pub most: usize,
+    /// Whether each fault is printed as a JSON object.
+    pub is_json: bool,
 }
 
 /// The words that `why` takes.
@@ -246,6 +251,7 @@ fn request_of<'a>(
         "eval" => eval_request(alloc, matches),
         "value" => Ok(Request::Value(value_of(matches, EXPRESSION))),
         "check" => check_request(alloc, matches),
+        "plan" => plan_request(alloc, matches),
         "parse" => parse_request(alloc, matches),
         "show" => show_request(alloc, matches),
         "explain" => explain_request(alloc, matches),
@@ -258,7 +264,6 @@ fn request_of<'a>(
 fn grammar_request<'a>(name: &str, matches: &ArgMatches<'a>) -> Request<'a> {
     let grammar = input_of(matches, GRAMMAR);
     match name {
-        "plan" => Request::Plan(grammar),
         "why" => Request::Why(WhyWords {
             grammar,
             attribute: matches.get_str(ATTRIBUTE),
@@ -269,23 +274,36 @@ fn grammar_request<'a>(name: &str, matches: &ArgMatches<'a>) -> Request<'a> {
     }
 }
 
-/// Returns the request that `check` makes. Fails with the error that clap prints if the value of
-/// `--most` is not a number from 1 to `MAX_LISTED`.
+/// Returns the request that `check` makes. Fails as `fault_words` does.
 fn check_request<'a>(alloc: Global, matches: &ArgMatches<'a>) -> Result<Request<'a>, Error> {
-    let grammar = input_of(matches, GRAMMAR);
     if !matches.get_flag(ALL) {
-        return Ok(Request::Check(grammar));
+        return Ok(Request::Check(input_of(matches, GRAMMAR)));
     }
+    Ok(Request::CheckAll(fault_words(alloc, "check", matches)?))
+}
+
+/// Returns the request that `plan` makes. Fails as `fault_words` does.
+fn plan_request<'a>(alloc: Global, matches: &ArgMatches<'a>) -> Result<Request<'a>, Error> {
+    if !matches.get_flag(ALL) {
+        return Ok(Request::Plan(input_of(matches, GRAMMAR)));
+    }
+    Ok(Request::PlanAll(fault_words(alloc, "plan", matches)?))
+}
+
+/// Returns the words that the command `name` takes with `--all`. Fails with the error that clap
+/// prints if the value of `--most` is not a number from 1 to `MAX_LISTED`.
+fn fault_words<'a>(
+    alloc: Global,
+    name: &str,
+    matches: &ArgMatches<'a>,
+) -> Result<FaultWords<'a>, Error> {
     match number_of(matches, MOST, DEFAULT_LISTED) {
-        Some(most @ 1..=MAX_LISTED) => Ok(Request::CheckAll(CheckWords {
-            grammar,
+        Some(most @ 1..=MAX_LISTED) => Ok(FaultWords {
+            grammar: input_of(matches, GRAMMAR),
             most: most as usize,
-        })),
-        _ => Err(misuse_of(
-            alloc,
-            "check",
-            "'--most <N>' needs a number from 1 to 10000",
-        )),
+            is_json: matches.get_flag(JSON),
+        }),
+        _ => Err(misuse_of(alloc, name, "'--most <N>' needs a number from 1 to 10000")),
     }
 }
 
