@@ -82,6 +82,7 @@ impl<D: Device, W: Watch> Device for Watched<'_, D, W> {
         answer
     }
 
+    #[inline(always)]
     fn append(&mut self, bytes: &[u8]) -> Result<(), DeviceFault> {
         self.watch.append();
         self.inner.append(bytes)
@@ -106,6 +107,7 @@ impl<D: Device, W: Watch> Device for Watched<'_, D, W> {
         self.inner.append_parts(parts, buffer)
     }
 
+    #[inline(always)]
     fn lend_before(&self, at: u64) -> Option<Body<'_>> {
         self.watch.read(at, self.length);
         self.inner.lend_before(at)

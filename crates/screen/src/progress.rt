@@ -12,9 +12,6 @@ const DELAY: u64 = 2_000;
 /// The time from a line until the next one is due, in milliseconds.
 const INTERVAL: u64 = 200;
 
-/// The number of calls that append for each reading of the clock, while a sentence is parsed.
-const APPENDS: u32 = 256;
-
 /// The progress of a translation. After two seconds, calls of the devices show a line on standard
 /// error. The line says that the sentence is being parsed or, in a pass, the number of the pass and
 /// the percentage of its input file that has been read. Failed writes of the line are ignored.
@@ -32,8 +29,8 @@ pub struct Progress<'a, R> {
     /// The number of tree files that were begun so far: one by the parser, if a sentence is parsed,
     /// and one by each pass.
     written: Cell<u16>,
-    /// The number of calls that appended, modulo `APPENDS`.
-    appends: Cell<u32>,
+    /// The number of calls that appended, modulo 256.
+    appends: Cell<u8>,
 }
 
 impl<'a, R: Clock + Eprint> Progress<'a, R> {
@@ -59,6 +56,15 @@ impl<'a, R: Clock + Eprint> Progress<'a, R> {
             .saturating_sub(1)
     }
 
+    /// Shows that the sentence is being parsed, if it is, and if a line is due.
+    #[cold]
+    #[inline(never)]
+    fn show_parsing(&self) {
+        if self.pass() == 0 && self.is_due() {
+            let _ = self.rt.eprint(&ProgressLine::Parsing);
+        }
+    }
+
     /// Returns whether a line is due. If so, records that a line is shown now: the next line is due
     /// after `INTERVAL`. Returns false if the clock can't be read.
     fn is_due(&self) -> bool {
@@ -82,17 +88,14 @@ impl<R: Clock + Eprint> Watch for Progress<'_, R> {
         self.written.set(self.written.get().saturating_add(1));
     }
 
-    /// Counts a call that appends. While the sentence is parsed, each `APPENDS`th call shows a line
-    /// if one is due. In a pass only the calls that read show lines.
+    /// Counts a call that appends. While the sentence is parsed, each 256th call shows a line if one
+    /// is due. In a pass only the calls that read show lines.
+    #[inline(always)]
     fn append(&self) {
-        let appends = self.appends.get().saturating_add(1);
-        if appends < APPENDS {
-            self.appends.set(appends);
-            return;
-        }
-        self.appends.set(0);
-        if self.pass() == 0 && self.is_due() {
-            let _ = self.rt.eprint(&ProgressLine::Parsing);
+        let appends = self.appends.get().wrapping_add(1);
+        self.appends.set(appends);
+        if appends == 0 {
+            self.show_parsing();
         }
     }
 
