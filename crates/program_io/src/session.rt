@@ -95,6 +95,7 @@ impl<R> Session<'_, R> {
     /// Returns what a call returned, or the report of refused memory if it failed.
     pub fn granted<T, E: Drop>(&self, given: Result<T, E>) -> Result<T, FaultReport>
         ensures granted { IfOk given (λ value. result ≡ Ok value) }
+        ensures returned { IfOk result (λ value. given ≡ Ok value) }
         ensures refused { IfErr result (λ report. report.fault ≡ Fault.NoMemory) }
     {
         match given {
