@@ -3,9 +3,10 @@
 #![tactic(auto)]
 
 mod faults;
+mod found;
 mod listings;
 mod why;
 
-pub use faults::check_all;
+pub use faults::list_all;
 pub use listings::{Part, print_part, print_value};
 pub use why::explain_plan;
