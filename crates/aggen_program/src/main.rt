@@ -5,8 +5,9 @@
 //! - `eval G TREE` translates the tree in a tree file.
 //! - Without arguments the program translates the job on standard input.
 //! - `check G` checks a grammar, and prints its numbers of symbols and productions. `check --all G`
-//!   lists all faults of its names and rules.
-//! - `plan G` prints the passes of a grammar, and `code G` prints their instructions.
+//!   lists all faults.
+//! - `plan G` prints the passes of a grammar, and `code G` prints their instructions. `plan --all G`
+//!   lists all faults for which it has none.
 //! - `why G` prints why the passes are needed, and `why G SYMBOL.attribute` prints why no earlier
 //!   pass can compute the attribute.
 //! - `parse G S TREE` parses a sentence, and writes its tree to a tree file.
@@ -20,14 +21,13 @@
 ghost use Rattle.std.specs.Prelude.{◌≡◌, Err, IfErr, IfOk, OnOk};
 ghost use Rattle.std.specs.Result.{IsOkAnd};
 ghost use Rattle.std.specs.Process.{exit_status};
-ghost use Rattle.aggen.specs.Status.{IsCommandFault};
 ghost use Rattle.ag_fault.specs.Status.{status_of};
-ghost use Rattle.aggen_program.specs.Requests.{HasRun, IsRefusedRequest, Performs};
+ghost use Rattle.aggen_program.specs.Requests.{HasRun, IsRefusedRequest, Performs, fault_of};
 ghost use Rattle.program_io.specs.Sessions.{HasReported};
 
 use aggen::{Fault, fault_or, status};
 use command_line::{CommandLine, CommandLineFault, Request};
-use grammar_commands::{Part, check_all, explain_plan, print_part, print_value};
+use grammar_commands::{Part, explain_plan, list_all, print_part, print_value};
 use messages::FaultReport;
 use program_io::Session;
 use screen::Screen;
@@ -104,7 +104,7 @@ fn fail<R: Eprint>(session: &mut Session<'_, R>, report: &FaultReport) -> ExitCo
 
 /// Returns the program's fault for a fault of the command line.
 fn fault_of(fault: CommandLineFault) -> Fault
-    ensures { IsCommandFault result }
+    ensures { result ≡ fault_of fault }
 {
     match fault {
         CommandLineFault::Usage => Fault::Usage,
@@ -114,8 +114,8 @@ fn fault_of(fault: CommandLineFault) -> Fault
 }
 
 /// Runs the command of a request. Returns the status 0, with two exceptions. `run` with `--out-dir`
-/// prints the messages of sentences that failed, and `check --all` those of a grammar's faults: the
-/// status is then that of the first. On any other failure returns the report of the failure.
+/// prints the messages of sentences that failed, and `--all` those of a grammar's faults: the status
+/// is then that of the first. On any other failure returns the report of the failure.
 fn perform<R: Files + Input + Print + Eprint + Clock>(
     session: &mut Session<'_, R>,
     request: &Request<'_>,
@@ -133,8 +133,9 @@ fn perform<R: Files + Input + Print + Eprint + Clock>(
         Request::Eval(paths) => done(evaluate(session, paths)),
         Request::Value(text) => done(print_value(session, text)),
         Request::Check(grammar) => done(print_part(session, *grammar, Part::Counts)),
-        Request::CheckAll(words) => check_all(session, *words),
+        Request::CheckAll(words) => list_all(session, *words, Part::Counts),
         Request::Plan(grammar) => done(print_part(session, *grammar, Part::Plan)),
+        Request::PlanAll(words) => list_all(session, *words, Part::Plan),
         Request::Why(words) => done(explain_plan(session, *words)),
         Request::Code(grammar) => done(print_part(session, *grammar, Part::Code)),
         Request::Parse(paths) => done(parse_file(session, paths)),
