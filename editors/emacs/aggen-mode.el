@@ -4,11 +4,15 @@
 
 ;;; Commentary:
 
-;; Colours for files that end in .ag.  `compile' runs `aggen plan', and `next-error' jumps to the place of a refusal.
+;; Colours for files that end in .ag.  `compile' runs `aggen plan --all', and `next-error' jumps from fault to fault.
+;; `flymake-mode' shows all faults, also if the buffer is not saved.
 
 ;;; Code:
 
 (require 'compile)
+(require 'flymake)
+(require 'json)
+(require 'let-alist)
 
 (defvar aggen-mode-syntax-table
   (let ((table (make-syntax-table)))
@@ -40,14 +44,80 @@
 (add-to-list 'compilation-error-regexp-alist 'aggen)
 (add-to-list 'compilation-error-regexp-alist 'aggen-passes)
 
+(defvar-local aggen--process nil
+  "The process that `aggen-flymake' has started last for this buffer.")
+
+(defun aggen--position (at)
+  "Return the position of the byte AT, from 0, of the current buffer in UTF-8."
+  (or (byte-to-position (1+ at)) (point-max)))
+
+(defun aggen--diagnostic (fault)
+  "Return a diagnostic for a FAULT of the current buffer.
+Without a place it is at the first character.  If the place is empty, the
+character before it is marked."
+  (let-alist fault
+    (let* ((end (aggen--position (or .end 1)))
+           (start (max (point-min) (min (aggen--position (or .at 0)) (1- end)))))
+      (flymake-make-diagnostic (current-buffer) start end :error
+                               (concat .number " " .message (if (equal .remedy "") "" ", ") .remedy)))))
+
+(defun aggen--faults (output)
+  "Return the faults in the buffer OUTPUT.
+An object without a number is no fault: it says how many are left out."
+  (with-current-buffer output
+    (goto-char (point-min))
+    (let (faults)
+      (while (not (eobp))
+        (let ((it (json-read)))
+          (when (assq 'number it)
+            (push it faults)))
+        (forward-line))
+      (nreverse faults))))
+
+(defun aggen--report (process buffer report)
+  "Call REPORT with diagnostics for the faults of BUFFER that PROCESS printed.
+Do nothing if a later process was started for BUFFER."
+  (unwind-protect
+      (when (buffer-live-p buffer)
+        (with-current-buffer buffer
+          (when (eq process aggen--process)
+            (let ((faults (aggen--faults (process-buffer process))))
+              (save-restriction
+                (widen)
+                (funcall report (mapcar #'aggen--diagnostic faults)))))))
+    (kill-buffer (process-buffer process))))
+
+(defun aggen-flymake (report &rest _)
+  "Run aggen on the current buffer, and call REPORT with diagnostics."
+  (unless (executable-find "aggen")
+    (error "The program aggen is not in the path"))
+  (when (process-live-p aggen--process)
+    (kill-process aggen--process))
+  (let ((buffer (current-buffer)))
+    (setq aggen--process
+          (make-process :name "aggen" :buffer (generate-new-buffer " *aggen*") :noquery t
+                        :command '("aggen" "plan" "--all" "--json" "-") :coding 'utf-8-unix :connection-type 'pipe
+                        :sentinel (lambda (process _)
+                                    (unless (process-live-p process)
+                                      (aggen--report process buffer report)))))
+    (save-restriction
+      (widen)
+      (process-send-region aggen--process (point-min) (point-max)))
+    (process-send-eof aggen--process)))
+
 ;;;###autoload
 (define-derived-mode aggen-mode prog-mode "aggen"
   "Major mode for grammars of aggen."
   (setq-local font-lock-defaults '(aggen-font-lock-keywords))
   (setq-local font-lock-multiline t)
+  ;; a column of aggen counts characters, whatever their width
+  (setq-local compilation-error-screen-columns nil)
+  ;; without this, messages have colours in some terminals, and are not recognized
+  (setq-local compilation-environment '("TERM=dumb"))
+  (add-hook 'flymake-diagnostic-functions #'aggen-flymake nil t)
   (when buffer-file-name
     (setq-local compile-command
-                (concat "aggen plan " (shell-quote-argument (file-name-nondirectory buffer-file-name))))))
+                (concat "aggen plan --all " (shell-quote-argument (file-name-nondirectory buffer-file-name))))))
 
 ;;;###autoload
 (add-to-list 'auto-mode-alist '("\\.ag\\'" . aggen-mode))
