@@ -486,6 +486,13 @@ static void memory(struct bytes grammar, struct bytes sentence) {
 
 static const struct {
     const char *name;
+    call *function;
+} calls[] = {
+    {"run", aggen_translate}, {"plan", plan}, {"evaluate", aggen_evaluate},
+};
+
+static const struct {
+    const char *name;
     void (*run)(struct bytes, struct bytes);
 } tests[] = {
     {"lengths", lengths}, {"many", many}, {"handles", handles}, {"misuse", misuse}, {"threads", threads}, {"memory", memory},
@@ -498,9 +505,11 @@ int main(int argc, char **argv) {
     }
     struct bytes grammar = read_file(argv[2]), sentence = read_file(argv[3]);
     int status = 0, found = 0;
-    if (strcmp(argv[1], "run") == 0 || strcmp(argv[1], "plan") == 0) {
-        status = run(strcmp(argv[1], "run") == 0 ? aggen_translate : plan, grammar, sentence);
-        found = 1;
+    for (size_t i = 0; i < sizeof calls / sizeof *calls; i++) {
+        if (strcmp(argv[1], calls[i].name) == 0) {
+            status = run(calls[i].function, grammar, sentence);
+            found = 1;
+        }
     }
     for (size_t i = 0; i < sizeof tests / sizeof *tests; i++) {
         if (strcmp(argv[1], tests[i].name) == 0 || strcmp(argv[1], "all") == 0) {
