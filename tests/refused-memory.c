@@ -3,7 +3,8 @@
    A line of the file ROWS is a row. Its fields, separated by tabs, are:
      the status of the program if no request for memory is refused
      the number of its refusal, the first word on standard error; `-` if it prints nothing there
-     the complete line on standard error of a run that ends with status 7, since memory was refused
+     the complete line on standard error of a run that ends with status 7, since memory was refused; and, after `|`, the one that
+     standard output may have instead
      lines, separated by `|`, that some runs print first: such a run continues and ends as if nothing had been refused, and each
      line has to be printed by some run; `-` if there are none
      the file that is standard input
@@ -11,10 +12,11 @@
 
    Each row is run once without LIBRARY, and then with request for memory number 1, 2, 3 and so on refused, until a run ends in
    which none was refused. PROCESSES runs are made at the same time, each with a folder of its own below FOLDER. A run is right
-     if it ends like the first run: with its status, its standard output, and on standard error its line up to the first colon or
-     place in parentheses, such as the number and the offset (the rest of the line needs memory); for a run in which nothing was
-     refused the complete line is compared
-     if a request was refused, and it ends with status 7, that row's line on standard error, and nothing on standard output.
+     if it ends like the first run: with its status, its standard output (of objects, the numbers of their faults), and on standard
+     error its line up to the first colon or place in parentheses, such as the number and the offset (the rest of the line needs
+     memory); of a run in which nothing was refused all is compared
+     if a request was refused, and it ends with status 7, that row's line on standard error, and nothing on standard output; or
+     that row's line on standard output, and nothing on standard error.
    The first wrong run is printed, and then the status is 1. */
 #define _GNU_SOURCE
 #include <errno.h>
@@ -44,7 +46,7 @@ struct row {
     const char *label;
     int status;
     const char *number;
-    const char *no_memory;
+    const char *no_memory, *printed_no_memory;
     const char *notes[NOTES];
     long printed[NOTES];
     const char *input;
@@ -114,6 +116,21 @@ static int same_head(struct bytes one, struct bytes other) {
     return length == head_length(other) && memcmp(one.at, other.at, length) == 0 && (one.length == 0) == (other.length == 0);
 }
 
+/* Returns whether the objects in two texts have the same numbers of faults. Their messages need memory. */
+static int same_numbers(struct bytes one, struct bytes other) {
+    static const char key[] = "\"number\":\"";
+    const char *left = strstr(one.at, key), *right = strstr(other.at, key);
+    while (left != NULL && right != NULL) {
+        size_t length = strcspn(left += strlen(key), "\"");
+        if (length != strcspn(right += strlen(key), "\"") || memcmp(left, right, length) != 0) {
+            return 0;
+        }
+        left = strstr(left, key);
+        right = strstr(right, key);
+    }
+    return left == NULL && right == NULL;
+}
+
 /* Splits a line into its fields; the row refers to the line's memory. */
 static void read_row(char *line, struct row *row) {
     char *fields[WORDS + 5];
@@ -131,7 +148,8 @@ static void read_row(char *line, struct row *row) {
     }
     row->status = atoi(fields[0]);
     row->number = fields[1];
-    row->no_memory = fields[2];
+    row->no_memory = strsep(&fields[2], "|");
+    row->printed_no_memory = fields[2];
     int notes = 0;
     if (strcmp(fields[3], "-") != 0) {
         for (char *note; (note = strsep(&fields[3], "|")) != NULL && notes < NOTES - 1;) {
@@ -284,21 +302,28 @@ static int is_noted(struct row *row, struct bytes err) {
     return 0;
 }
 
+/* Returns whether the run reported refused memory, and nothing else. */
+static int is_reported(const struct row *row, struct bytes out, struct bytes err) {
+    return (out.length == 0 && is_line(err, row->no_memory))
+        || (err.length == 0 && row->printed_no_memory != NULL && is_line(out, row->printed_no_memory));
+}
+
 /* Checks a run that has ended with a status. */
 static void judge(const struct process *process, int status) {
     struct row *row = process->row;
     struct bytes out = content_of(process->out), err = content_of(process->err), refused = content_of(process->refused);
     int ended = WIFEXITED(status) ? WEXITSTATUS(status) : -1;
-    int is_own = ended == row->status && same(out, row->out);
+    int is_printed = same(out, row->out) || (row->printed_no_memory != NULL && same_numbers(out, row->out));
+    int is_own = ended == row->status && is_printed;
     if (refused.length == 0) {
-        if (!is_own || !same(err, row->err)) {
+        if (!is_own || !same(out, row->out) || !same(err, row->err)) {
             wrong(process, status, "nothing refused");
         }
         if (row->end == 0 || process->number < row->end) {
             row->end = process->number;
         }
     } else {
-        if (ended == NO_MEMORY && out.length == 0 && is_line(err, row->no_memory)) {
+        if (ended == NO_MEMORY && is_reported(row, out, err)) {
             ++reported;
         } else if (is_own && is_noted(row, err)) {
             ++reported;
