@@ -47,6 +47,10 @@
 (defvar-local aggen--process nil
   "The process that `aggen-flymake' has started last for this buffer.")
 
+(defconst aggen--longest 1048577
+  "The number of bytes that aggen reads: one more than a grammar may have.
+If it gets more, it may end before all are sent, and its output is lost.")
+
 (defun aggen--position (at)
   "Return the position of the byte AT, from 0, of the current buffer in UTF-8."
   (or (byte-to-position (1+ at)) (point-max)))
@@ -102,8 +106,11 @@ Do nothing if a later process was started for BUFFER."
                                       (aggen--report process buffer report)))))
     (save-restriction
       (widen)
-      (process-send-region aggen--process (point-min) (point-max)))
-    (process-send-eof aggen--process)))
+      (process-send-region aggen--process (point-min)
+                           (min (point-max) (1+ (aggen--position aggen--longest)))))
+    ;; after so many bytes it ends without this
+    (ignore-errors
+      (process-send-eof aggen--process))))
 
 ;;;###autoload
 (define-derived-mode aggen-mode prog-mode "aggen"
